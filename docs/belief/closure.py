@@ -2,7 +2,7 @@
 import sys
 from functools import lru_cache
 
-from files import NUMBER, fail, split_at
+from files import NUMBER, TOP, fail, split_at
 from reading import KIT_FIELDS, Reader, cites_of
 
 # ---- what is cited
@@ -76,6 +76,9 @@ class Belief:
 
     def follow_part(self, it, part):
         cites = self.cites(it, part)
+        for crate, word in cites.kit:
+            if (TOP / "crates" / crate).is_dir():
+                fail(f"{it.name} names {word}, which is of proofs/")
         self.kit |= cites.kit
         for kind, field in cites.members:
             self.members.setdefault(kind, set()).add(field)

@@ -315,7 +315,8 @@ def rust_items(crate):
     for path in sorted((TOP / "crates" / crate / "src").rglob("*.rt")):
         file = rust_file(path)
         for n, line in enumerate(file.text):
-            got = re.match(r"\s*(?:pub(?:\([a-z]+\))? )?(enum|struct|const|trait|fn) (\w+)", line)
+            got = re.match(r'\s*(?:pub(?:\([a-z]+\))? )?(?:extern "C" )?'
+                           r'(enum|struct|const|trait|fn) (\w+)', line)
             if got:
                 form = "type" if got[1] in ("enum", "struct") else got[1]
                 items.setdefault((form, got[2]), []).append((file, n))
@@ -346,12 +347,14 @@ def rust_item(crate, form, name, file, start):
     else:
         end = file.block_from(start)
         it.parts[None] = {*range(start, end + 1)} | file.comments_above(start)
+        if form == "trait":
+            it.scope, _ = impl_from(file, start)
         item_words(it, start, end)
     return it
 
 
 def impl_from(file, start):
-    """The names that an impl sees, with those of its own `ghost use` lines, and its last line."""
+    """The names that an impl or a trait sees, with those of its own `ghost use` lines, and its last line."""
     end = file.block_from(start)
     scope = copy(file)
     scope.names = dict(file.names)
@@ -368,6 +371,7 @@ def model_of(it, file, start):
     value = next(n for n in range(start, end) if "ghost Value =" in file.text[n])
     it.parts[None] = {start, value}
     it.words[None] = [("term", words_of(file.text[value].split("=", 1)[1].strip("{} ;")))]
+    it.names = re.findall(r"[<,] *(\w+)", file.text[start].split(" Model ")[0])
     it.value = it.words[None][0][1][0]
 
 

@@ -20,6 +20,12 @@ def resolve_in(path, name):
         return "kit", (crate, name)
     if inside[:2] == ("specs", "declared"):
         return resolve_declared(crate, inside[2:], name)
+    if inside[:2] == ("specs", "contracts"):  # what the check makes of a type or an impl
+        if inside[-1] == "TheImpl":
+            return implementation_named(crate, inside[-2]), None
+        return resolve_declared(crate, inside[2:], inside[-1])
+    if inside[0] == "proofs":  # a lemma that a proof in specs/ takes
+        return "kit", (crate, name)
     home = TOP.joinpath("crates", crate, *inside)
     if not home.with_suffix(".antt").exists():
         return antt_file(home.parent.with_suffix(".antt")).definitions[home.name], name
@@ -531,22 +537,34 @@ def kind_of_field(it, field):
     return reader.argument(it.fields[field])
 
 
-@lru_cache(maxsize=None)
 def implementation(kind, trait):
     """The ghost members that a type has for a trait."""
-    crate = kind.file.crate
-    found = [(f, n) for form in (kind.name,) for f, n in
-             rust_items(crate).get((f"impl {trait}", form), [])]
+    return implementation_in(kind.file.crate, kind.name, trait)
+
+
+def implementation_named(crate, name):
+    """Those of an impl by the name that the check gives it: that of the type, then of the trait."""
+    found = [(kind, form[5:]) for form, kind in rust_items(crate)
+             if form.startswith("impl ") and kind + form[5:] == name]
     if len(found) != 1:
-        fail(f"{crate}: {len(found)} impls of {trait} for {kind.name}")
+        fail(f"{crate}: {len(found)} impls {name}")
+    return implementation_in(crate, *found[0])
+
+
+@lru_cache(maxsize=None)
+def implementation_in(crate, kind, trait):
+    found = rust_items(crate).get((f"impl {trait}", kind), [])
+    if len(found) != 1:
+        fail(f"{crate}: {len(found)} impls of {trait} for {kind}")
     file, start = found[0]
     scope, end = impl_from(file, start)
-    it = Definition(file, f"{trait} for {kind.name}", "impl")
+    it = Definition(file, f"{trait} for {kind}", "impl")
     ghosts = [n for n in range(start, end) if re.match(r"\s*ghost \w+ =", file.text[n])]
     it.scope = scope
     it.parts[None] = {start, *ghosts}
-    it.words[None] = [("term", words_of(file.text[n].split("=", 1)[1].strip("{} ;")))
-                      for n in ghosts]
+    it.words[None] = [("rust", [trait]),
+                      *(("term", words_of(file.text[n].split("=", 1)[1].strip("{} ;")))
+                        for n in ghosts)]
     return it
 
 
@@ -556,10 +574,12 @@ def cites_of(it, part):
     reader = Reader(getattr(it, "scope", it.file), it, getattr(it, "generics", None))
     reader.where = f"{it.file.crate}/{it.file.short()}, {it.name}"
     if it.form == "trait":
-        reader.bind("Self")
-    if it.form == "call":
+        for name in ["Self", *it.fields]:
+            reader.bind(name)
+    if it.form in ("call", "model"):
         for name in it.names:
             reader.bind(name)
+    if it.form == "call":
         reader.bind("result", reader.argument(it.result) if it.result else None)
     if it.params:
         reader.term(it.params.words[None][0][1])

@@ -1,35 +1,40 @@
 -- One entry more at the end of a run's history.
-use Rattle.std.proofs.Common.{◌≡◌, ℕ, ◌≤◌, ◌-◌, Result, Ok, Err, IfOk, inl, inr, true, false, cond, List, [], ◌∷◌, ◌++◌, length, eq-eqb, ne_eqb, sym, refl, ap, ◌∙◌, subst, arith}
-use Rattle.std.proofs.lemmas.Bool.{cases_eq, cases_Bool}
+use Rattle.std.proofs.Common.{◌≡◌, ℕ, ◌≤◌, ◌<◌, ◌+◌, ◌-◌, ◌⊎◌, max, Result, Ok, Err, IfOk, inl, inr, true, false, cond, List, [], ◌∷◌, ◌++◌, length, eq-eqb, ne_eqb, sym, refl, ap, ◌∙◌, subst, arith}
+use Rattle.std.proofs.lemmas.Bool.{cases_eq, cases_Bool, cases_lt}
 use Rattle.std.proofs.lemmas.List.{append_cancel_left}
 use Rattle.block_store.specs.declared.Config.{Config}
 use Rattle.never_heap.specs.declared.Command.{Command}
 use Rattle.never_heap.specs.declared.Entry.{Entry}
 use Rattle.never_heap.specs.declared.Reply.{Reply}
-use Rattle.never_heap.specs.Cycles.{before_start}
+use Rattle.never_heap.specs.Cycles.{before_start, graph_at}
 use Rattle.never_heap.specs.Graphs.{Graph, start_graph}
 use Rattle.never_heap.specs.Histories.{HistoryItem, Started, Did, is_full, after, replay, replay_from, IsAnswered, Legal, LegalFrom, part, starts_in}
-use Rattle.never_heap.specs.Licensed.{StartsSmall, NoFulls}
-use Rattle.never_heap.specs.Steps.{step}
+use Rattle.never_heap.specs.Licensed.{Licensed, NoFulls}
+use Rattle.never_heap.specs.Steps.{makes_object, step}
+use Rattle.never_heap.proofs.CycleGrowth.{graph_at_more}
+use Rattle.never_heap.proofs.HistoryGrowth.{starts_append}
 use Rattle.heap_system.specs.Alone.{after_alone}
 use Rattle.heap_system.specs.Machines.{Run}
 use Rattle.control_heap.specs.Controls.{Control, Stands, Answers, HasAnswered, entries_in}
+use Rattle.control_heap.specs.declared.control.OpenFault.{OpenFault}
 use Rattle.control_heap.specs.declared.control.Refused.{Refused}
 use Rattle.control_heap.specs.Growth.{run_grown}
+use Rattle.control_heap.specs.WayBack.{StartsSmallFrom}
 use Rattle.control_heap.proofs.Items.{Added, added_alone}
-use Rattle.asked_graph.specs.Shown.{IsSmall, StaySmall, Shows, Follows}
+use Rattle.control_heap.proofs.WayBacks.{licensed_behind, none_from}
+use Rattle.asked_graph.specs.Shown.{IsSmall, StaySmall, Shows, HasMetNoFull, Leaves, Follows, Goes, graph_told}
 
-replay_append : (g : Graph) (h k : List HistoryItem)
+pub replay_append : (g : Graph) (h k : List HistoryItem)
     → replay_from g (h ++ k) ≡ replay_from (replay_from g h) k
 replay_append g [] k = refl
 replay_append g (i ∷ h) k = replay_append (after g i) h k
 
-small_append : (c : Config) (g : Graph) (h k : List HistoryItem) → StaySmall c g h
+pub small_append : (c : Config) (g : Graph) (h k : List HistoryItem) → StaySmall c g h
     → StaySmall c (replay_from g h) k → StaySmall c g (h ++ k)
 small_append c g [] k a b = b
 small_append c g (i ∷ h) k a b = (a.0, small_append c (after g i) h k a.1 b)
 
-small_last : (c : Config) (g : Graph) (h : List HistoryItem) → StaySmall c g h
+pub small_last : (c : Config) (g : Graph) (h : List HistoryItem) → StaySmall c g h
     → IsSmall c (replay_from g h)
 small_last c g [] a = a
 small_last c g (i ∷ h) a = small_last c (after g i) h a.1
@@ -60,8 +65,70 @@ small_start c g (Started ∷ h) z l m s = elim (cases_eq z 1) [
 ]
 small_start c g (Did e ∷ h) z l m s = small_start c (after g (Did e)) h z l m s.1
 
-pub starts_small : (c : Config) (h : List HistoryItem) → StaySmall c (start_graph c) h → StartsSmall c h
-starts_small c h s z l m = small_start c (start_graph c) h z l m s
+-- the items before a start that comes behind a history
+before_behind : (h k : List HistoryItem) (y z : ℕ) → 1 ≤ z → y ≡ starts_in h + z
+    → before_start y (h ++ k) ≡ h ++ before_start z k
+before_behind [] k y z some e = ap (λ x. before_start x k) (let s : y ≡ z = omega arith in s)
+before_behind (Started ∷ h) k y z some e =
+    let later : (y ≡ 1) → ⊥ = (λ one. omega arith) in
+    rw (ne_eqb y 1 later)
+    (ap (λ x. Started ∷ x) (before_behind h k (y - 1) z some (omega (arith, e, some))))
+before_behind (Did x ∷ h) k y z some e = ap (λ is. Did x ∷ is) (before_behind h k y z some e)
+
+-- each start behind a history is small, where the items behind it stay so
+pub small_behind : (c : Config) (g : Graph) (h k : List HistoryItem) (y : ℕ)
+    → replay c h ≡ g → StaySmall c g k → starts_in h < y → y ≤ starts_in (h ++ k)
+    → IsSmall c (graph_at c (h ++ k) y)
+small_behind c g h k y graph small low high =
+    let all : starts_in (h ++ k) ≡ starts_in h + starts_in k = starts_append h k in
+    let at : before_start y (h ++ k) ≡ h ++ before_start (y - starts_in h) k =
+    before_behind h k y (y - starts_in h) (omega arith) (omega arith) in
+    subst (IsSmall c)
+    (sym (ap (replay c) at ∙ replay_append (start_graph c) h (before_start (y - starts_in h) k)
+    ∙ ap (λ x. replay_from x (before_start (y - starts_in h) k)) graph))
+    (small_start c g k (y - starts_in h) (omega arith) (omega (arith, high, all)) small)
+
+-- and so is each from one on, where those of the history are
+few_more : (c : Config) (g : Graph) (h k : List HistoryItem) (n : ℕ) → 1 ≤ n
+    → replay c h ≡ g → StaySmall c g k → StartsSmallFrom c n h → StartsSmallFrom c n (h ++ k)
+few_more c g h k n some graph small few y low high = elim (cases_lt (starts_in h) y) [
+  | inl later ↦ small_behind c g h k y graph small later high
+  | inr sooner ↦
+      subst (IsSmall c) (sym (graph_at_more c h k y (omega (arith, some, low)) sooner))
+      (few y low sooner)
+]
+
+legal_begun : (c : Config) (h : List HistoryItem) → Legal c h → 1 ≤ starts_in h
+legal_begun c [] l = absurd l
+legal_begun c (Started ∷ h) l = omega arith
+legal_begun c (Did e ∷ h) l = absurd l
+
+no_fulls_append : (h k : List HistoryItem) → NoFulls h → NoFulls k → NoFulls (h ++ k)
+no_fulls_append [] k a b = b
+no_fulls_append (Started ∷ h) k a b = no_fulls_append h k a b
+no_fulls_append (Did e ∷ h) k a b = (a.0, no_fulls_append h k a.1 b)
+
+-- the opening, where its graph is small
+opened_few : (c : Config) → IsSmall c (start_graph c) → StartsSmallFrom c 1 (Started ∷ [])
+opened_few c small z low high =
+    let one : z ≡ 1 = omega arith in rw (eq-eqb z 1 one) small
+
+pub opened_shows : (c : Config) (x : Result Control OpenFault) → IfOk x (λ h. h.config ≡ c)
+    → IfOk x (λ h. (r : Run) × Stands h r × (r.order ≡ Started ∷ []))
+    → IsSmall c (start_graph c) → IfOk x (λ h. HasMetNoFull h (start_graph c))
+opened_shows c (Err f) same stands small = tt
+opened_shows c (Ok h) same stands small =
+    let order : Started ∷ [] ≡ stands.0.order = sym stands.2 in record {
+      shows = record {
+        run = stands.0;
+        stands = stands.1;
+        graph = (λ i. replay (same i) (stands.2 i));
+        now = subst (λ d. IsSmall d (start_graph c)) (sym same) small;
+        lately = subst (λ o. StartsSmallFrom h.config (max 1 (starts_in o - 1)) o) order
+            (subst (λ d. StartsSmallFrom d 1 (Started ∷ [])) (sym same) (opened_few c small));
+      };
+      none = subst NoFulls order tt;
+    }
 
 -- ---- items of which one is an entry
 
@@ -130,7 +197,7 @@ one_entry c g (Did x ∷ is) e es own =
 -- ---- a command more
 
 -- the items that a request adds hold one entry, and it is the thread's own
-own_items : (c : Config) (k : Command) (a : Reply) (r z : Run) (s : Answers c k a r z)
+pub own_items : (c : Config) (k : Command) (a : Reply) (r z : Run) (s : Answers c k a r z)
     → part 0 s.items ≡ entries_in s.items
 own_items c k a r z s =
     let added : Added (run_grown 0 k r) (after_alone c 0 (run_grown 0 k r) s.turns) =
@@ -157,12 +224,25 @@ small_after c g e s t = elim (cases_Bool (is_full e.reply)) [
   | inr n ↦ rw n t
 ]
 
+-- the graph behind the one entry
+pub told_is : (g : Graph) (k : Command) (a : Reply) (e : Entry) → e.thread ≡ 0 → e.command ≡ k
+    → e.reply ≡ a → after g (Did e) ≡ graph_told g k a
+told_is g k a e thread command reply =
+    λ i. cond (is_full (reply i)) g (step g (thread i) (command i)).0
+
+-- Whatever was answered full, a command goes on from the graph that the heap leaves.
+goes_on : (g : Graph) (e : Entry) (k : Command) (a : Reply) → e.thread ≡ 0 → e.command ≡ k
+    → e.reply ≡ a → IsAnswered g (Did e)
+    → (a ≡ (step g 0 k).1) ⊎ ((is_full a ≡ true) × (makes_object k ≡ true))
+goes_on g e k a thread command reply (inl is) =
+    inl (sym reply ∙ is ∙ (λ i. (step g (thread i) (command i)).1))
+goes_on g e k a thread command reply (inr full) =
+    inr (ap is_full (sym reply) ∙ full.0, ap makes_object (sym command) ∙ full.1)
+
 module _ (laws_legal : (h : Control) (r : Run) → Stands h r → Legal h.config r.order)
-    (laws_never : (h : Control) (r : Run) → Stands h r → StartsSmall h.config r.order
-    → NoFulls r.order) where
+    (laws_licensed : (h : Control) (r : Run) → Stands h r → Licensed h.config r.order) where
   module _ (k : Command) (a : Reply) (new : Control) (c : Config) (is : new.config ≡ c)
       (g : Graph) (r : Run) (legal : Legal c r.order) (graph : replay c r.order ≡ g)
-      (small : StaySmall c (start_graph c) r.order) (next : IsSmall c (step g 0 k).0)
       (z : Run) (stands : Stands new z) (s : Answers c k a r z) where
     abbrev e : Entry
     e = s.entry
@@ -170,66 +250,135 @@ module _ (laws_legal : (h : Control) (r : Run) → Stands h r → Legal h.config
     one : HasOne c g s.items e
     one = one_entry c g s.items e s.entries (own_items c k a r z s)
 
-    -- the step is that of the command
-    step_is : step g e.thread e.command ≡ step g 0 k
-    step_is = (λ i. step g (one.thread i) (s.command i))
-
-    here : IsSmall c g
-    here = subst (IsSmall c) graph (small_last c (start_graph c) r.order small)
-
-    fits : IsSmall c (after g (Did e))
-    fits = small_after c g e here (subst (λ p. IsSmall c p.0) (sym step_is) next)
-
-    stay : StaySmall c (start_graph c) z.order
-    stay =
-        subst (StaySmall c (start_graph c)) (sym s.order)
-        (small_append c (start_graph c) r.order s.items small
-        (subst (λ x. StaySmall c x s.items) (sym graph) (one.small here fits)))
-
     legal_now : Legal c z.order
     legal_now = subst (λ d. Legal d z.order) is (laws_legal new z stands)
 
-    not_full : is_full e.reply ≡ false
-    not_full =
-        one.full (no_fulls_behind r.order s.items (subst NoFulls s.order
-        (laws_never new z stands (subst (λ d. StartsSmall d z.order) (sym is)
-        (starts_small c z.order stay)))))
+    by_graph : IsAnswered g (Did e)
+    by_graph = one.answered (subst (λ x. LegalFrom x s.items) graph
+        (legal_history c r.order s.items legal (subst (Legal c) s.order legal_now)))
 
-    answered : e.reply ≡ (step g e.thread e.command).1
-    answered =
-        told_by g e (one.answered (subst (λ x. LegalFrom x s.items) graph
-        (legal_history c r.order s.items legal
-        (subst (Legal c) s.order legal_now)))) not_full
-
-    left : replay c z.order ≡ (step g 0 k).0
-    left =
+    graph_then : replay c z.order ≡ graph_told g k a
+    graph_then =
         ap (replay c) s.order
         ∙ replay_append (start_graph c) r.order s.items
         ∙ ap (λ x. replay_from x s.items) graph
         ∙ one.graph
-        ∙ ap (λ b. cond b g (step g e.thread e.command).0) not_full
-        ∙ ap (λ p. p.0) step_is
+        ∙ told_is g k a e one.thread s.command s.reply
 
-    pub shown_next : (a ≡ (step g 0 k).1) × Shows new (step g 0 k).0
-    shown_next = (
-      sym s.reply ∙ answered ∙ ap (λ p. p.1) step_is,
+    pub goes_next : ((a ≡ (step g 0 k).1) ⊎ ((is_full a ≡ true) × (makes_object k ≡ true)))
+        × Leaves new (graph_told g k a)
+    goes_next = (
+      goes_on g e k a one.thread s.command s.reply by_graph,
       record {
         run = z;
         stands = stands;
-        graph = ap (λ d. replay d z.order) is ∙ left;
-        small = subst (λ d. StaySmall d (start_graph d) z.order) (sym is) stay;
+        graph = ap (λ d. replay d z.order) is ∙ graph_then;
       },
     )
 
-  pub follows : (old new : Control) (k : Command) (a : Reply) → new.config ≡ old.config
-      → HasAnswered old k a new → Follows old k a new
+    module _ (now : IsSmall c g)
+        (lately : StartsSmallFrom c (max 1 (starts_in r.order - 1)) r.order)
+        (next : IsSmall c (step g 0 k).0) where
+      abbrev from : ℕ
+      from = max 1 (starts_in r.order - 1)
+
+      -- the step is that of the command
+      step_is : step g e.thread e.command ≡ step g 0 k
+      step_is = (λ i. step g (one.thread i) (s.command i))
+
+      fits : IsSmall c (after g (Did e))
+      fits = small_after c g e now (subst (λ p. IsSmall c p.0) (sym step_is) next)
+
+      few : StartsSmallFrom c from (r.order ++ s.items)
+      few = few_more c g r.order s.items from (omega arith) graph (one.small now fits) lately
+
+      none : NoFulls s.items
+      none = none_from c from r.order s.items (omega arith) (omega arith)
+          (legal_begun c r.order legal) few
+          (licensed_behind c [] r.order s.items (subst (Licensed c) s.order
+          (subst (λ d. Licensed d z.order) is (laws_licensed new z stands))))
+
+      not_full : is_full e.reply ≡ false
+      not_full = one.full none
+
+      answered : e.reply ≡ (step g e.thread e.command).1
+      answered = told_by g e by_graph not_full
+
+      left : replay c z.order ≡ (step g 0 k).0
+      left =
+          graph_then
+          ∙ ap (λ b. cond b g (step g 0 k).0) (ap is_full (sym s.reply) ∙ not_full)
+
+      starts : starts_in z.order ≡ starts_in r.order + starts_in s.items
+      starts = ap starts_in s.order ∙ starts_append r.order s.items
+
+      lately_then : StartsSmallFrom c (max 1 (starts_in z.order - 1)) z.order
+      lately_then y low high =
+          subst (λ o. StartsSmallFrom c from o) (sym s.order) few y
+          (let more = starts in omega (arith, low, more)) high
+
+      abbrev shown_then : Shows new (step g 0 k).0
+      shown_then = record {
+        run = z;
+        stands = stands;
+        graph = ap (λ d. replay d z.order) is ∙ left;
+        now = subst (λ d. IsSmall d (step g 0 k).0) (sym is) next;
+        lately = subst (λ d. StartsSmallFrom d (max 1 (starts_in z.order - 1)) z.order) (sym is)
+            lately_then;
+      }
+
+      pub shown_next : (a ≡ (step g 0 k).1) × Shows new (step g 0 k).0
+      shown_next = (sym s.reply ∙ answered ∙ ap (λ p. p.1) step_is, shown_then)
+
+      pub never_next : NoFulls r.order
+          → (a ≡ (step g 0 k).1) × HasMetNoFull new (step g 0 k).0
+      never_next before = (
+        shown_next.0,
+        record {
+          shows = shown_then;
+          none = subst NoFulls (sym s.order) (no_fulls_append r.order s.items before none);
+        },
+      )
+
+  follows : (old new : Control) (k : Command) (a : Reply) → new.config ≡ old.config
+      → HasAnswered old k a new → Follows Shows old k a new
   follows old new k a is answered g shows next =
       let by = answered shows.run shows.stands in
       shown_next k a new old.config is g shows.run
-      (laws_legal old shows.run shows.stands) shows.graph shows.small next by.0 by.1 by.2
+      (laws_legal old shows.run shows.stands) shows.graph by.0 by.1 by.2 shows.now shows.lately
+      next
 
-  pub follows_ok : (old new : Control) (k : Command) (a : Result Reply Refused)
-      → new.config ≡ old.config → IfOk a (λ reply. HasAnswered old k reply new)
-      → IfOk a (λ reply. Follows old k reply new)
-  follows_ok old new k (Ok reply) is told = follows old new k reply is told
-  follows_ok old new k (Err e) is told = tt
+  follows_never : (old new : Control) (k : Command) (a : Reply) → new.config ≡ old.config
+      → HasAnswered old k a new → Follows HasMetNoFull old k a new
+  follows_never old new k a is answered g met next =
+      let shows = met.shows in
+      let by = answered shows.run shows.stands in
+      never_next k a new old.config is g shows.run
+      (laws_legal old shows.run shows.stands) shows.graph by.0 by.1 by.2 shows.now shows.lately
+      next met.none
+
+  goes : (old new : Control) (k : Command) (a : Reply) → new.config ≡ old.config
+      → HasAnswered old k a new → Goes old k a new
+  goes old new k a is answered g leaves =
+      let by = answered leaves.run leaves.stands in
+      goes_next k a new old.config is g leaves.run
+      (laws_legal old leaves.run leaves.stands) leaves.graph by.0 by.1 by.2
+
+  module _ (old new : Control) (k : Command) where
+    pub follows_ok : (a : Result Reply Refused) → new.config ≡ old.config
+        → IfOk a (λ reply. HasAnswered old k reply new)
+        → IfOk a (λ reply. Follows Shows old k reply new)
+    follows_ok (Ok reply) is told = follows old new k reply is told
+    follows_ok (Err e) is told = tt
+
+    pub never_ok : (a : Result Reply Refused) → new.config ≡ old.config
+        → IfOk a (λ reply. HasAnswered old k reply new)
+        → IfOk a (λ reply. Follows HasMetNoFull old k reply new)
+    never_ok (Ok reply) is told = follows_never old new k reply is told
+    never_ok (Err e) is told = tt
+
+    pub goes_ok : (a : Result Reply Refused) → new.config ≡ old.config
+        → IfOk a (λ reply. HasAnswered old k reply new)
+        → IfOk a (λ reply. Goes old k reply new)
+    goes_ok (Ok reply) is told = goes old new k reply is told
+    goes_ok (Err e) is told = tt

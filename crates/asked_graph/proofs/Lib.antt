@@ -1,2 +1,4 @@
 pub mod GraphAnswers
+pub mod ComeBack
+pub mod Leading
 pub mod LifeUse

@@ -1,4 +1,5 @@
 pub mod Boards
+pub mod Drives
 pub mod Ends
 pub mod Mutators
 pub mod Ports

@@ -9,22 +9,22 @@ ghost use Rattle.heap_system.specs.Machines.{IsJob};
 ghost use Rattle.heap_system.specs.Systems.{IsFinished};
 ghost use Rattle.heap_system.specs.declared.Turn.TheVariants as turns;
 ghost use Rattle.atom_board.specs.Boards.{start_held};
+ghost use Rattle.atom_board.specs.Drives.{HasTurnedBy};
 ghost use Rattle.atom_board.specs.Ends.{EndsAlone};
 ghost use Rattle.atom_board.specs.Mutators.{BoardState, MutatorState, AreInOrder, AreEachOnce, HasMutator, AreAmong, AreLogsOf, AllAreDone, AreFresh, HasFewTurns, Moved, IsLater, IsFinishedBy, start_mutator, held_of, local_of, log_of};
 
 use crate::closed::Closed;
+use crate::drives::drives;
 use crate::mutator::Mutator;
 use crate::port::Port;
 use crate::rules::{Both, Cut, Law, View};
 use atomic_table::{Seat, Shared, Table};
 use block_store::{Config, OutOfMemory, read_phase};
-use crossbeam_utils::Backoff;
 use heap_system::{Local, System, Turn};
 use never_heap::{Command, Pace};
 use std::alloc::Global;
 use std::marker::Model;
 use std::sync::Wait;
-use std::thread;
 
 /// The shared words of a heap, on which its mutators make their turns.
 #[derive(Drop)]
@@ -229,57 +229,22 @@ impl AtomBoard {
         who.local.event(&mut who.port, &self.table.shared)
     }
 
-    // Turns of a mutator that is not done, in a row, one at least.
-    #[inline(always)]
-    fn events(&self, who: &mut Mutator) -> Turn
-        requires board { who.old.board ≡ self.now.id }
-        requires going { is_done who.old.local ≡ false }
-        ensures later { IsLater who.old who.new }
-        ensures more { who.old.turns < who.new.turns }
-        ensures few { HasFewTurns who.new }
-    {
-        who.local.events(&mut who.port, &self.table.shared)
-    }
-
     /// Makes turns of a mutator of this board until it is done, and tells the pace before each
     /// command. After a turn that waited it pauses, longer each time until it gets on: until it
     /// has made a unit or ended a command. Where the configuration has one thread, it makes at most
-    /// as many turns as the bounds of the commands sum up to.
-    #[tactic(auto, using(crate::proofs::Laters::later_same, crate::proofs::Laters::later_on))]
+    /// as many turns as the bounds of the commands sum up to. Each turn is of one word that it read.
     pub fn drive<R: Wait, Q: Pace>(&self, rt: &R, who: Mutator, pace: &Q) -> Mutator
         requires { who.board ≡ self.now.id }
         ensures later { IsLater who result }
         ensures done { is_done result.local ≡ true }
         ensures few { HasFewTurns result }
+        ensures made { HasTurnedBy who result }
     {
-        let mut who = who;
-        let backoff = Backoff::new();
-        // How far it had got when it last waited, where it has got no further since.
-        let mut waited = None;
-        for _ in rt.forever() {
-            if who.at_rest() {
-                if who.done() {
-                    return who;
-                }
-                pace.before(rt, who.thread(), who.log().len() as u64);
-            }
-            match self.events(&mut who) {
-                Turn::Waited => {
-                    waited = Some(who.progress());
-                    backoff.snooze();
-                    thread::yield_now();
-                }
-                Turn::Went | Turn::Done => {
-                    if let Some(before) = waited {
-                        if who.progress() != before {
-                            backoff.reset();
-                            waited = None;
-                        }
-                    }
-                }
-            }
-        }
-        unreachable!()
+        let Mutator { port, local } = who;
+        let mut port = port;
+        let mut local = local;
+        drives(rt, &mut port, &self.table.shared, &mut local, pace);
+        Mutator { port, local }
     }
 
     /// Ends a run whose mutators are all done. They are all of this board's, each once, in any

@@ -3,6 +3,7 @@
 
 mod board;
 mod closed;
+mod drives;
 mod laws;
 mod mutator;
 mod port;

@@ -1,6 +1,6 @@
 //! One thread of a board.
 
-ghost use Rattle.std.specs.Prelude.{◌≡◌, length};
+ghost use Rattle.std.specs.Prelude.{◌≡◌};
 ghost use Rattle.heap_system.specs.Locals.{is_done, is_rest};
 ghost use Rattle.atom_board.specs.Mutators.{HasFewTurns};
 
@@ -62,15 +62,6 @@ impl Mutator {
         ensures { result ≡ is_rest self.now.local.part }
     {
         self.local.at_rest()
-    }
-
-    // How far the thread has got: the commands that it has ended, and the units that it has made
-    // for the one in hand.
-    #[inline(always)]
-    pub(crate) fn progress(&self) -> (usize, u64)
-        ensures { result ≡ (length self.now.local.log, self.now.local.spent) }
-    {
-        (self.local.log().len(), self.local.spent())
     }
 
     /// The entries of the commands that are done, oldest first.

@@ -36,7 +36,7 @@ use Rattle.heap_system.proofs.SeenAndKept.{IsSettled}
 use Rattle.heap_system.proofs.SystemStart.{one_rate}
 use Rattle.heap_system.proofs.alone.Near.{near_ends}
 use Rattle.heap_system.proofs.alone.Runs.{lone_ends}
-use Rattle.control_heap.specs.Controls.{Control, Stands, Answers, allocation_near, Machine, Served, GoesOn, asked, HasLeft, given_to, moved_times, entries_in}
+use Rattle.control_heap.specs.Controls.{ControlOf, Stands, Answers, allocation_near, Machine, Served, GoesOn, asked, HasLeft, given_to, moved_times, entries_in}
 use Rattle.control_heap.specs.Growth.{run_grown, given}
 use Rattle.control_heap.proofs.Behind.{behind, behind_done, command_same, given_behind, history_of}
 use Rattle.control_heap.proofs.HeapAsRun.{Carries, IsSafe, carried, events_grown, kept_of, low, safe}
@@ -84,7 +84,7 @@ told_at_rest c single r is rest =
     ∙ ap (λ p. l.log ++ entries_of l.thread (command_of l) l.spent (waiting (replay c r.order) p)) (rest_is l.part rest)
     ∙ append-nil l.log
 
-module _ (h : Control) (r : Run) (st : Stands h r) where
+module _ {M : Type 0} (h : ControlOf M) (r : Run) (st : Stands h r) where
   abbrev c : Config
   c = h.config
 
@@ -138,7 +138,7 @@ module _ (h : Control) (r : Run) (st : Stands h r) where
       objects = omega (arith, st.objects, left.1);
     }
 
-    begins : Carries h.config own.trace own.log first grown
+    pub begins : Carries h.config own.trace own.log first grown
     begins = record {
       run = events_grown h.config st.single r st.run k fits (subst (λ x. HasRoomFor h.config 0 k x) (kept.locals 0 (low h.config st.single)).trace room_here);
       words = st.words;
@@ -257,14 +257,11 @@ module _ (h : Control) (r : Run) (st : Stands h r) where
     then_log = ap (λ (l : LocalState). l.log) arrives.thread ∙ ap (λ x. own.log ++ x) log_is
 
     -- the heap that has served it
-    abbrev pub served : Control
-    served = record { config = h.config; words = last.words; thread = last.thread; count = h.count + 1; objects = h.objects + objects_of k }
+    abbrev pub served : M → ControlOf M
+    served m = record { config = h.config; memory = m; words = last.words; thread = last.thread; count = h.count + 1; objects = h.objects + objects_of k }
 
-    pub one_more : asked served ≡ asked h + 1
-    one_more = refl
-
-    pub stands_then : Stands served later
-    stands_then = record {
+    pub stands_then : (m : M) → Stands (served m) later
+    stands_then m = record {
       single = st.single;
       run = arrives.run;
       words = arrives.words;
@@ -303,30 +300,37 @@ module _ (h : Control) (r : Run) (st : Stands h r) where
     }
 
     -- whoever has served it
-    module _ (z : Machine) (is : Served first z) where
-      events_are : is.events ≡ turns
+    module _ (z : Machine) (m : M) (is : Served first z) where
+      pub events_are : is.events ≡ turns
       events_are = elim (cases_lt is.events turns) [
-        | inl fewer ↦ (let e : false ≡ true = sym (goes turns (omega arith) is.events fewer) ∙ sym (ap (λ (m : Machine). is_done m.thread) is.after) ∙ is.done in cc)
+        | inl fewer ↦ (let e : false ≡ true = sym (goes turns (omega arith) is.events fewer) ∙ sym (ap (λ (x : Machine). is_done x.thread) is.after) ∙ is.done in cc)
         | inr more ↦ (let n = no_more is.events is.going in omega (arith, n, more))
       ]
 
       pub machine_is : z ≡ last
       machine_is = is.after ∙ ap (λ n. moved_times n first) events_are
 
-      pub served_is : record { config = h.config; words = z.words; thread = z.thread; count = h.count + 1; objects = h.objects + objects_of k } ≡ served
-      served_is = λ i. record { config = h.config; words = (machine_is i).words; thread = (machine_is i).thread; count = h.count + 1; objects = h.objects + objects_of k }
+      pub served_is : record { config = h.config; memory = m; words = z.words; thread = z.thread; count = h.count + 1; objects = h.objects + objects_of k } ≡ served m
+      served_is = λ i. record { config = h.config; memory = m; words = (machine_is i).words; thread = (machine_is i).thread; count = h.count + 1; objects = h.objects + objects_of k }
 
       pub reply_is : (d : Entry) (a : Reply) → a ≡ (get_or z.thread.log 0 d).reply → a ≡ ends.entry.reply
-      reply_is d a e = e ∙ ap (λ (m : Machine). (get_or m.thread.log 0 d).reply) machine_is ∙ ap (λ (x : List Entry). (get_or x 0 d).reply) log_is
+      reply_is d a e = e ∙ ap (λ (x : Machine). (get_or x.thread.log 0 d).reply) machine_is ∙ ap (λ (x : List Entry). (get_or x 0 d).reply) log_is
 
-      pub has_answered : (d : Entry) (a : Reply) → a ≡ (get_or z.thread.log 0 d).reply → (new : Control) → new ≡ record { config = h.config; words = z.words; thread = z.thread; count = h.count + 1; objects = h.objects + objects_of k } → (q : Run) × Stands new q × Answers h.config k a r q
-      has_answered d a e new same = (later, subst (λ x. Stands x later) (sym (same ∙ served_is)) stands_then, answers_then a (reply_is d a e))
+      pub has_answered : (d : Entry) (a : Reply) → a ≡ (get_or z.thread.log 0 d).reply → (new : ControlOf M) → new ≡ record { config = h.config; memory = m; words = z.words; thread = z.thread; count = h.count + 1; objects = h.objects + objects_of k } → (q : Run) × Stands new q × Answers h.config k a r q
+      has_answered d a e new same = (later, subst (λ x. Stands x later) (sym (same ∙ served_is)) (stands_then m), answers_then a (reply_is d a e))
 
-      pub stands_after : Stands (record { config = h.config; words = z.words; thread = z.thread; count = h.count + 1; objects = h.objects + objects_of k }) later
-      stands_after = subst (λ x. Stands x later) (sym served_is) stands_then
+      pub stands_after : Stands (record { config = h.config; memory = m; words = z.words; thread = z.thread; count = h.count + 1; objects = h.objects + objects_of k }) later
+      stands_after = subst (λ x. Stands x later) (sym served_is) (stands_then m)
 
-      pub more_asked : asked (record { config = h.config; words = z.words; thread = z.thread; count = h.count + 1; objects = h.objects + objects_of k }) ≡ asked h + 1
-      more_asked = ap asked served_is ∙ one_more
+      pub more_asked : asked (record { config = h.config; memory = m; words = z.words; thread = z.thread; count = h.count + 1; objects = h.objects + objects_of k }) ≡ asked h + 1
+      more_asked = refl
 
       pub logged : length z.thread.log ≡ 1
-      logged = ap (λ (m : Machine). length m.thread.log) machine_is ∙ ap length log_is
+      logged = ap (λ (x : Machine). length x.thread.log) machine_is ∙ ap length log_is
+
+      -- as many events as the run has turns, so within the same bounds
+      pub events_few : (n : ℕ) → is.events ≡ n → (p : ℕ) → IsRate h.config p → n ≤ command_bound h.config p k
+      events_few n counted p planned = subst (λ x. x ≤ command_bound h.config p k) (sym events_are ∙ counted) (turns_few p planned)
+
+      pub events_near : (n : ℕ) → is.events ≡ n → (p : ℕ) → IsRate h.config p → 0 < blocks_of h.config.width k → n ≤ allocation_near h.config p k
+      events_near n counted p planned some = subst (λ x. x ≤ allocation_near h.config p k) (sym events_are ∙ counted) (turns_near p planned some)

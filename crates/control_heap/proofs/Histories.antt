@@ -6,10 +6,10 @@ use Rattle.never_heap.specs.declared.Reply.{Reply}
 use Rattle.heap_system.specs.Locals.{LocalState, works}
 use Rattle.heap_system.specs.Machines.{Run}
 use Rattle.heap_system.specs.Systems.{units_of}
-use Rattle.control_heap.specs.Controls.{Control, Stands, AllAnswered, HasHistory, Answers, entries_in}
+use Rattle.control_heap.specs.Controls.{ControlOf, Stands, AllAnswered, HasHistory, Answers, entries_in}
 use Rattle.control_heap.proofs.Items.{entries_append}
 
-pub one_history : (ks : List Command) (ys : List Reply) (h z : Control) (r : Run) → Stands h r → AllAnswered h ks ys z → HasHistory z ks ys r
+pub one_history : {M : Type 0} (ks : List Command) (ys : List Reply) (h z : ControlOf M) (r : Run) → Stands h r → AllAnswered h ks ys z → HasHistory z ks ys r
 one_history [] [] h z r stands same = record { run = r; stands = subst (λ x. Stands x r) same stands; items = []; order = sym (append-nil r.order); commands = refl; replies = refl }
 one_history [] (a ∷ ys) h z r stands none = absurd none
 one_history (k ∷ ks) [] h z r stands none = absurd none

@@ -6,5 +6,11 @@ pub mod Histories
 pub mod Items
 pub mod Left
 pub mod OpeningRun
+pub mod Fitting
+pub mod InUse
+pub mod GaugesRead
+pub mod Pace
+pub mod WayBacks
 pub mod GrownJobs
 pub mod ServeLoop
+pub mod Counts

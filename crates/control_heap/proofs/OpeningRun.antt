@@ -15,10 +15,10 @@ use Rattle.heap_system.specs.Machines.{State, Run, IsJob, IsOpening, opened}
 use Rattle.heap_system.specs.Openings.{opening_heap}
 use Rattle.control_heap.specs.Controls.{Stands, with_history}
 
-pub stands_first : (c : Config) → IsInBounds c → IsAdmitted c → c.threads ≡ 1 → (ws : List ℕ) → length ws ≡ words_count (extent c) → ((p : Place) → in_range (extent c) p ≡ true → heap_of (extent c) ws p ≡ opening_heap c p)
+pub stands_first : {M : Type 0} (m : M) (c : Config) → IsInBounds c → IsAdmitted c → c.threads ≡ 1 → (ws : List ℕ) → length ws ≡ words_count (extent c) → ((p : Place) → in_range (extent c) p ≡ true → heap_of (extent c) ws p ≡ opening_heap c p)
     → (l : LocalState) (k : Command) → IsRate c l.rate → c.object ≤ l.space → l ≡ at_start c l.rate l.space 0 (k ∷ [])
-    → (r : Run) × Stands (record { config = c; words = ws; thread = l; count = 0; objects = 0 }) r × (r.order ≡ Started ∷ [])
-stands_first c bounds plan single ws count words l k rate roomy is =
+    → (r : Run) × Stands (record { config = c; memory = m; words = ws; thread = l; count = 0; objects = 0 }) r × (r.order ≡ Started ∷ [])
+stands_first m c bounds plan single ws count words l k rate roomy is =
     let s : State = record { words = ws; locals = at_start c l.rate l.space 0 [] ∷ [] } in
     let job : IsJob c ([] ∷ []) = record {
       bounds = record { config = bounds; threads = sym single; each = (record { asked = record { few = omega arith; commands = tt }; units = λ p is. omega arith; objects = omega arith }, tt) };

@@ -13,22 +13,29 @@ use Rattle.never_heap.specs.Histories.{HistoryItem, Started, Did}
 use Rattle.never_heap.specs.RightWork.{units_owed}
 use Rattle.never_heap.specs.Steps.{blocks_of}
 use Rattle.lone_bound.specs.Near.{near_bound}
+use Rattle.heap_machine.specs.Memories.{Acts}
 use Rattle.heap_machine.specs.Operations.{op_place, words_after}
 use Rattle.heap_system.specs.declared.Turn.TheVariants.{Went}
 use Rattle.heap_system.specs.Alone.{IsQuiet, after_alone, command_bound}
+use Rattle.heap_system.specs.Courses.{Ran}
 use Rattle.heap_system.specs.Lives.{sum_after, objects_of, most_commands, most_objects, most_units}
 use Rattle.heap_system.specs.Locals.{LocalState, begun, is_done, local_got, op_wanted, works}
 use Rattle.heap_system.specs.Machines.{Run, IsAfterTurns, answer, local_in, opened}
 use Rattle.control_heap.specs.Growth.{AllGo, run_grown}
 
--- The configuration, the words, and the thread, which keeps its last command and its entry alone;
--- how many commands it was asked, and how many of them make an object.
-pub record Control : Type 0 where
+-- The configuration, the memory and the words that it shows, and the thread, which keeps its last
+-- command and its entry alone; how many commands it was asked, and how many of them make an object.
+pub record ControlOf (M : Type 0) : Type 0 where
   pub config : Config
+  pub memory : M
   pub words : List ℕ
   pub thread : LocalState
   pub count : ℕ
   pub objects : ℕ
+
+-- one whose memory is a list of words
+abbrev pub Control : Type 0
+Control = ControlOf (List ℕ)
 
 -- a heap of this configuration can be opened, but for memory
 pub record CanOpen (c : Config) : Type 0 where
@@ -37,16 +44,16 @@ pub record CanOpen (c : Config) : Type 0 where
   pub single : c.threads ≡ 1
 
 -- the commands that it was asked so far
-abbrev pub asked : Control → ℕ
+abbrev pub asked : {M : Type 0} → ControlOf M → ℕ
 asked h = h.count
 
 -- the units that were made for them
-abbrev pub units : Control → ℕ
+abbrev pub units : {M : Type 0} → ControlOf M → ℕ
 units h = h.thread.before + works h.thread.log
 
 -- It may be asked one command more: not too many were asked, of those that make an object there
 -- were fewer than a life has, and its units fit.
-abbrev pub HasLeft : Control → Command → Type 0
+abbrev pub HasLeft : {M : Type 0} → ControlOf M → Command → Type 0
 HasLeft h k = (asked h < most_commands) × (h.objects + objects_of k ≤ most_objects)
     × ((rate : ℕ) → IsRate h.config rate
     → units h + units_owed h.config.width rate k ≤ most_units)
@@ -63,7 +70,7 @@ pub record IsByEvents (c : Config) (r : Run) : Type 0 where
 -- The heap stands for a run of a job of one thread: its words are those of the run, and its thread
 -- is that of the run but for the trace and the log, of which it keeps nothing but how many there
 -- are. The thread has done what it was asked, nobody is inside, and the gate is open.
-pub record Stands (h : Control) (r : Run) : Type 0 where
+pub record Stands {M : Type 0} (h : ControlOf M) (r : Run) : Type 0 where
   pub single : h.config.threads ≡ 1
   pub run : IsByEvents h.config r
   pub words : r.state.words ≡ h.words
@@ -107,19 +114,32 @@ pub record Answers (c : Config) (k : Command) (a : Reply) (r z : Run) : Type 0 w
   pub reply : entry.reply ≡ a
 
 -- after a command the heap stands for such a run, whichever run it stood for
-abbrev pub HasAnswered : Control → Command → Reply → Control → Type 0
+abbrev pub HasAnswered : {M : Type 0} → ControlOf M → Command → Reply → ControlOf M → Type 0
 HasAnswered old k reply new =
     (r : Run) → Stands old r → (z : Run) × Stands new z × Answers old.config k reply r z
 
+-- A memory made the operations of a command and no other, so many as these words, of which each one
+-- read the next: each is the one that the thread wants there by its row. They lead from the memory
+-- before to that after, and from the thread that begins the command to the one that has done it.
+-- They are no more than the bound of a lone thread, and, for an allocation, the near bound.
+pub record HasMade {M : Type 0} (acts : Acts M (Unit {0})) (old : ControlOf M) (k : Command)
+    (new : ControlOf M) : Type 0 where
+  pub words : List ℕ
+  pub ran : Ran acts tt old.memory (begun k old.thread) words new.memory new.thread
+  pub few : (rate : ℕ) → IsRate old.config rate → length words ≤ command_bound old.config rate k
+  pub near : (rate : ℕ) → IsRate old.config rate → 0 < blocks_of old.config.width k
+      → length words ≤ allocation_near old.config rate k
+
 -- a heap was asked these commands one after the other, was answered so, and is then z
-abbrev pub AllAnswered : Control → List Command → List Reply → Control → Type 0
+abbrev pub AllAnswered : {M : Type 0} → ControlOf M → List Command → List Reply → ControlOf M
+    → Type 0
 AllAnswered h [] [] z = h ≡ z
-AllAnswered h (k ∷ ks) (a ∷ ys) z =
-    (n : Control) × (n.config ≡ h.config) × HasAnswered h k a n × AllAnswered n ks ys z
+AllAnswered {M} h (k ∷ ks) (a ∷ ys) z =
+    (n : ControlOf M) × (n.config ≡ h.config) × HasAnswered h k a n × AllAnswered n ks ys z
 AllAnswered h _ _ z = ⊥
 
 -- run q is r with these commands asked and answered so: one history with r's in front
-pub record HasHistory (z : Control) (ks : List Command) (ys : List Reply) (r : Run) : Type 0 where
+pub record HasHistory {M : Type 0} (z : ControlOf M) (ks : List Command) (ys : List Reply) (r : Run) : Type 0 where
   pub run : Run
   pub stands : Stands z run
   pub items : List HistoryItem
@@ -156,13 +176,23 @@ pub record Served (m z : Machine) : Type 0 where
   pub after : z ≡ moved_times events m
   pub done : is_done z.thread ≡ true
 
+-- A memory made the events that it takes and no other operation, and what it shows went as the words
+-- of a machine do.
+pub record ServedBy {M : Type 0} (acts : Acts M (Unit {0})) (shows : M → List ℕ) (m : M)
+    (l : LocalState) (n : M) (k : LocalState) : Type 0 where
+  pub words : List ℕ
+  pub ran : Ran acts tt m l words n k
+  pub served : Served (record { words = shows m; thread = l })
+      (record { words = shows n; thread = k })
+  pub counted : served.events ≡ length words
+
 -- a heap that was given a command
-abbrev pub given_to : Control → Command → Machine
+abbrev pub given_to : {M : Type 0} → ControlOf M → Command → Machine
 given_to h k = record { words = h.words; thread = begun k h.thread }
 
 -- a heap that has a command in hand
-pub record HasBegun (m : Machine) : Type 0 where
-  pub heap : Control
+pub record HasBegun (M : Type 0) (m : Machine) : Type 0 where
+  pub heap : ControlOf M
   pub command : Command
   pub run : Run
   pub stood : Stands heap run

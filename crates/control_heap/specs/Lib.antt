@@ -1,3 +1,6 @@
+pub mod Calls
 pub mod Controls
+pub mod Gauges
 pub mod Growth
 pub mod Refusals
+pub mod WayBack

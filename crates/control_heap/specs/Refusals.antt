@@ -10,7 +10,7 @@ use Rattle.control_heap.specs.declared.control.OpenFault.{OpenFault}
 use Rattle.control_heap.specs.declared.control.OpenFault.TheVariants.{OutOfBounds, NotOneThread, LiveTooSmall, NoRate, NoMemory}
 use Rattle.control_heap.specs.declared.control.Refused.{Refused}
 use Rattle.control_heap.specs.declared.control.Refused.TheVariants as refusals
-use Rattle.control_heap.specs.Controls.{Control, CanOpen, HasLeft}
+use Rattle.control_heap.specs.Controls.{ControlOf, CanOpen, HasLeft}
 
 -- when each fault comes: one at most fits a configuration, and none but the last where it can be
 -- opened
@@ -22,6 +22,6 @@ IsOpenFault c NoRate = IsInBounds c × (c.threads ≡ 1) × IsRefusal c plans.No
 IsOpenFault c NoMemory = CanOpen c
 
 -- and each refusal of a command
-abbrev pub IsRefused : Control → Command → Refused → Type 0
+abbrev pub IsRefused : {M : Type 0} → ControlOf M → Command → Refused → Type 0
 IsRefused h k refusals.OutOfBounds = ¬ IsCommandInBounds h.config k
 IsRefused h k refusals.NoLifeLeft = IsCommandInBounds h.config k × ¬ HasLeft h k

@@ -1,17 +1,26 @@
 //! The heap of one thread, and a command from its asking to its reply.
 
-ghost use Rattle.std.specs.Prelude.{◌≡◌, ◌+◌, ◌-◌, ◌∷◌, ◌↔◌, [], IsTrue, IfOk, IfErr, OnOk, OnErr};
+ghost use Rattle.std.specs.Prelude.{ℕ, ◌≡◌, ◌≤◌, ◌+◌, ◌-◌, ◌∷◌, ◌↔◌, [], length, true, IsTrue, IfOk, IfErr, OnOk, OnErr};
 ghost use Rattle.block_store.specs.Configs.{IsInBounds};
 ghost use Rattle.rate_plan.specs.Rates.{IsRate, IsAdmitted};
 ghost use Rattle.never_heap.specs.declared.Command.{Command};
 ghost use Rattle.never_heap.specs.declared.Reply.{Reply};
 ghost use Rattle.never_heap.specs.Bounds.{IsCommandInBounds};
-ghost use Rattle.never_heap.specs.Histories.{Started};
+ghost use Rattle.never_heap.specs.Histories.{Started, replay, starts_in};
+ghost use Rattle.never_heap.specs.LiveBlocks.{live_blocks};
+ghost use Rattle.block_store.specs.Heaps.{heap_of};
+ghost use Rattle.block_store.specs.Places.{Place, ColourOf, extent, in_range, words_count};
+ghost use Rattle.heap_machine.specs.FreeBlocks.{count_free};
 ghost use Rattle.heap_system.specs.Lives.{objects_of, most_units, most_objects};
 ghost use Rattle.heap_system.specs.Machines.{Run};
-ghost use Rattle.control_heap.specs.Controls.{Control, CanOpen, HasLeft, Stands, HasAnswered, Served, HasBegun, asked, units};
+ghost use Rattle.heap_system.specs.Openings.{opening_heap};
+ghost use Rattle.control_heap.specs.Controls.{ControlOf, CanOpen, HasLeft, Stands, HasAnswered, HasMade, ServedBy, HasBegun, asked, units};
+ghost use Rattle.control_heap.specs.Calls.{MayAnswer};
+ghost use Rattle.control_heap.specs.Gauges.{most_operations};
 ghost use Rattle.control_heap.specs.Refusals.{IsOpenFault, IsRefused};
 
+use crate::Store;
+use crate::gauges::{allocation_operations, cycle_in, free_in};
 use block_store::{Config, OutOfMemory};
 use heap_machine::Words;
 use heap_system::{Local, opening};
@@ -55,14 +64,15 @@ pub enum Refused {
     NoLifeLeft,
 }
 
-/// A heap of one thread between two commands.
+/// A heap of one thread between two commands, on a memory of its own: on words, where no other is
+/// named.
 ///
 /// It lives for 2^45 units and 2^43 - 1 commands that make an object, be they answered new or full,
 /// and for 2^60 commands in all.
 #[derive(Drop)]
-pub struct ControlHeap {
+pub struct ControlHeap<M: Store = Words> {
     config: Config,
-    words: Words,
+    memory: M,
     thread: Local,
     // How many commands it was asked.
     count: u64,
@@ -70,15 +80,16 @@ pub struct ControlHeap {
     objects: u64,
 }
 
-impl Model for ControlHeap {
+impl<M: Store> Model for ControlHeap<M> {
     ghost use Rattle.heap_system.specs.Machines.{Run};
-    ghost use Rattle.control_heap.specs.Controls.{Control, Stands};
+    ghost use Rattle.control_heap.specs.Controls.{ControlOf, Stands};
 
-    ghost Value = { Control };
+    ghost Value = { ControlOf M };
 
     ghost view = { λ h. record {
       config = h.config;
-      words = h.words;
+      memory = h.memory;
+      words = M.shows h.memory;
       thread = h.thread;
       count = h.count;
       objects = h.objects;
@@ -86,7 +97,8 @@ impl Model for ControlHeap {
 
     ghost invariant = { λ h. (r : Run) × Stands (record {
       config = h.config;
-      words = h.words;
+      memory = h.memory;
+      words = M.shows h.memory;
       thread = h.thread;
       count = h.count;
       objects = h.objects;
@@ -104,18 +116,46 @@ fn objects_of(command: Command) -> u64
 }
 
 // Makes the thread's events until it has done the command that it has in hand.
-fn serve(words: &mut Words, thread: &mut Local)
-    requires { HasBegun (record { words = words.old; thread = thread.old }) }
-    ensures { Served (record { words = words.old; thread = thread.old })
-        (record { words = words.new; thread = thread.new }) }
+fn serve<M: Store>(memory: &mut M, thread: &mut Local)
+    requires { HasBegun M (record { words = M.shows memory.old; thread = thread.old }) }
+    ensures { ServedBy M.acts M.shows memory.old thread.old memory.new thread.new }
 {
-    for _turn in 0..u64::MAX {
+    for _run in 0..u64::MAX {
         if thread.done() {
             return;
         }
-        thread.event(words, &());
+        thread.run(memory, &());
     }
     unreachable!();
+}
+
+impl<M: Store> ControlHeap<M> {
+    /// The opening heap of a configuration, on a memory that has the opening words.
+    ///
+    /// # Errors
+    ///
+    /// `OutOfMemory` where there is no room for the thread's command, or for the blocks that are
+    /// held while an object is built.
+    pub fn on(alloc: Global, c: Config, memory: M) -> Result<ControlHeap<M>, OutOfMemory>
+        requires can { CanOpen c }
+        requires count { length (M.shows memory) ≡ words_count (extent c) }
+        requires words { (p : Place) → in_range (extent c) p ≡ true
+            → heap_of (extent c) (M.shows memory) p ≡ opening_heap c p }
+        ensures config { IfOk result (λ h. h.config ≡ c) }
+        ensures memory { IfOk result (λ h. h.memory ≡ memory) }
+        ensures fresh { IfOk result (λ h. (asked h ≡ 0) × (units h ≡ 0) × (h.objects ≡ 0)) }
+        ensures stands { IfOk result (λ h. (r : Run) × Stands h r × (r.order ≡ Started ∷ [])) }
+    {
+        let first = vec![in alloc; Command::Nil { d: 0 }]?;
+        let thread = Local::new(alloc, &c, 0, first)?;
+        Ok(ControlHeap {
+            config: c,
+            memory,
+            thread,
+            count: 0,
+            objects: 0,
+        })
+    }
 }
 
 // The opening heap of a configuration of one thread that has a rate.
@@ -126,15 +166,7 @@ fn opened(alloc: Global, c: Config) -> Result<ControlHeap, OutOfMemory>
     ensures stands { IfOk result (λ h. (r : Run) × Stands h r × (r.order ≡ Started ∷ [])) }
 {
     let words = opening(alloc, &c)?;
-    let first = vec![in alloc; Command::Nil { d: 0 }]?;
-    let thread = Local::new(alloc, &c, 0, first)?;
-    Ok(ControlHeap {
-        config: c,
-        words,
-        thread,
-        count: 0,
-        objects: 0,
-    })
+    ControlHeap::on(alloc, c, words)
 }
 
 impl ControlHeap {
@@ -169,11 +201,46 @@ impl ControlHeap {
         }
     }
 
+    /// The present cycle of the collector, from 1: how many have begun. It reads one word.
+    pub fn cycle(&self) -> u64
+        ensures { (r : Run) → Stands self.now r → result ≡ starts_in r.order }
+    {
+        cycle_in(&self.config, &self.memory)
+    }
+
+    /// How many blocks are Free. It reads one word.
+    pub fn free_blocks(&self) -> u64
+        ensures { result ≡ count_free (extent self.now.config)
+            (λ x. heap_of (extent self.now.config) self.now.words (ColourOf x)) }
+    {
+        free_in(&self.config, &self.memory)
+    }
+
+    /// How many blocks are not Free. No more are live, and what nothing reaches is among them until
+    /// a sweep comes by.
+    pub fn blocks_in_use(&self) -> u64
+        ensures live { (r : Run) → Stands self.now r
+            → live_blocks self.now.config.width (replay self.now.config r.order) ≤ result }
+        ensures rest { result ≡ self.now.config.blocks - count_free (extent self.now.config)
+            (λ x. heap_of (extent self.now.config) self.now.words (ColourOf x)) }
+    {
+        u64::from(self.config.blocks).saturating_sub(self.free_blocks())
+    }
+}
+
+impl<M: Store> ControlHeap<M> {
     /// The configuration.
     pub fn config(&self) -> &Config
         ensures { result.now ≡ self.now.config }
     {
         &self.config
+    }
+
+    /// Its memory.
+    pub fn memory(&self) -> &M
+        ensures { result.now ≡ self.now.memory }
+    {
+        &self.memory
     }
 
     /// How many commands it was asked.
@@ -197,6 +264,30 @@ impl ControlHeap {
         MOST_OBJECTS.saturating_sub(self.objects)
     }
 
+    /// The units of marking or sweeping that it makes for each block of an allocation.
+    pub fn rate(&self) -> u64
+        ensures { IsRate self.now.config result }
+    {
+        self.thread.owes(&Command::New { d: 0, fields: 0 })
+    }
+
+    /// The most operations on its memory that a command takes, which is in bounds.
+    pub fn most_operations(&self, command: &Command) -> u64
+        requires { IsCommandInBounds self.now.config command.now }
+        ensures { (rate : ℕ) → IsRate self.now.config rate
+            → result ≡ most_operations self.now.config rate command.now }
+    {
+        let units = self.thread.owes(command);
+        let taken = command.blocks(self.config.width);
+        if taken > 0 {
+            allocation_operations(self.config.width, self.config.blocks, units, taken)
+        } else if let Command::Idle { units } = *command {
+            (units + 1) * 72
+        } else {
+            u64::from(self.config.object) + 64
+        }
+    }
+
     /// Whether its life has room for one command more, which is in bounds: for the units that it
     /// owes, for the object that it makes, and for the command.
     pub fn has_left(&self, command: &Command) -> bool
@@ -211,7 +302,7 @@ impl ControlHeap {
 
     /// Does a command, and answers its reply. The command is in bounds, and its life has room for
     /// it. Whichever run the heap stood for, it now stands for that run with this command and this
-    /// reply behind it.
+    /// reply behind it. Of its memory it makes the operations that the command takes, and no other.
     pub fn request(&mut self, command: Command) -> Reply
         requires bounds { IsCommandInBounds self.old.config command }
         requires left { HasLeft self.old command }
@@ -219,9 +310,11 @@ impl ControlHeap {
         ensures one_more { asked self.new ≡ asked self.old + 1 }
         ensures objects { self.new.objects ≡ self.old.objects + objects_of command }
         ensures answered { HasAnswered self.old command result self.new }
+        ensures made { HasMade M.acts self.old command self.new }
+        ensures fits { MayAnswer command result }
     {
         self.thread.begin(command);
-        serve(&mut self.words, &mut self.thread);
+        serve(&mut self.memory, &mut self.thread);
         self.count += 1;
         self.objects += objects_of(command);
         self.thread.log()[0].reply
@@ -240,6 +333,8 @@ impl ControlHeap {
         ensures one_more { OnOk result (asked self.new ≡ asked self.old + 1) }
         ensures objects { OnOk result (self.new.objects ≡ self.old.objects + objects_of command) }
         ensures answered { IfOk result (λ reply. HasAnswered self.old command reply self.new) }
+        ensures made { OnOk result (HasMade M.acts self.old command self.new) }
+        ensures fits { IfOk result (MayAnswer command) }
         ensures refused { IfErr result (IsRefused self.old command) }
         ensures unchanged { OnErr result (self.new ≡ self.old) }
     {

@@ -1,7 +1,7 @@
 //! What the runs say for which a heap stands: each law is the contract of a function that does
 //! nothing.
 
-ghost use Rattle.std.specs.Prelude.{◌≡◌, ℕ, List};
+ghost use Rattle.std.specs.Prelude.{◌≡◌, ◌<◌, ◌≤◌, ℕ, List};
 ghost use Rattle.rate_plan.specs.Rates.{IsRate};
 ghost use Rattle.never_heap.specs.declared.Command.{Command};
 ghost use Rattle.never_heap.specs.declared.Reply.{Reply};
@@ -9,7 +9,12 @@ ghost use Rattle.never_heap.specs.Histories.{Legal, work_in};
 ghost use Rattle.never_heap.specs.Licensed.{Licensed, StartsSmall, NoFulls};
 ghost use Rattle.never_heap.specs.RightWork.{RightWork};
 ghost use Rattle.heap_system.specs.Machines.{Run};
-ghost use Rattle.control_heap.specs.Controls.{Control, Stands, AllAnswered, HasHistory, units};
+ghost use Rattle.block_store.specs.declared.Config.{Config};
+ghost use Rattle.never_heap.specs.Steps.{blocks_of};
+ghost use Rattle.heap_system.specs.Alone.{command_bound};
+ghost use Rattle.control_heap.specs.Controls.{Control, Stands, AllAnswered, HasHistory, allocation_near, units};
+ghost use Rattle.control_heap.specs.Gauges.{most_operations};
+ghost use Rattle.control_heap.specs.WayBack.{AllDone, HasWayBack};
 
 /// Of each run for which a heap stands: its order is a legal history of the heap that never frees
 /// (`legal`), in which each entry has the work that its command owes (`right`), and those works are
@@ -31,4 +36,23 @@ pub fn histories_are_right()
 pub fn requests_have_one_history()
     ensures { (h z : Control) (ks : List Command) (a : List Reply) (r : Run)
         → Stands h r → AllAnswered h ks a z → HasHistory z ks a r }
+{}
+
+/// The way back from full. Of a heap on m blocks that does commands from some moment on: they make
+/// at most 2m units for each cycle that begins meanwhile, and 2m more (`pace`). So once they made
+/// more than 4m units, two cycles have begun; and then, where each cycle that began since that
+/// moment began with no more live blocks than the limit, whatever there was before, no allocation
+/// is answered full (`back`, `two_cycles`).
+pub fn full_heaps_come_back()
+    ensures { (h y z : Control) (ks : List Command) (a : List Reply) (js : List Command)
+        (b : List Reply) (r : Run)
+        → Stands h r → AllDone h ks a y → AllDone y js b z → HasWayBack h y z ks a js b r }
+{}
+
+/// No command takes more operations than are told of it: a number that is within both bounds of
+/// `HasMade` is within `most_operations`.
+pub fn commands_take_what_is_told()
+    ensures { (c : Config) (rate : ℕ) (k : Command) (n : ℕ) → n ≤ command_bound c rate k
+        → (0 < blocks_of c.width k → n ≤ allocation_near c rate k)
+        → n ≤ most_operations c rate k }
 {}

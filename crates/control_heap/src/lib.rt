@@ -1,10 +1,21 @@
 //! A heap for one thread, which is asked one command at a time.
 #![tactic(auto)]
 
+mod calls;
 mod control;
+mod counted;
+mod faults;
+mod gauges;
 mod laws;
+mod store;
 #[cfg(test)]
 mod tests;
 
 pub use control::{ControlHeap, OpenFault, Refused};
-pub use laws::{histories_are_right, requests_have_one_history};
+pub use counted::{Counted, operations_of};
+pub use faults::Fault;
+pub use laws::{
+    commands_take_what_is_told, full_heaps_come_back, histories_are_right,
+    requests_have_one_history,
+};
+pub use store::Store;

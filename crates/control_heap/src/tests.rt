@@ -3,11 +3,13 @@
 ghost use Rattle.std.specs.Prelude.{◌≡◌, ◌<◌, ◌≤◌, ◌+◌, length, OnOk};
 ghost use Rattle.never_heap.specs.Graphs.{count_of};
 
-use crate::{ControlHeap, OpenFault, Refused};
+use crate::{ControlHeap, Counted, Fault, OpenFault, Refused, operations_of};
 use block_store::{Config, Name, OutOfMemory, Value, Width};
+use heap_system::opening;
 use never_heap::{Command, Graph, Reply};
 use rand_core::utils::NextWord;
 use rand_pcg::Lcg64Xsh32;
+use rate_plan::plan;
 use std::alloc::Global;
 
 // How many commands are drawn for each width.
@@ -209,5 +211,168 @@ fn each_refusal_of_a_configuration_has_its_cause(rt: HostRuntime) {
     }
     for live in [6, 58] {
         assert!(rt; ControlHeap::open(rt.alloc(), Config { live, ..c }).is_ok());
+    }
+}
+
+// A heap that counts its operations.
+fn counted(alloc: Global, c: Config) -> Option<ControlHeap<Counted>> {
+    if !c.in_bounds() || c.threads != 1 || plan(&c).is_err() {
+        return None;
+    }
+    let words = Counted::new(opening(alloc, &c).ok()?);
+    ControlHeap::on(alloc, c, words).ok()
+}
+
+#[test]
+fn as_many_operations_are_made_as_the_rows_of_a_command_are(rt: HostRuntime) {
+    let mut heap = counted(rt.alloc(), small(Width::Four)).expect(&rt, "it opens");
+    for (command, few) in [
+        (Command::Nil { d: 1 }, 4),
+        (Command::Set { d: 1, value: 7 }, 4),
+    ] {
+        assert_eq!(rt; operations_of(&mut heap, command), Some(few));
+    }
+    let mut most = 0;
+    for _object in 0..1000 {
+        let made = operations_of(&mut heap, Command::New { d: 2, fields: 2 }).unwrap_or(0);
+        assert!(rt; 10 < made, "{made} operations");
+        most = made.max(most);
+    }
+    assert_eq!(rt; most, 107);
+}
+
+// Keeps reading number `count` as a record in the shared array, to which register 0 refers, and in
+// the list of alarms behind the first 40 places where it is one.
+fn keep(heap: &mut ControlHeap, count: u64, reading: u32, alarm: bool) -> Result<(), Fault> {
+    let from = if alarm { 1 } else { 5 };
+    let _name = heap.record(1, 1)?;
+    heap.set(2, u64::from(reading))?;
+    heap.put(1, 0, 2)?;
+    heap.put(0, count % 40, 1)?;
+    heap.put(0, 40 + count % 40, from)
+}
+
+// What a loop does then.
+#[derive(Clone, Copy, Debug, PartialEq, Eq)]
+enum Next {
+    Reading,
+    LetGo,
+    Reopen,
+    Stop,
+}
+
+fn turn_to(kept: Result<(), Fault>) -> Next {
+    match kept {
+        Ok(()) => Next::Reading,
+        Err(Fault::Full(_cycle)) => Next::LetGo,
+        Err(Fault::NoLifeLeft) => Next::Reopen,
+        Err(Fault::Null | Fault::Kind | Fault::Range | Fault::OutOfBounds) => Next::Stop,
+    }
+}
+
+#[test]
+fn each_call_tells_its_reply(rt: HostRuntime) {
+    let c = Config {
+        width: Width::Eight,
+        threads: 1,
+        blocks: 512,
+        live: 128,
+        object: 1,
+        shared: 80,
+    };
+    let mut heap = ControlHeap::open(rt.alloc(), c).expect(&rt, "it opens");
+    for count in 0..1000 {
+        let kept = keep(&mut heap, count, 20, count % 3 == 0);
+        assert_eq!(rt; turn_to(kept), Next::Reading, "reading {count}");
+    }
+    assert_eq!(rt; turn_to(heap.put(2, 0, 1)), Next::Stop);
+    assert_eq!(rt; heap.array(3, 2).map(|name| Value::Ref(name)), heap.say(3));
+    assert_eq!(rt; heap.len(3), Ok(2));
+    assert_eq!(rt; heap.mov(4, 3), Ok(()));
+    assert_eq!(rt; (heap.same(3, 4), heap.same(3, 1)), (Ok(true), Ok(false)));
+    assert_eq!(rt; heap.put(3, 1, 2), Ok(()));
+    assert_eq!(rt; heap.get(6, 3, 1), Ok(Value::Int(20)));
+    assert_eq!(rt; heap.set(2, 21), Ok(()));
+    assert_eq!(rt; heap.swap(3, 1, 2), Ok(Value::Int(20)));
+    assert_eq!(rt;
+        (heap.cas(3, 1, 2, 4), heap.cas(3, 1, 6, 4)),
+        (Ok(false), Ok(false))
+    );
+    assert_eq!(rt; heap.set(6, 21), Ok(()));
+    assert_eq!(rt;
+        (heap.cas(3, 1, 6, 4), heap.get(7, 3, 1)),
+        (Ok(true), heap.say(4))
+    );
+    assert_eq!(rt; (heap.idle(100), heap.nil(3)), (Ok(()), Ok(())));
+    assert_eq!(rt; heap.get(7, 3, 0), Err(Fault::Null));
+    assert_eq!(rt; heap.len(2), Err(Fault::Kind));
+    assert_eq!(rt; heap.put(4, 2, 2), Err(Fault::Range));
+    assert_eq!(rt; heap.say(16), Err(Fault::OutOfBounds));
+}
+
+#[test]
+fn a_list_that_grows_without_end_is_full(rt: HostRuntime) {
+    let mut heap = ControlHeap::open(rt.alloc(), small(Width::Four)).expect(&rt, "it opens");
+    let mut made = 0;
+    let full = loop_until_full(&mut heap, &mut made);
+    assert!(rt; 14 <= made && made < 64, "{made} objects");
+    assert!(rt; full.is_some());
+}
+
+// Makes a list of records in register 1 until one is full, and tells the cycle; `None` where each of
+// many has room.
+fn loop_until_full(heap: &mut ControlHeap, made: &mut u32) -> Option<u64> {
+    for count in 0..1000 {
+        *made = count;
+        match grow(heap) {
+            Ok(()) => {}
+            Err(Fault::Full(cycle)) => return Some(cycle),
+            Err(_) => return None,
+        }
+    }
+    None
+}
+
+fn grow(heap: &mut ControlHeap) -> Result<(), Fault> {
+    let _name = heap.record(2, 1)?;
+    heap.put(2, 0, 1)?;
+    heap.mov(1, 2)
+}
+
+#[test]
+fn gauges_tell_of_the_heap(rt: HostRuntime) {
+    let mut heap = ControlHeap::open(rt.alloc(), small(Width::Eight)).expect(&rt, "it opens");
+    assert_eq!(rt; (heap.rate(), heap.cycle(), heap.free_blocks()), (7, 1, 60));
+    let record = Command::New { d: 1, fields: 7 };
+    assert_eq!(rt; most_of(&heap, &record), 7 * 23 + 18 + 12 + 8);
+    assert_eq!(rt; most_of(&heap, &Command::Nil { d: 1 }), 66);
+    assert_eq!(rt; most_of(&heap, &Command::Idle { units: 9 }), 720);
+    assert!(rt; heap.ask(record).is_ok());
+    assert_eq!(rt; (heap.free_blocks(), heap.blocks_in_use()), (59, 5));
+    assert_eq!(rt; heap.idle(64 * 4), Ok(()));
+    assert!(rt; 2 < heap.cycle());
+}
+
+// 0 for a command that is not in bounds.
+fn most_of(heap: &ControlHeap, command: &Command) -> u64 {
+    if command.in_bounds(heap.config()) {
+        heap.most_operations(command)
+    } else {
+        0
+    }
+}
+
+// Behind a full, what the list held is let go, and after four units for each block and one more
+// there is room again.
+#[test]
+fn a_full_heap_comes_back(rt: HostRuntime) {
+    let mut heap = ControlHeap::open(rt.alloc(), small(Width::Eight)).expect(&rt, "it opens");
+    let mut made = 0;
+    assert!(rt; loop_until_full(&mut heap, &mut made).is_some());
+    assert!(rt; matches!(heap.record(1, 1), Err(Fault::Full(_))));
+    assert_eq!(rt; (heap.nil(1), heap.nil(2)), (Ok(()), Ok(())));
+    assert_eq!(rt; heap.idle(4 * 64 + 1), Ok(()));
+    for _object in 0..1000 {
+        assert!(rt; heap.record(1, 1).is_ok());
     }
 }

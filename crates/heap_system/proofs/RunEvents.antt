@@ -1,16 +1,21 @@
 -- One event of a pass that pays, where its row is in hand: what the thread is behind it.
-use Rattle.std.proofs.Common.{◌≡◌, ℕ, ◌+◌, ◌≤◌, Bool, true, false, not, cond, None, length, append-nil, refl, sym, ap, ◌∙◌, subst}
+use Rattle.std.proofs.Common.{◌≡◌, ℕ, ◌+◌, ◌-◌, ◌<◌, ◌≤◌, Bool, true, false, not, cond, None, [], length, append-nil, refl, sym, ap, ◌∙◌, subst, arith}
+use Rattle.std.specs.Vec.{vec_capacity}
 use Rattle.block_store.specs.declared.Config.{Config}
 use Rattle.block_store.specs.Phases.{bit}
 use Rattle.block_store.specs.Places.{extent}
 use Rattle.heap_machine.specs.declared.Outcome.{Outcome}
 use Rattle.heap_machine.specs.declared.Step.{Step}
 use Rattle.heap_machine.specs.declared.Step.TheVariants as steps
+use Rattle.heap_machine.specs.declared.op.Op.{Op}
+use Rattle.heap_machine.specs.Memories.{Acts}
+use Rattle.grey_steps.specs.Fits.{GreyFits}
 use Rattle.grey_steps.specs.Ends.{is_blackening, grey_outcome}
 use Rattle.grey_steps.specs.Rows.{GreyState, grey_got, grey_step, grey_over, grey_nothing, grey_unit}
+use Rattle.sweep_steps.specs.Fits.{SweepFits}
 use Rattle.sweep_steps.specs.Ends.{sweep_outcome}
 use Rattle.sweep_steps.specs.Rows.{SweepState, sweep_got, sweep_over, sweep_nothing}
-use Rattle.never_heap.specs.RightWork.{units_told}
+use Rattle.never_heap.specs.RightWork.{units_owed, units_told}
 use Rattle.work_account.specs.Accounts.{AccountState}
 use Rattle.heap_system.specs.declared.local.Local.TheInside.{Inside}
 use Rattle.heap_system.specs.declared.Turn.{Turn}
@@ -18,10 +23,11 @@ use Rattle.heap_system.specs.declared.Turn.TheVariants.{Went}
 use Rattle.heap_system.specs.Parts.{Part, Mark, Sweep, Again, Idle}
 use Rattle.heap_system.specs.declared.rows.Row.{Row}
 use Rattle.heap_system.specs.declared.rows.Row.TheVariants as rows
-use Rattle.heap_system.specs.Courses.{goes_on}
-use Rattle.heap_system.specs.Locals.{LocalState, IsLocal, PartFits, balance_on, spent_got, command_of, if_over, is_last, local_got, owed, part_step, turn_of, unit_to_come}
+use Rattle.heap_system.specs.Courses.{goes_on, HasRunIn, MayRun}
+use Rattle.heap_system.specs.Locals.{LocalState, IsAllMade, IsLocal, IsPassAt, IsRoomy, PartFits, command_behind, is_done, op_wanted, balance_on, spent_got, command_of, if_over, is_last, local_got, owed, part_step, turn_of, unit_to_come}
 use Rattle.heap_system.proofs.OwedAndPaid.{part_of, view_of, swept_last}
-use Rattle.heap_system.proofs.UnitMade.{mark_owes, over_part}
+use Rattle.heap_system.proofs.UnitMade.{counted_local, mark_owes, over_local, over_part, swept_fits, swept_owes, ties}
+use Rattle.heap_system.proofs.Runs.{Goes, going_in, more_ends, more_goes}
 
 -- a step that goes on and does not end its part is one that went
 marked_last : (over : Bool) → is_last (cond over steps.Over steps.Went) ≡ over
@@ -88,15 +94,14 @@ sweep_turn i s w o turn at was is =
     ∙ sym (ap (λ p. turn_of (part_step i.config p w)) at)
 
 -- a step of marking that is not the last
-pub mark_went : (m : GreyState) (x : Config) (w : ℕ) (o : Outcome) → o ≡ grey_outcome (extent x) m w
-    → is_last o.step ≡ false → Went ≡ turn_of o.step
-mark_went m x w o was on =
-    here (grey_over (grey_got (extent x) m w).row)
-    (sym (ap (λ (y : Outcome). is_last y.step) was) ∙ on)
-    ∙ sym (ap (λ (y : Outcome). turn_of y.step) was)
+pub mark_goes : (m : GreyState) (x : Config) (w : ℕ) (o : Outcome) → o ≡ grey_outcome (extent x) m w
+    → is_last o.step ≡ false → goes_on o.step ≡ true
+mark_goes m x w o was on =
+    ap (λ (y : Outcome). goes_on y.step) was
+    ∙ here (grey_over (grey_got (extent x) m w).row) (sym (ap (λ (y : Outcome). is_last y.step) was) ∙ on)
   where
     here : (b : Bool) → is_last (cond b steps.Over steps.Went) ≡ false
-        → Went ≡ turn_of (cond b steps.Over steps.Went)
+        → goes_on (cond b steps.Over steps.Went) ≡ true
     here true e = absurd cc
     here false e = refl
 
@@ -120,25 +125,16 @@ pub went_on : (s : Step) → goes_on s ≡ true → (is_last s ≡ false) × (We
 went_on steps.Went e = (refl, refl)
 went_on _ e = absurd cc
 
--- a sweep behind this step, as the code keeps it
-pub behind_at : (i : Inside) (owed : ℕ) (n : SweepState) (last : Bool) (r : Row)
-    → r ≡ cond last (cond (sweep_nothing n.row) rows.Idle rows.Again) (rows.Sweep owed n.row)
-    → n ≡ record {
-      thread = i.pass.thread;
-      cycle = i.pass.cycle;
-      blocks = i.config.blocks;
-      owed = owed;
-      row = n.row;
-    }
-    → over_part i r ≡ if_over last (sweep_nothing n.row) (Sweep n)
-behind_at i owed n last r is same = ap (over_part i) is ∙ by last (sweep_nothing n.row)
+-- a row behind this step, as the code keeps it
+pub behind_at : (i : Inside) (last none : Bool) (row r : Row) (q : Part)
+    → r ≡ cond last (cond none rows.Idle rows.Again) row → over_part i row ≡ q
+    → over_part i r ≡ if_over last none q
+behind_at i last none row r q is at = ap (over_part i) is ∙ by last none
   where
-    by : (b none : Bool)
-        → over_part i (cond b (cond none rows.Idle rows.Again) (rows.Sweep owed n.row))
-        ≡ if_over b none (Sweep n)
+    by : (b c : Bool) → over_part i (cond b (cond c rows.Idle rows.Again) row) ≡ if_over b c q
     by true true = refl
     by true false = refl
-    by false none = sym (ap Sweep same)
+    by false c = at
 
 -- a part that is over or goes on
 pub behind_local : (l : LocalState) (last none : Bool) (p q : Part) → p ≡ if_over last none q
@@ -151,3 +147,133 @@ behind_local l last none p q is idle again goes =
     by true true = idle
     by true false = again
     by false c = goes
+
+-- A thread that has counted, and has come to this part.
+abbrev pub counted : Inside → AccountState → ℕ → Part → LocalState
+counted i n spent p = record (view_of i) { balance = n.balance; spent = spent; part = p }
+
+-- What an event of a pass that pays makes of its thread, which has counted it: where the pass has
+-- come to part q, or, where that is over, found nothing to do or something.
+pub record Counted (i : Inside) (w : ℕ) (o : Outcome) (n : AccountState) (spent : ℕ) (none : Bool)
+    (q : Part) : Type 0 where
+  pub got : (p : Part) → p ≡ if_over (is_last o.step) none q
+      → counted i n spent p ≡ local_got (view_of i) w
+  pub turn : turn_of o.step ≡ turn_of (part_step i.config (part_of i) w)
+  pub fits : (p : Part) → p ≡ if_over (is_last o.step) none q → IsLocal (counted i n spent p)
+  pub rate : n.rate ≡ i.rate
+  pub object : n.object ≡ i.config.object
+
+module _ (i : Inside) (k : IsLocal (view_of i)) (rate : i.account.rate ≡ i.rate)
+    (object : i.account.object ≡ i.config.object) (x : Config) (same : x ≡ i.config) (w : ℕ)
+    (o : Outcome) (a : AccountState) (told spent : ℕ)
+    (counts : a ≡ record i.account { balance = balance_on o.unit told i.account.balance })
+    (reads : told ≡ units_told (command_of (view_of i)))
+    (makes : spent ≡ spent_got None o.unit i.spent) where
+  fits_behind : (none : Bool) (q : Part)
+      → PartFits i.config (length i.log.items) (length i.trace.items) i.pass q
+      → length i.log.items < length i.trace.items → IsPassAt i.config i.pass
+      → i.spent + bit o.unit + unit_to_come i.config q ≤ owed (view_of i)
+      → IsAllMade (owed (view_of i)) spent q → IsRoomy i.builder.capacity q
+      → (p : Part) → p ≡ if_over (is_last o.step) none q → IsLocal (counted i a spent p)
+  fits_behind none q fits low pass owes settled roomy p is =
+      let over = over_local i k rate object a o.unit told spent counts reads makes in
+      let some : i.spent + bit o.unit ≤ owed (view_of i) = omega (arith, owes) in
+      behind_local (record (view_of i) { balance = a.balance; spent = spent }) (is_last o.step) none p q is
+      (over Idle true refl low pass some) (over Again false refl low pass some)
+      (counted_local i k rate object a o.unit told spent counts reads makes q fits owes settled roomy)
+
+  pub mark_counted : (m n : GreyState) → part_of i ≡ Mark m → n ≡ grey_got (extent x) m w
+      → o ≡ grey_outcome (extent x) m w → GreyFits x n
+      → Counted i w o a spent (grey_nothing n.row) (Mark n)
+  mark_counted m n at got was fit =
+      let fits = mark_fits i k m at in
+      let both = ties i k rate object a o.unit told spent counts reads makes in
+      record {
+        got = marked i w a told spent o counts reads makes m n x same at got was;
+        turn = mark_turn i m x w o (turn_of o.step) same at was refl;
+        fits = fits_behind (grey_nothing n.row) (Mark n) (subst (λ y. GreyFits y n) same fit, fits.1, fits.2)
+            fits.1 fits.2 (marks_owe i k m n x w o at got was) tt tt;
+        rate = both.0;
+        object = both.1;
+      }
+
+  pub sweep_counted : (s n : SweepState) → part_of i ≡ Sweep s → n ≡ sweep_got s w
+      → o ≡ sweep_outcome s w → SweepFits x n → Counted i w o a spent (sweep_nothing n.row) (Sweep n)
+  sweep_counted s n at got was fit =
+      let fits = swept_fits i k s n at in
+      let both = ties i k rate object a o.unit told spent counts reads makes in
+      record {
+        got = swept i w a told spent o counts reads makes s n at got was;
+        turn = sweep_turn i s w o (turn_of o.step) at was refl;
+        fits = fits_behind (sweep_nothing n.row) (Sweep n) (subst (λ y. SweepFits y n) same fit, fits.1, fits.2)
+            fits.1 fits.2 (swept_owes i k s n at x w o.unit got (ap (λ (y : Outcome). y.unit) was) fit) tt tt;
+        rate = both.0;
+        object = both.1;
+      }
+
+-- what a sweep keeps of its thread
+pub sweep_stays : (t c b owed w : ℕ) (s n : SweepState) → n ≡ sweep_got s w
+    → s ≡ record { thread = t; cycle = c; blocks = b; owed = owed; row = s.row }
+    → n ≡ record { thread = t; cycle = c; blocks = b; owed = owed; row = n.row }
+sweep_stays t c b owed w s n got at = λ j. record {
+  thread = (ap (λ (x : SweepState). x.thread) got ∙ ap (λ (x : SweepState). x.thread) at) j;
+  cycle = (ap (λ (x : SweepState). x.cycle) got ∙ ap (λ (x : SweepState). x.cycle) at) j;
+  blocks = (ap (λ (x : SweepState). x.blocks) got ∙ ap (λ (x : SweepState). x.blocks) at) j;
+  owed = (ap (λ (x : SweepState). x.owed) got ∙ ap (λ (x : SweepState). x.owed) at) j;
+  row = n.row;
+}
+
+-- The loop of such a pass, of which so many events were made: it begins, has one more, or ends.
+pub begins : {M S : Type 0} (acts : Acts M S) (s : S) (m : M) (l : LocalState) (i : Inside) (r : Row)
+    → (k : IsLocal (view_of i)) → i.account.rate ≡ i.rate → i.account.object ≡ i.config.object
+    → length i.trace.items ≤ vec_capacity i.log
+    → i.price ≡ units_owed i.config.width i.rate (command_behind i.trace.items i.log.items)
+    → view_of i ≡ l → over_part i r ≡ part_of i
+    → (g : Goes acts s m l m (record i { row = r })) × (length g.run.words ≡ 0)
+begins acts s m l i r k rate object room price is at =
+    let same : view_of (record i { row = r }) ≡ view_of i = λ j. record (view_of i) { part = at j } in (
+      record {
+        fits = subst IsLocal (sym same) k;
+        rate = rate;
+        object = object;
+        room = room;
+        price = price;
+        run = record { words = []; ran = (refl, sym (same ∙ is)); told = refl };
+      },
+      refl,
+    )
+
+module _ {M S : Type 0} (may : M → S → Op → Type 0) {acts : Acts M S} {s : S} {before : M}
+    {self : LocalState} {m : M} {i : Inside} (k : Goes acts s before self m i) (most made : ℕ)
+    (long : length k.run.words ≡ made) (low : made < most)
+    (has : MayRun may acts (most - made) m s (view_of i)) (going : is_done (view_of i) ≡ false)
+    {w : ℕ} {after : M} (acted : acts m s (op_wanted (view_of i)) w after)
+    {o : Outcome} {n : AccountState} {spent : ℕ} {none : Bool} {q : Part}
+    (is : Counted i w o n spent none q) where
+  pub ends : (r : Row) → over_part i r ≡ if_over (is_last o.step) none q → (turn : Turn)
+      → turn ≡ turn_of o.step
+      → HasRunIn most acts s before self after (counted i n spent (over_part i r)) turn
+  ends r part turn told = more_ends may k.run most made long low has (going_in (view_of i) k.fits going)
+      acted (is.got (over_part i r) part, told ∙ is.turn)
+
+  pub goes : (r : Row) → over_part i r ≡ q → goes_on o.step ≡ true
+      → (g : Goes acts s before self after (record i { account = n; spent = spent; row = r }))
+      × MayRun may acts (most - (made + 1)) after s (counted i n spent (over_part i r))
+      × (length g.run.words ≡ made + 1)
+  goes r part on =
+      let went = went_on o.step on in
+      let at : over_part i r ≡ if_over (is_last o.step) none q =
+      part ∙ (λ j. if_over (sym went.0 j) none q) in
+      let more = more_goes may k.run most made long low has (going_in (view_of i) k.fits going) acted
+      (is.got (over_part i r) at, went.1 ∙ is.turn) refl in (
+        record {
+          fits = is.fits (over_part i r) at;
+          rate = is.rate;
+          object = is.object;
+          room = k.room;
+          price = k.price;
+          run = more.0;
+        },
+        more.1,
+        more.2,
+      )

@@ -1,32 +1,28 @@
 -- What the code of a pass that pays meets: a unit that it makes is owed, and counts once.
-use Rattle.std.proofs.Common.{◌≡◌, ℕ, ◌+◌, ◌-◌, ◌*◌, ◌<◌, ◌≤◌, ◌^◌, Bool, true, false, not, ◌||◌, cond, None, List, length, append-nil, is_some, refl, sym, ap, ◌∙◌, subst, arith}
+use Rattle.std.proofs.Common.{◌≡◌, ℕ, ◌+◌, ◌-◌, ◌*◌, ◌<◌, ◌≤◌, ◌^◌, Bool, true, false, not, ◌||◌, cond, None, List, length, is_some, refl, sym, ap, ◌∙◌, subst, arith}
 use Rattle.block_store.specs.declared.Config.{Config}
 use Rattle.block_store.specs.Phases.{bit}
 use Rattle.block_store.specs.Places.{Extent}
-use Rattle.heap_machine.specs.declared.Outcome.{Outcome}
 use Rattle.grey_steps.specs.Ends.{is_blackening}
 use Rattle.grey_steps.specs.Rows.{GreyState, grey_got, grey_unit}
 use Rattle.grey_steps.proofs.Ends.{unit_after, unit_once}
-use Rattle.sweep_steps.specs.Ends.{row_passes, sweep_outcome}
+use Rattle.sweep_steps.specs.Ends.{row_passes}
 use Rattle.sweep_steps.specs.Fits.{SweepFits}
-use Rattle.sweep_steps.specs.Rows.{SweepState, sweep_got, sweep_passed, sweep_over, sweep_nothing}
+use Rattle.sweep_steps.specs.Rows.{SweepState, sweep_got, sweep_passed}
 use Rattle.sweep_steps.proofs.PassedBlocks.{passed_bits, passed_few}
 use Rattle.work_account.specs.Accounts.{AccountState}
 use Rattle.heap_system.specs.declared.local.Local.TheInside.{Inside}
-use Rattle.heap_system.specs.Parts.{part_at, Part, Mark, Sweep, Again, Idle, TurnOver}
+use Rattle.heap_system.specs.Parts.{part_at, Part, Sweep, Again, Idle, TurnOver}
 use Rattle.heap_system.specs.declared.rows.Row.{Row}
 use Rattle.heap_system.specs.declared.rows.Row.TheVariants as rows
-use Rattle.heap_machine.specs.declared.pass.Pass.{Pass}
 use Rattle.heap_machine.specs.declared.gate.GateRow.{GateRow}
-use Rattle.grey_steps.specs.declared.rows.GreyRow.{GreyRow}
-use Rattle.sweep_steps.specs.declared.rows.SweepRow.{SweepRow}
 use Rattle.never_heap.specs.declared.Command.{Command}
 use Rattle.never_heap.specs.declared.Entry.{Entry}
 use Rattle.never_heap.specs.RightWork.{units_told}
 use Rattle.never_heap.specs.Steps.{blocks_of}
-use Rattle.heap_system.specs.Locals.{LocalState, told_behind, IsLocal, PartFits, IsRoomy, IsAllMade, IsPassAt, balance_on, spent_got, command_of, owed, unit_to_come, works, is_last, local_got}
+use Rattle.heap_system.specs.Locals.{LocalState, told_behind, IsLocal, PartFits, IsRoomy, IsAllMade, IsPassAt, balance_on, spent_got, command_of, owed, unit_to_come, works}
 use Rattle.heap_system.proofs.Balances.{paid_after, part_low, units_on, sound_on}
-use Rattle.heap_system.proofs.OwedAndPaid.{part_of, view_of, price_low, paid_low, worked_low, swept_last}
+use Rattle.heap_system.proofs.OwedAndPaid.{part_of, view_of, price_low, paid_low, worked_low}
 use Rattle.heap_system.proofs.parts.InPass.{paid_more}
 
 -- what the command in hand is told to make, read off the trace behind the log
@@ -160,26 +156,6 @@ module _ (i : Inside) (k : IsLocal (view_of i)) (s n : SweepState) (at : part_of
             (owed (view_of i)) (subst (λ p. i.spent + unit_to_come i.config p ≤ owed (view_of i)) at k.paid),
       )
 
--- a Sweep pass that is not over
-pub swept_got : (i : Inside) (s n : SweepState) (w : ℕ) (a : AccountState) (told spent : ℕ) (o : Outcome)
-    → part_of i ≡ Sweep s → n ≡ sweep_got s w → is_last o.step ≡ false → o ≡ sweep_outcome s w
-    → a ≡ record i.account { balance = balance_on o.unit told i.account.balance }
-    → told ≡ units_told (command_of (view_of i)) → spent ≡ spent_got None o.unit i.spent
-    → record (view_of i) { balance = a.balance; spent = spent; part = Sweep n } ≡ local_got (view_of i) w
-swept_got i s n w a told spent o at got on was counts same makes =
-    let unit : o.unit ≡ is_some (row_passes s.cycle s.row w) = ap (λ (x : Outcome). x.unit) was in
-    let goes : sweep_over (sweep_got s w).row ≡ false =
-    sym (swept_last s w) ∙ sym (ap (λ (x : Outcome). is_last x.step) was) ∙ on in
-    (λ j. record (view_of i) { balance = (counts j).balance; spent = makes j; part = Sweep (got j) })
-    ∙ (λ j. record (view_of i) {
-      log = sym (append-nil i.log.items) j;
-      balance = balance_on (unit j) (same j) i.account.balance;
-      spent = spent_got None (unit j) i.spent;
-      part = cond (sym goes j) (cond (sweep_nothing (sweep_got s w).row) Idle Again)
-          (Sweep (sweep_got s w));
-    })
-    ∙ sym (ap (λ p. local_got (record (view_of i) { part = p }) w) at)
-
 -- a part that turns the phase over, as the code keeps it, with this row of the gate
 pub turn_to : (i : Inside) (g : GateRow) → i.row ≡ rows.TurnOver
     → part_at i.config i.pass i.field g i.builder i.row ≡ TurnOver g
@@ -196,34 +172,3 @@ over_at i r none is = ap (over_part i) is ∙ by none
     by : (b : Bool) → over_part i (cond b rows.Idle rows.Again) ≡ cond b Idle Again
     by true = refl
     by false = refl
-
--- a Mark pass as the code keeps it, and behind its event
-pub mark_at : (i : Inside) (r : GreyRow) (m : GreyState) → i.row ≡ rows.Mark r
-    → m ≡ record { pass = i.pass; row = r } → part_of i ≡ Mark m
-mark_at i r m is at = ap (part_at i.config i.pass i.field i.gate i.builder) is
-    ∙ sym (ap Mark at)
-
-pub mark_back : (q : Pass) (r s : GreyRow) (e : Extent) (m n : GreyState) (w : ℕ)
-    → m ≡ record { pass = q; row = r } → n ≡ grey_got e m w → s ≡ n.row
-    → Mark n ≡ Mark (record { pass = q; row = s })
-mark_back q r s e m n w at got is =
-    let p : n.pass ≡ q = ap (λ (x : GreyState). x.pass) got ∙ ap (λ (x : GreyState). x.pass) at in
-    λ j. Mark (record { pass = p j; row = sym is j })
-
--- and a Sweep pass
-pub sweep_at : (i : Inside) (owed : ℕ) (r : SweepRow) (s : SweepState) → i.row ≡ rows.Sweep owed r
-    → s ≡ record { thread = i.pass.thread; cycle = i.pass.cycle; blocks = i.config.blocks; owed = owed; row = r }
-    → part_of i ≡ Sweep s
-sweep_at i owed r s is at = ap (part_at i.config i.pass i.field i.gate i.builder) is
-    ∙ sym (ap Sweep at)
-
-pub sweep_back : (t c b owed : ℕ) (r : SweepRow) (s n : SweepState) (row : SweepRow) (w : ℕ)
-    → s ≡ record { thread = t; cycle = c; blocks = b; owed = owed; row = r } → n ≡ sweep_got s w → row ≡ n.row
-    → Sweep n ≡ Sweep (record { thread = t; cycle = c; blocks = b; owed = owed; row = row })
-sweep_back t c b owed r s n row w at got is = λ j. Sweep (record {
-  thread = (ap (λ (x : SweepState). x.thread) got ∙ ap (λ (x : SweepState). x.thread) at) j;
-  cycle = (ap (λ (x : SweepState). x.cycle) got ∙ ap (λ (x : SweepState). x.cycle) at) j;
-  blocks = (ap (λ (x : SweepState). x.blocks) got ∙ ap (λ (x : SweepState). x.blocks) at) j;
-  owed = (ap (λ (x : SweepState). x.owed) got ∙ ap (λ (x : SweepState). x.owed) at) j;
-  row = sym is j;
-})

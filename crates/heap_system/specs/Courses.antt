@@ -1,12 +1,14 @@
 -- A thread that makes event after event: the words that it reads lead it on.
-use Rattle.std.specs.Prelude.{ℕ, ◌<◌, ◌≡◌, Bool, true, false, List, [], ◌∷◌, length}
+use Rattle.std.specs.Prelude.{ℕ, zero, suc, ◌<◌, ◌≤◌, ◌≡◌, Bool, true, false, List, [], ◌∷◌, length}
 use Rattle.heap_machine.specs.declared.op.Op.{Op}
 use Rattle.heap_machine.specs.declared.Step.{Step}
 use Rattle.heap_machine.specs.declared.Step.TheVariants as steps
 use Rattle.heap_machine.specs.Memories.{Acts, ReadsOnly}
+use Rattle.heap_machine.specs.Operations.{op_place}
+use Rattle.block_store.specs.Places.{extent, words_count}
 use Rattle.heap_system.specs.declared.Turn.{Turn}
 use Rattle.heap_system.specs.declared.Turn.TheVariants.{Went, Waited}
-use Rattle.heap_system.specs.Locals.{LocalState, LocalReads, local_got, part_step, turn_of, op_wanted}
+use Rattle.heap_system.specs.Locals.{LocalState, LocalReads, is_done, local_got, part_step, turn_of, op_wanted}
 
 -- none of these events waited but perhaps the last, of which this turn tells; Went tells of none
 abbrev pub TellsLast : LocalState → List ℕ → Turn → Type 0
@@ -15,12 +17,17 @@ TellsLast l (w ∷ []) turn = turn ≡ turn_of (part_step l.config l.part w)
 TellsLast l (w ∷ v ∷ ws) turn =
     (Went ≡ turn_of (part_step l.config l.part w)) × TellsLast (local_got l w) (v ∷ ws) turn
 
+-- a thread that is not done, whose next event is on one of the heap's words
+abbrev pub IsGoing : LocalState → Type 0
+IsGoing l = (is_done l ≡ false) × (op_place (op_wanted l) < words_count (extent l.config))
+
 -- A memory made the events of a thread one after the other: each is the one that the thread wants
--- there, and reads one of these words, which its row may read. So are memory and thread behind them.
+-- there, which is not done, and reads one of these words, which its row may read. So are memory and
+-- thread behind them.
 abbrev pub Ran : {M S : Type 0} → Acts M S → S → M → LocalState → List ℕ → M → LocalState → Type 0
 Ran acts s m l [] n k = (m ≡ n) × (l ≡ k)
 Ran {M} acts s m l (w ∷ ws) n k = (o : M) × acts m s (op_wanted l) w o × LocalReads l.config l w
-    × Ran acts s o (local_got l w) ws n k
+    × Ran acts s o (local_got l w) ws n k × IsGoing l
 
 -- a step that does not wait, of a part that is not over behind it
 abbrev pub goes_on : Step → Bool
@@ -50,3 +57,19 @@ pub record Leads {M S : Type 0} (may : M → S → Op → Type 0) (acts : Acts M
   pub allowed : may m s (op_wanted l)
   pub reads : ReadsOnly acts m s (op_wanted l) (LocalReads l.config l)
   pub on : (w : ℕ) (n : M) → acts m s (op_wanted l) w n → stands n s (local_got l w)
+
+-- So many events of a thread may be made by a memory, one after the other: while it is not done, the
+-- memory may make the next, which reads no word that the row may not, and then those behind it.
+abbrev pub MayRun : {M S : Type 0} → (M → S → Op → Type 0) → Acts M S → ℕ → M → S → LocalState → Type 0
+MayRun may acts zero m s l = Unit {0}
+MayRun may acts (suc k) m s l = IsGoing l → Leads may acts (MayRun may acts k) m s l
+
+-- the most events that are made in a row
+abbrev pub longest : ℕ
+longest = 64
+
+-- one at least, and at most so many
+abbrev pub HasRunIn : {M S : Type 0} → ℕ → Acts M S → S → M → LocalState → M → LocalState → Turn → Type 0
+HasRunIn most acts s before old after new turn =
+    (run : HasRun acts s before old after new turn) × (0 < length run.words)
+    × (length run.words ≤ most)

@@ -13,7 +13,7 @@ use Rattle.never_heap.specs.Graphs.{Graph, Object, Record, no_object, set_field,
 use Rattle.never_heap.specs.Steps.{step}
 use Rattle.control_heap.specs.Controls.{Control, asked, units}
 use Rattle.operations.proofs.LiveBound as holding
-use Rattle.asked_graph.specs.Shown.{IsSmall, AllAreSmall, AllFollow, Shows, graph_behind, last_reply}
+use Rattle.asked_graph.specs.Shown.{IsSmall, AllAreSmall, AllFollow, HasMetNoFull, graph_behind, last_reply}
 use Rattle.asked_graph.specs.Asked.{HasUsed}
 use Rattle.historian_core.specs.declared.Limits.{Limits}
 use Rattle.historian_core.specs.Kept.{heap_config, IsPlain, IsHeld, IsRing, Holds, Keeps, kept_graph, name_at, record_of, listed, listed_from, refers}
@@ -272,7 +272,7 @@ module _ (l : Limits) (xs : List ℕ) (h : Control) (k : Holds h l xs) (v : ℕ)
       (ends replies.Stored g5)))))
 
   pub keeps_more : (new : Control) (a : Reply) → v < 2 ^ 32 → new.config ≡ h.config
-      → AllFollow h (kept_commands l (length xs) v) a new
+      → AllFollow HasMetNoFull h (kept_commands l (length xs) v) a new
       → HasUsed h (kept_commands l (length xs) v) new → Holds new l (xs ++ v ∷ [])
   keeps_more new a low same follows took =
       let by = follows (kept_graph k.a k.b k.c k.d os k.fields) k.shows
@@ -291,7 +291,7 @@ module _ (l : Limits) (xs : List ℕ) (h : Control) (k : Holds h l xs) (v : ℕ)
         d_plain = k.d_plain;
         ring = ring;
         low = all_more xs v k.low low;
-        shows = subst (Shows new)
+        shows = subst (HasMetNoFull new)
             (keeps_going.left
             ∙ ap (λ o. kept_graph n (Int v) k.c k.d o both) (sym (map_more xs v))) by.1;
         objects =
@@ -316,11 +316,11 @@ module _ (l : Limits) (xs : List ℕ) (h : Control) (k : Holds h l xs) (v : ℕ)
 
   pub keeps_told : (new : Control) (a : Reply) (value from count : ℕ) → value ≡ v
       → from ≡ listed_from l v → length xs ≡ count → v < 2 ^ 32 → new.config ≡ h.config
-      → AllFollow h (asked_commands value from count) a new
+      → AllFollow HasMetNoFull h (asked_commands value from count) a new
       → HasUsed h (asked_commands value from count) new → Holds new l (xs ++ v ∷ [])
   keeps_told new a value from count e f s low same follows took =
       keeps_more new a low same
-      (subst (λ ks. AllFollow h ks a new) (λ t. asked_commands (e t) (f t) (sym s t)) follows)
+      (subst (λ ks. AllFollow HasMetNoFull h ks a new) (λ t. asked_commands (e t) (f t) (sym s t)) follows)
       (subst (λ ks. HasUsed h ks new) (λ t. asked_commands (e t) (f t) (sym s t)) took)
 
 -- ---- and one that is fetched
@@ -367,7 +367,7 @@ module _ (l : Limits) (xs : List ℕ) (h : Control) (k : Holds h l xs) (i : ℕ)
       (ends (replies.Val (Int reading)) (kept_graph k.a k.b c (Int reading) records k.fields)))
 
   pub fetched : (new : Control) (a : Reply) → new.config ≡ h.config
-      → AllFollow h (fetched_commands i) a new → HasUsed h (fetched_commands i) new
+      → AllFollow HasMetNoFull h (fetched_commands i) a new → HasUsed h (fetched_commands i) new
       → (a ≡ replies.Val (Int (slice_index_or xs i 0))) × Holds new l xs
   fetched new a same follows took =
       let by = follows (kept_graph k.a k.b k.c k.d records k.fields) k.shows
@@ -387,7 +387,7 @@ module _ (l : Limits) (xs : List ℕ) (h : Control) (k : Holds h l xs) (i : ℕ)
           d_plain = tt;
           ring = k.ring;
           low = k.low;
-          shows = subst (Shows new) going.left by.1;
+          shows = subst (HasMetNoFull new) going.left by.1;
           objects = omega (arith, k.objects, fetched_objects h new i took);
           units = λ rate is_rate.
               omega (
@@ -428,7 +428,7 @@ module _ (l : Limits) (xs : List ℕ) (h : Control) (k : Holds h l xs) (i : ℕ)
   refers_marked false = refl
 
   pub found_listed : (new : Control) (a : Reply) → new.config ≡ h.config
-      → AllFollow h (listed_commands i) a new → HasUsed h (listed_commands i) new
+      → AllFollow HasMetNoFull h (listed_commands i) a new → HasUsed h (listed_commands i) new
       → (refers a ≡ mark l (slice_index_or xs i 0)) × Holds new l xs
   found_listed new a same follows took =
       let by = follows (kept_graph k.a k.b k.c k.d records k.fields) k.shows
@@ -448,7 +448,7 @@ module _ (l : Limits) (xs : List ℕ) (h : Control) (k : Holds h l xs) (i : ℕ)
           d_plain = k.d_plain;
           ring = k.ring;
           low = k.low;
-          shows = subst (Shows new) looking.left by.1;
+          shows = subst (HasMetNoFull new) looking.left by.1;
           objects = omega (arith, k.objects, listed_objects h new i took);
           units = λ rate is_rate.
               omega (
@@ -466,7 +466,7 @@ number_low l xs h k i = all_at xs i k.low
 -- ---- the opening heap
 
 pub keeps_none : (l : Limits) (h : Control) → h.config ≡ heap_config
-    → Shows h (start_graph heap_config) → (asked h ≡ 0) × (units h ≡ 0) × (h.objects ≡ 0)
+    → HasMetNoFull h (start_graph heap_config) → (asked h ≡ 0) × (units h ≡ 0) × (h.objects ≡ 0)
     → Keeps h l []
 keeps_none l h same shows fresh = record {
   holds = record {

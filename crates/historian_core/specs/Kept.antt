@@ -11,7 +11,7 @@ use Rattle.never_heap.specs.declared.Reply.{Reply}
 use Rattle.never_heap.specs.declared.Reply.TheVariants.{Val}
 use Rattle.never_heap.specs.Graphs.{Graph, Object, Record, Array, nils, shared_name}
 use Rattle.control_heap.specs.Controls.{Control, asked, units}
-use Rattle.asked_graph.specs.Shown.{Shows}
+use Rattle.asked_graph.specs.Shown.{HasMetNoFull}
 use Rattle.historian_core.specs.declared.Limits.{Limits}
 use Rattle.historian_core.specs.Windows.{is_alarm, alarms_in, last_ones}
 
@@ -99,7 +99,7 @@ pub record Holds (h : Control) (l : Limits) (xs : List ℕ) : Type 0 where
   pub d_plain : IsPlain d
   pub ring : IsRing l xs fields
   pub low : AllByRecursion (λ (x : ℕ). x < 2 ^ 32) xs
-  pub shows : Shows h (kept_graph a b c d (map record_of xs) fields)
+  pub shows : HasMetNoFull h (kept_graph a b c d (map record_of xs) fields)
   pub objects : h.objects ≡ length xs
   pub units : (rate : ℕ) → IsRate heap_config rate → units h ≡ rate * length xs
 

@@ -179,7 +179,7 @@ pub fn tell<K: Sink>(
 /// No allocation of a heap that keeps readings was answered full.
 pub fn readings_met_no_full()
     ensures { (h : Control) (l : Limits) (xs : List ℕ) (k : Keeps h l xs)
-        → NoFulls k.holds.shows.run.order }
+        → NoFulls k.holds.shows.shows.run.order }
 {
     shown_heaps_met_no_full();
 }

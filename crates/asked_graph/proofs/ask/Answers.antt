@@ -6,12 +6,24 @@ use Rattle.heap_system.specs.Lives.{objects_of}
 use Rattle.control_heap.specs.declared.control.Refused.{Refused}
 use Rattle.control_heap.specs.Controls.{Control, HasLeft, HasAnswered, asked}
 use Rattle.asked_graph.specs.Asked.{HasDone}
-use Rattle.asked_graph.proofs.GraphAnswers.{follows_ok}
+use Rattle.asked_graph.proofs.GraphAnswers.{follows_ok, goes_ok, never_ok}
 use Rattle.asked_graph.proofs.ask.Goals as goal
 
 pub returns-clause-shown : goal.returns-clause-shown
 returns-clause-shown c =
-    follows_ok c.histories_are_right.ensures.legal c.histories_are_right.ensures.never
+    follows_ok c.histories_are_right.ensures.legal c.histories_are_right.ensures.licensed
+    c.args.heap.now c.ask.new.self c.args.command c.ask.result c.ask.ensures.config
+    c.ask.ensures.answered
+
+pub returns-clause-never : goal.returns-clause-never
+returns-clause-never c =
+    never_ok c.histories_are_right.ensures.legal c.histories_are_right.ensures.licensed
+    c.args.heap.now c.ask.new.self c.args.command c.ask.result c.ask.ensures.config
+    c.ask.ensures.answered
+
+pub returns-clause-goes : goal.returns-clause-goes
+returns-clause-goes c =
+    goes_ok c.histories_are_right.ensures.legal c.histories_are_right.ensures.licensed
     c.args.heap.now c.ask.new.self c.args.command c.ask.result c.ask.ensures.config
     c.ask.ensures.answered
 

@@ -4,13 +4,14 @@ use Rattle.std.proofs.Common.{◌≡◌, drop}
 use Rattle.control_heap.specs.Controls.{Control}
 use Rattle.control_heap.specs.declared.control.Refused.{Refused}
 use Rattle.asked_graph.specs.Asked.{HasDoneAll, RefusesOne}
-use Rattle.asked_graph.specs.Shown.{Leads}
+use Rattle.asked_graph.specs.Shown.{HasMetNoFull, Leads, Shows}
 use Rattle.asked_graph.proofs.ask_all.Given as goal
 
 abbrev pub invariant-loop-command : goal.invariant-loop-command
 invariant-loop-command l = record {
   config : l.heap.config ≡ l.initial.heap.config;
-  leads : Leads l.initial.heap l.commands l.heap l.reply (drop l.command-index l.commands);
+  leads : Leads Shows l.initial.heap l.commands l.heap l.reply (drop l.command-index l.commands);
+  never : Leads HasMetNoFull l.initial.heap l.commands l.heap l.reply (drop l.command-index l.commands);
   done : (z : Control) → HasDoneAll l.heap (drop l.command-index l.commands) z
       → HasDoneAll l.initial.heap l.commands z;
   refused : (r : Refused) (z : Control)

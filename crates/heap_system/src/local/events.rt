@@ -13,16 +13,16 @@ ghost use Rattle.heap_machine.specs.declared.gate.GateRow.{GateRow};
 ghost use Rattle.never_heap.specs.declared.Command.{Command};
 ghost use Rattle.heap_system.specs.Parts.{Part};
 ghost use Rattle.heap_system.specs.declared.rows.Row.TheVariants as rows;
-ghost use Rattle.heap_system.specs.Locals.{answered, LocalReads, HasGot, is_done, is_build, is_at_gate, is_serving, is_marking, is_sweeping, is_on_way_out, part_want, turn_of, is_last, pass_by, first_part, errand_of, command_of, op_wanted, owed};
+ghost use Rattle.heap_system.specs.Locals.{answered, LocalReads, HasGot, is_done, is_build, is_at_gate, is_serving, is_on_way_out, part_want, turn_of, is_last, pass_by, first_part, errand_of, command_of, op_wanted, owed};
 
 use super::Local;
 use crate::Turn;
-use crate::counting::{count, made_after, settle};
+use crate::counting::{made_after, settle};
 use crate::rows::Row;
 use barrier_steps::FieldPass;
 use block_store::{PhaseWord, Places, read_phase};
 use grey_steps::{GreyPass, GreyRow};
-use heap_machine::{Gate, Memory, Op, Outcome, Pass, Step, entering};
+use heap_machine::{Gate, Memory, Op, Pass, Step, entering};
 use never_heap::{Command, Entry, Reply};
 use sweep_steps::{SweepPass, SweepRow};
 
@@ -144,8 +144,8 @@ impl Local {
             Row::TurnOver => self.at_gate(memory, shared),
             Row::Serve => self.serves(memory, shared),
             Row::Build => self.builds(memory, shared),
-            Row::Mark(_) => self.marks(memory, shared),
-            Row::Sweep { .. } => self.sweeps(memory, shared),
+            Row::Mark(_) => self.marks(memory, shared, 1),
+            Row::Sweep { .. } => self.sweeps(memory, shared, 1),
             Row::Again => self.out(memory, shared),
             Row::Idle => self.out(memory, shared),
             Row::Leave => self.out(memory, shared),
@@ -261,76 +261,6 @@ impl Local {
                         turn
                     }
                     None => turn,
-                }
-            }
-            _ => unreachable!(),
-        }
-    }
-
-    // `event`, of a part that marks.
-    #[inline(always)]
-    fn marks<M: Memory>(&mut self, memory: &mut M, shared: &M::Shared) -> Turn
-        requires part { is_marking self.old.part ≡ true }
-        requires may { M.may memory.old shared.now (op_wanted self.old) }
-        requires reads { ReadsOnly M.acts memory.old shared.now (op_wanted self.old)
-            (LocalReads self.old.config self.old) }
-        ensures { ActsOnce M.acts memory.old shared.now (op_wanted self.old) memory.new
-            (λ w. HasGot self.old w self.new result) }
-    {
-        let places = Places::new(&self.config);
-        match &mut self.row {
-            Row::Mark(row) => {
-                let mut scan = GreyPass::at_row(self.pass, *row);
-                let Outcome { step, unit } = scan.event(&places, memory, shared);
-                count(
-                    &mut self.account,
-                    &mut self.spent,
-                    &self.trace,
-                    &self.log,
-                    unit,
-                );
-                if is_last(step) {
-                    self.row = after_pass(scan.nothing());
-                    turn_after(step)
-                } else {
-                    *row = scan.row();
-                    turn_after(step)
-                }
-            }
-            _ => unreachable!(),
-        }
-    }
-
-    // `event`, of a part that sweeps.
-    #[inline(always)]
-    #[tactic(auto, using(crate::proofs::OwedAndPaid::swept_last))]
-    fn sweeps<M: Memory>(&mut self, memory: &mut M, shared: &M::Shared) -> Turn
-        requires part { is_sweeping self.old.part ≡ true }
-        requires may { M.may memory.old shared.now (op_wanted self.old) }
-        requires reads { ReadsOnly M.acts memory.old shared.now (op_wanted self.old)
-            (LocalReads self.old.config self.old) }
-        ensures { ActsOnce M.acts memory.old shared.now (op_wanted self.old) memory.new
-            (λ w. HasGot self.old w self.new result) }
-    {
-        let places = Places::new(&self.config);
-        match &mut self.row {
-            Row::Sweep { owed, row } => {
-                let Pass { thread, cycle, .. } = self.pass;
-                let mut pass = SweepPass::at_row(thread, cycle, self.config.blocks, *owed, *row);
-                let Outcome { step, unit } = pass.event(&places, memory, shared);
-                count(
-                    &mut self.account,
-                    &mut self.spent,
-                    &self.trace,
-                    &self.log,
-                    unit,
-                );
-                if is_last(step) {
-                    self.row = after_pass(pass.nothing());
-                    turn_after(step)
-                } else {
-                    *row = pass.row();
-                    turn_after(step)
                 }
             }
             _ => unreachable!(),

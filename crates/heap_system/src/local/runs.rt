@@ -1,9 +1,9 @@
 //! A thread's events in a row, with the row of a pass that pays in hand.
 
-ghost use Rattle.std.specs.Prelude.{◌≡◌, true, false, if◌then◌else◌};
+ghost use Rattle.std.specs.Prelude.{◌≡◌, ◌<◌, true, false, if◌then◌else◌};
 ghost use Rattle.sweep_steps.specs.Rows.{sweep_nothing};
 ghost use Rattle.heap_system.specs.declared.rows.Row.TheVariants as rows;
-ghost use Rattle.heap_system.specs.Courses.{HasRunOn, goes_on, has_waited};
+ghost use Rattle.heap_system.specs.Courses.{HasRunIn, HasRunOn, MayRun, goes_on, has_waited, longest};
 ghost use Rattle.heap_system.specs.Locals.{is_build, is_done, is_last, is_marking, is_serving, is_sweeping};
 
 use super::Local;
@@ -13,7 +13,7 @@ use crate::rows::Row;
 use crate::{Course, Turn};
 use block_store::Places;
 use grey_steps::GreyPass;
-use heap_machine::{Outcome, Pass, Step};
+use heap_machine::{Memory, Outcome, Pass, Step};
 use sweep_steps::SweepPass;
 
 // The most events that are made in a row.
@@ -63,27 +63,38 @@ impl Local {
         ensures stands { C.stands memory.new shared.now self.new }
         ensures run { HasRunOn C.acts shared.now memory.old self.old memory.new self.new result }
     {
+        self.run(memory, shared)
+    }
+
+    /// Makes events as `events` does, by a memory by which 64 may be made.
+    #[inline(always)]
+    pub fn run<M: Memory>(&mut self, memory: &mut M, shared: &M::Shared) -> Turn
+        requires open { is_done self.old ≡ false }
+        requires may { MayRun M.may M.acts longest memory.old shared.now self.old }
+        ensures { HasRunOn M.acts shared.now memory.old self.old memory.new self.new result }
+    {
         match self.row {
-            Row::Mark(_) => self.marks_on(memory, shared),
-            Row::Sweep { .. } => self.sweeps_on(memory, shared),
+            Row::Mark(_) => self.marks(memory, shared, LONGEST),
+            Row::Sweep { .. } => self.sweeps(memory, shared, LONGEST),
             Row::Serve => self.serves_on(memory, shared),
             Row::Build => self.builds_on(memory, shared),
             _ => self.event(memory, shared),
         }
     }
 
-    // `events`, of a part that marks.
-    fn marks_on<C: Course>(&mut self, memory: &mut C, shared: &C::Shared) -> Turn
+    // So many events at most, of a part that marks.
+    #[inline(always)]
+    pub(super) fn marks<M: Memory>(&mut self, memory: &mut M, shared: &M::Shared, most: u32) -> Turn
         requires part { is_marking self.old.part ≡ true }
-        requires stands { C.stands memory.old shared.now self.old }
-        ensures stands { C.stands memory.new shared.now self.new }
-        ensures run { HasRunOn C.acts shared.now memory.old self.old memory.new self.new result }
+        requires some { 0 < most }
+        requires may { MayRun M.may M.acts most memory.old shared.now self.old }
+        ensures { HasRunIn most M.acts shared.now memory.old self.old memory.new self.new result }
     {
         let places = Places::new(&self.config);
         match self.row {
             Row::Mark(row) => {
                 let mut scan = GreyPass::at_row(self.pass, row);
-                for _ in 0..LONGEST {
+                for _ in 0..most {
                     let Outcome { step, unit } = scan.event(&places, memory, shared);
                     count(
                         &mut self.account,
@@ -104,19 +115,25 @@ impl Local {
         }
     }
 
-    // `events`, of a part that sweeps.
-    fn sweeps_on<C: Course>(&mut self, memory: &mut C, shared: &C::Shared) -> Turn
+    // So many at most, of a part that sweeps.
+    #[inline(always)]
+    pub(super) fn sweeps<M: Memory>(
+        &mut self,
+        memory: &mut M,
+        shared: &M::Shared,
+        most: u32,
+    ) -> Turn
         requires part { is_sweeping self.old.part ≡ true }
-        requires stands { C.stands memory.old shared.now self.old }
-        ensures stands { C.stands memory.new shared.now self.new }
-        ensures run { HasRunOn C.acts shared.now memory.old self.old memory.new self.new result }
+        requires some { 0 < most }
+        requires may { MayRun M.may M.acts most memory.old shared.now self.old }
+        ensures { HasRunIn most M.acts shared.now memory.old self.old memory.new self.new result }
     {
         let places = Places::new(&self.config);
         match self.row {
             Row::Sweep { owed, row } => {
                 let Pass { thread, cycle, .. } = self.pass;
                 let mut pass = SweepPass::at_row(thread, cycle, self.config.blocks, owed, row);
-                for _ in 0..LONGEST {
+                for _ in 0..most {
                     let Outcome { step, unit } = pass.event(&places, memory, shared);
                     count(
                         &mut self.account,
@@ -138,12 +155,11 @@ impl Local {
         }
     }
 
-    // `events`, of a command that makes no object.
-    fn serves_on<C: Course>(&mut self, memory: &mut C, shared: &C::Shared) -> Turn
+    // Of a command that makes no object.
+    fn serves_on<M: Memory>(&mut self, memory: &mut M, shared: &M::Shared) -> Turn
         requires part { is_serving self.old.part ≡ true }
-        requires stands { C.stands memory.old shared.now self.old }
-        ensures stands { C.stands memory.new shared.now self.new }
-        ensures run { HasRunOn C.acts shared.now memory.old self.old memory.new self.new result }
+        requires may { MayRun M.may M.acts longest memory.old shared.now self.old }
+        ensures { HasRunIn longest M.acts shared.now memory.old self.old memory.new self.new result }
     {
         for _ in 0..LONGEST {
             self.wants_a_word();
@@ -155,12 +171,11 @@ impl Local {
         Turn::Went
     }
 
-    // `events`, of an object that is built.
-    fn builds_on<C: Course>(&mut self, memory: &mut C, shared: &C::Shared) -> Turn
+    // Of an object that is built.
+    fn builds_on<M: Memory>(&mut self, memory: &mut M, shared: &M::Shared) -> Turn
         requires part { is_build self.old.part ≡ true }
-        requires stands { C.stands memory.old shared.now self.old }
-        ensures stands { C.stands memory.new shared.now self.new }
-        ensures run { HasRunOn C.acts shared.now memory.old self.old memory.new self.new result }
+        requires may { MayRun M.may M.acts longest memory.old shared.now self.old }
+        ensures { HasRunIn longest M.acts shared.now memory.old self.old memory.new self.new result }
     {
         for _ in 0..LONGEST {
             self.wants_a_word();

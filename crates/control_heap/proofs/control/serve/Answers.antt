@@ -1,30 +1,42 @@
-use Rattle.std.proofs.Common.{refl, sym, ◌∙◌, subst, arith}
-use Rattle.heap_system.specs.Locals.{LocalReads, op_wanted}
-use Rattle.control_heap.specs.Controls.{Machine}
-use Rattle.control_heap.proofs.ServeLoop.{few, safe_here, goes_more, moves_on}
+use Rattle.std.proofs.Common.{[], refl, rules, arith}
+use Rattle.heap_system.specs.Courses.{longest}
+use Rattle.control_heap.proofs.ServeLoop.{few, machine, may_run, came_more}
 use Rattle.control_heap.proofs.control.serve.Goals as goal
 
-pub event-requires-clause-may : goal.event-requires-clause-may
-event-requires-clause-may c =
-    let m : Machine = record { words = c.args.words.now; thread = c.args.thread.now } in
-    let x : Machine = record { words = c.loop-turn.words; thread = c.loop-turn.thread } in
-    let s = safe_here m c.requires c.loop-turn._turn c.loop-turn.invariant.goes x c.loop-turn.invariant.at in (s.0, s.1)
+pub run-requires-clause-may : goal.run-requires-clause-may
+run-requires-clause-may g c =
+    let is = c.loop-run.invariant in
+    may_run g.M.Memory.may g.M.Memory.acts g.M.Store.shows g.met.M.Store.allows g.met.M.Store.keeps
+    c.args.memory.now c.args.thread.now c.requires longest is.events c.loop-run.memory c.loop-run.thread is.at is.goes
 
-pub event-requires-clause-reads : goal.event-requires-clause-reads
-event-requires-clause-reads c w new acted =
-    let m : Machine = record { words = c.args.words.now; thread = c.args.thread.now } in
-    let x : Machine = record { words = c.loop-turn.words; thread = c.loop-turn.thread } in
-    let s = safe_here m c.requires c.loop-turn._turn c.loop-turn.invariant.goes x c.loop-turn.invariant.at in
-    subst (λ y. LocalReads c.loop-turn.thread.config c.loop-turn.thread y) (sym acted.0) s.2
+pub loop-run-preserved : goal.loop-run-preserved
+loop-run-preserved g c =
+    came_more g.M.Memory.may g.M.Memory.acts g.M.Store.shows g.met.M.Store.allows g.met.M.Store.keeps
+    c.args.memory.now c.args.thread.now c.requires c.loop-run.memory c.loop-run.thread c.loop-run._run
+    c.loop-run.invariant c.run.new.memory c.run.new.self c.run.result c.run.ensures
 
-pub loop-turn-preserved : goal.loop-turn-preserved
-loop-turn-preserved c =
-    let m : Machine = record { words = c.args.words.now; thread = c.args.thread.now } in
-    let x : Machine = record { words = c.loop-turn.words; thread = c.loop-turn.thread } in
+pub loop-run-init : goal.loop-run-init
+loop-run-init g c = record {
+  words = [];
+  ran = (refl, refl);
+  events = 0;
+  at = refl;
+  goes = λ i low. absurd (omega (arith, low));
+  many = omega arith;
+  counted = refl;
+}
+
+pub returns-then-done : goal.returns-then-done
+returns-then-done g c =
+    let is = c.loop-run.invariant in
     record {
-      at = moves_on m c.loop-turn._turn x c.loop-turn.invariant.at (op_wanted c.loop-turn.thread) refl c.event.ensures.0 c.event.ensures.1.0 c.event.new.memory c.event.ensures.1.1 c.event.new.self c.event.ensures.2.0;
-      goes = goes_more m c.loop-turn._turn c.loop-turn.invariant.goes x c.loop-turn.invariant.at (sym c.done.ensures ∙ c.if-done.false);
+      words = is.words;
+      ran = is.ran;
+      served = record { events = is.events; going = is.goes; after = is.at; done = search rules };
+      counted = is.counted;
     }
 
 pub unreachable-requires : goal.unreachable-requires
-unreachable-requires c = omega (arith, few (record { words = c.args.words.now; thread = c.args.thread.now }) c.requires c.loop-turn._turn c.loop-turn.invariant.goes, c.loop-turn-test.false)
+unreachable-requires g c =
+    let is = c.loop-run.invariant in
+    omega (arith, few (machine g.M.Store.shows c.args.memory.now c.args.thread.now) c.requires is.events is.goes, is.many, c.loop-run-test.false)

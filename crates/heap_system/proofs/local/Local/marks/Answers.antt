@@ -1,65 +1,126 @@
-use Rattle.std.proofs.Common.{◌+◌, ◌≤◌, not, subst, rules, ap, length, arith}
-use Rattle.block_store.specs.Phases.{bit}
-use Rattle.block_store.specs.Places.{extent}
-use Rattle.heap_machine.specs.declared.Outcome.{Outcome}
-use Rattle.grey_steps.specs.Fits.{GreyFits}
-use Rattle.grey_steps.specs.Rows.{grey_unit}
+use Rattle.std.proofs.Common.{true, ◌≡◌, refl, sym, ap, ◌∙◌, subst, arith}
+use Rattle.grey_steps.specs.Rows.{GreyState, grey_nothing}
+use Rattle.heap_system.specs.declared.local.Local.TheInside.{Inside}
+use Rattle.heap_system.specs.declared.rows.Row.TheVariants as rows
+use Rattle.heap_system.specs.declared.Turn.TheVariants.{Went}
 use Rattle.heap_system.specs.Parts.{Mark}
-use Rattle.heap_system.specs.Locals.{owed, unit_to_come, IsLocal, PartFits}
-use Rattle.heap_system.proofs.OwedAndPaid.{view_of}
-use Rattle.heap_system.proofs.UnitMade.{counted_local, mark_owes, units_few, spent_few, unit_owed, ties, over_local, mark_at, mark_back, over_part, over_at, units_read}
+use Rattle.heap_system.specs.Courses.{HasRunIn, MayRun}
+use Rattle.heap_system.specs.Locals.{if_over, is_last}
+use Rattle.heap_system.proofs.OwedAndPaid.{part_of, view_of}
+use Rattle.heap_system.proofs.UnitMade.{units_few, spent_few, unit_owed, over_at, over_part, units_read}
+use Rattle.heap_system.proofs.Runs.{allowed, reads_well, leads_on, leads_at, going_in, none_made}
+use Rattle.heap_system.proofs.RunEvents.{mark_counted, mark_goes, begins, ends, goes, marks_owe}
 use Rattle.heap_system.proofs.local.Local.marks.Goals as goal
+
+pub event-step-requires-clause-may : goal.event-step-requires-clause-may
+event-step-requires-clause-may g c =
+    let inv = c.loop.invariant in
+    let i : Inside = record c.loop.self-inside { row = rows.Mark c.loop.scan.row } in
+    let at : part_of i ≡ Mark c.loop.scan = λ j. Mark (record { pass = sym inv.3 j; row = c.loop.scan.row }) in
+    let lead = leads_at g.M.Memory.may g.M.Memory.acts c.args.most c.loop.counter (omega (arith, c.loop-test.true)) c.loop.memory
+    c.args.shared.now (view_of i) inv.1 (going_in (view_of i) inv.0.fits refl) in
+    allowed c.new-places.result (Mark c.loop.scan) inv.2 at lead
+
+pub event-step-requires-clause-reads : goal.event-step-requires-clause-reads
+event-step-requires-clause-reads g c =
+    let inv = c.loop.invariant in
+    let i : Inside = record c.loop.self-inside { row = rows.Mark c.loop.scan.row } in
+    let at : part_of i ≡ Mark c.loop.scan = λ j. Mark (record { pass = sym inv.3 j; row = c.loop.scan.row }) in
+    let lead = leads_at g.M.Memory.may g.M.Memory.acts c.args.most c.loop.counter (omega (arith, c.loop-test.true)) c.loop.memory
+    c.args.shared.now (view_of i) inv.1 (going_in (view_of i) inv.0.fits refl) in
+    reads_well c.new-places.result (Mark c.loop.scan) inv.2 at lead
 
 pub count-requires-clause-owed : goal.count-requires-clause-owed
 count-requires-clause-owed g c =
-    -- the units owed behind the event
-    let owes : c.self.inside.spent + bit c.event-step.result.unit + bit (not (grey_unit c.event-step.new.self.row)) ≤ owed (view_of c.self.inside) =
-    mark_owes (extent c.new-places.result) c.at_row-scan.result c.event-step.new.self c.event-step.ensures.acted.0 c.event-step.result.unit c.event-step.ensures.acted.2.0 (ap (λ (x : Outcome). x.unit) c.event-step.ensures.acted.2.1) _ _
-    (subst (λ p. c.self.inside.spent + unit_to_come c.self.inside.config p ≤ owed (view_of c.self.inside)) (mark_at c.self.inside c.in-Mark.row c.at_row-scan.result c.in-Mark.is c.at_row-scan.ensures) c.self.invariant.0.paid) in
-    unit_owed c.self.inside c.self.invariant.0 c.self.invariant.1 c.self.invariant.2 _ c.event-step.result.unit _ (units_read (view_of c.self.inside) _ _ c.deref.ensures.value c.deref-in-Mark.ensures.value) owes
+    let inv = c.loop.invariant in
+    let i : Inside = record c.loop.self-inside { row = rows.Mark c.loop.scan.row } in
+    let at : part_of i ≡ Mark c.loop.scan = λ j. Mark (record { pass = sym inv.3 j; row = c.loop.scan.row }) in
+    let acted = c.event-step.ensures.acted in
+    unit_owed i inv.0.fits inv.0.rate inv.0.object _ c.event-step.result.unit _
+    (units_read (view_of i) _ _ c.deref.ensures.value c.deref-in-loop.ensures.value)
+    (marks_owe i inv.0.fits c.loop.scan c.event-step.new.self c.new-places.result acted.0 c.event-step.result at acted.2.0 acted.2.1)
 
 pub count-requires-clause-few : goal.count-requires-clause-few
-count-requires-clause-few g c = units_few c.self.inside c.self.invariant.0 c.self.invariant.1 c.self.invariant.2
-
-pub returns-then-is_last : goal.returns-then-is_last
-returns-then-is_last g c = (c.event-step.ensures.acted.0, search rules, search rules)
-
-pub returns-else-is_last : goal.returns-else-is_last
-returns-else-is_last g c = (c.event-step.ensures.acted.0, search rules, search rules)
+count-requires-clause-few g c =
+    let k = c.loop.invariant.0 in
+    let i : Inside = record c.loop.self-inside { row = rows.Mark c.loop.scan.row } in
+    units_few i k.fits k.rate k.object
 
 pub count-requires-clause-spent : goal.count-requires-clause-spent
-count-requires-clause-spent g c = spent_few c.self.inside c.self.invariant.0 c.self.invariant.1 c.self.invariant.2
+count-requires-clause-spent g c =
+    let k = c.loop.invariant.0 in
+    let i : Inside = record c.loop.self-inside { row = rows.Mark c.loop.scan.row } in
+    spent_few i k.fits k.rate k.object
 
 pub invariant_of-self : goal.invariant_of-self
 invariant_of-self g c =
+    let inv = c.loop.invariant in
+    let i : Inside = record c.loop.self-inside { row = rows.Mark c.loop.scan.row } in
+    let at : part_of i ≡ Mark c.loop.scan = λ j. Mark (record { pass = sym inv.3 j; row = c.loop.scan.row }) in
+    let acted = c.event-step.ensures.acted in
+    let told = units_read (view_of i) _ _ c.deref.ensures.value c.deref-in-loop.ensures.value in
+    let is = mark_counted i inv.0.fits inv.0.rate inv.0.object c.new-places.result inv.2 acted.0 c.event-step.result c.count.new.account _
+    c.count.new.spent c.count.ensures.account told c.count.ensures.spent c.loop.scan c.event-step.new.self at acted.2.0 acted.2.1 c.event-step.ensures.fits in
+    let last : is_last c.event-step.result.step ≡ true = sym c.is_last.ensures ∙ c.if-is_last.true in
+    let part : over_part i c.after_pass-self-inside.result ≡ if_over (is_last c.event-step.result.step) (grey_nothing c.event-step.new.self.row) (Mark c.event-step.new.self) =
+    over_at i c.after_pass-self-inside.result c.nothing.result c.after_pass-self-inside.ensures ∙ (λ j. if_over (sym last j) (c.nothing.ensures j) (Mark c.event-step.new.self)) in
+    (is.fits (over_part i c.after_pass-self-inside.result) part, is.rate, is.object, inv.0.room, inv.0.price)
+
+pub returns-then-is_last : goal.returns-then-is_last
+returns-then-is_last g c =
+    let inv = c.loop.invariant in
+    let i : Inside = record c.loop.self-inside { row = rows.Mark c.loop.scan.row } in
+    let at : part_of i ≡ Mark c.loop.scan = λ j. Mark (record { pass = sym inv.3 j; row = c.loop.scan.row }) in
+    let lead = leads_at g.M.Memory.may g.M.Memory.acts c.args.most c.loop.counter (omega (arith, c.loop-test.true)) c.loop.memory
+    c.args.shared.now (view_of i) inv.1 (going_in (view_of i) inv.0.fits refl) in
+    let acted = c.event-step.ensures.acted in
+    let told = units_read (view_of i) _ _ c.deref.ensures.value c.deref-in-loop.ensures.value in
+    let is = mark_counted i inv.0.fits inv.0.rate inv.0.object c.new-places.result inv.2 acted.0 c.event-step.result c.count.new.account _
+    c.count.new.spent c.count.ensures.account told c.count.ensures.spent c.loop.scan c.event-step.new.self at acted.2.0 acted.2.1 c.event-step.ensures.fits in
+    let by = (leads_on c.new-places.result (Mark c.loop.scan) inv.2 at lead acted.0 c.event-step.new.memory acted.1).0 in
+    let last : is_last c.event-step.result.step ≡ true = sym c.is_last.ensures ∙ c.if-is_last.true in
+    let part : over_part i c.after_pass-self-inside.result ≡ if_over (is_last c.event-step.result.step) (grey_nothing c.event-step.new.self.row) (Mark c.event-step.new.self) =
+    over_at i c.after_pass-self-inside.result c.nothing.result c.after_pass-self-inside.ensures ∙ (λ j. if_over (sym last j) (c.nothing.ensures j) (Mark c.event-step.new.self)) in
+    ends g.M.Memory.may inv.0 c.args.most c.loop.counter inv.4 (omega (arith, c.loop-test.true)) inv.1 refl by is c.after_pass-self-inside.result part c.turn_after.result c.turn_after.ensures
+
+pub loop-preserved : goal.loop-preserved
+loop-preserved g c =
+    let inv = c.loop.invariant in
+    let i : Inside = record c.loop.self-inside { row = rows.Mark c.loop.scan.row } in
+    let at : part_of i ≡ Mark c.loop.scan = λ j. Mark (record { pass = sym inv.3 j; row = c.loop.scan.row }) in
+    let lead = leads_at g.M.Memory.may g.M.Memory.acts c.args.most c.loop.counter (omega (arith, c.loop-test.true)) c.loop.memory
+    c.args.shared.now (view_of i) inv.1 (going_in (view_of i) inv.0.fits refl) in
+    let acted = c.event-step.ensures.acted in
+    let told = units_read (view_of i) _ _ c.deref.ensures.value c.deref-in-loop.ensures.value in
+    let is = mark_counted i inv.0.fits inv.0.rate inv.0.object c.new-places.result inv.2 acted.0 c.event-step.result c.count.new.account _
+    c.count.new.spent c.count.ensures.account told c.count.ensures.spent c.loop.scan c.event-step.new.self at acted.2.0 acted.2.1 c.event-step.ensures.fits in
+    let by = (leads_on c.new-places.result (Mark c.loop.scan) inv.2 at lead acted.0 c.event-step.new.memory acted.1).0 in
+    let stays : c.event-step.new.self.pass ≡ i.pass = ap (λ (x : GreyState). x.pass) acted.2.0 ∙ inv.3 in
+    let back : over_part i (rows.Mark c.event-step.new.self.row) ≡ Mark c.event-step.new.self =
+    λ j. Mark (record { pass = sym stays j; row = c.event-step.new.self.row }) in
+    let on = goes g.M.Memory.may inv.0 c.args.most c.loop.counter inv.4 (omega (arith, c.loop-test.true)) inv.1 refl by is
+    (rows.Mark c.event-step.new.self.row) back
+    (mark_goes c.loop.scan c.new-places.result acted.0 c.event-step.result acted.2.1 (sym c.is_last.ensures ∙ c.if-is_last.false)) in
+    (on.0, on.1, inv.2, stays, on.2)
+
+pub loop-init : goal.loop-init
+loop-init g c =
     let k = c.self.invariant in
-    let owes : c.self.inside.spent + bit c.event-step.result.unit + bit (not (grey_unit c.event-step.new.self.row)) ≤ owed (view_of c.self.inside) =
-    mark_owes (extent c.new-places.result) c.at_row-scan.result c.event-step.new.self c.event-step.ensures.acted.0 c.event-step.result.unit c.event-step.ensures.acted.2.0 (ap (λ (x : Outcome). x.unit) c.event-step.ensures.acted.2.1) _ _
-    (subst (λ p. c.self.inside.spent + unit_to_come c.self.inside.config p ≤ owed (view_of c.self.inside)) (mark_at c.self.inside c.in-Mark.row c.at_row-scan.result c.in-Mark.is c.at_row-scan.ensures) k.0.paid) in
-    let told = units_read (view_of c.self.inside) _ _ c.deref.ensures.value c.deref-in-Mark.ensures.value in
-    let both = ties c.self.inside k.0 k.1 k.2 c.count.new.account c.event-step.result.unit _ c.count.new.spent c.count.ensures.account told c.count.ensures.spent in
-    let fits = subst (λ p. PartFits c.self.inside.config (length c.self.inside.log.items) (length c.self.inside.trace.items) c.self.inside.pass p) (mark_at c.self.inside c.in-Mark.row c.at_row-scan.result c.in-Mark.is c.at_row-scan.ensures) k.0.part in (
-      over_local c.self.inside k.0 k.1 k.2 c.count.new.account c.event-step.result.unit _ c.count.new.spent c.count.ensures.account told c.count.ensures.spent (over_part c.self.inside c.after_pass-self-inside.result) c.nothing.result (over_at c.self.inside c.after_pass-self-inside.result c.nothing.result c.after_pass-self-inside.ensures) fits.1 fits.2 (omega (arith, owes)),
-      both.0,
-      both.1,
-      k.3,
-      k.4,
+    let row : over_part c.self.inside (rows.Mark c.at_row-scan.result.row) ≡ part_of c.self.inside =
+    ap (λ (m : GreyState). over_part c.self.inside (rows.Mark m.row)) c.at_row-scan.ensures ∙ sym (ap (over_part c.self.inside) c.in-Mark.is) in
+    let first = begins g.M.Memory.acts c.args.shared.now c.args.memory.now c.args.self.now c.self.inside
+    (rows.Mark c.at_row-scan.result.row) k.0 k.1 k.2 k.3 k.4 c.self.view_is row in (
+      first.0,
+      none_made g.M.Memory.may g.M.Memory.acts c.args.most c.args.memory.now c.args.shared.now _ (subst (MayRun g.M.Memory.may g.M.Memory.acts c.args.most c.args.memory.now c.args.shared.now)
+          (sym ((λ j. record (view_of c.self.inside) { part = row j }) ∙ c.self.view_is)) c.requires.may),
+      c.new-places.ensures,
+      ap (λ (m : GreyState). m.pass) c.at_row-scan.ensures,
+      first.1,
     )
 
-pub invariant_of-self-else-is_last : goal.invariant_of-self-else-is_last
-invariant_of-self-else-is_last g c =
-    let k = c.self.invariant in
-    let owes : c.self.inside.spent + bit c.event-step.result.unit + bit (not (grey_unit c.event-step.new.self.row)) ≤ owed (view_of c.self.inside) =
-    mark_owes (extent c.new-places.result) c.at_row-scan.result c.event-step.new.self c.event-step.ensures.acted.0 c.event-step.result.unit c.event-step.ensures.acted.2.0 (ap (λ (x : Outcome). x.unit) c.event-step.ensures.acted.2.1) _ _
-    (subst (λ p. c.self.inside.spent + unit_to_come c.self.inside.config p ≤ owed (view_of c.self.inside)) (mark_at c.self.inside c.in-Mark.row c.at_row-scan.result c.in-Mark.is c.at_row-scan.ensures) k.0.paid) in
-    let told = units_read (view_of c.self.inside) _ _ c.deref.ensures.value c.deref-in-Mark.ensures.value in
-    let both = ties c.self.inside k.0 k.1 k.2 c.count.new.account c.event-step.result.unit _ c.count.new.spent c.count.ensures.account told c.count.ensures.spent in
-    let fits = subst (λ p. PartFits c.self.inside.config (length c.self.inside.log.items) (length c.self.inside.trace.items) c.self.inside.pass p) (mark_at c.self.inside c.in-Mark.row c.at_row-scan.result c.in-Mark.is c.at_row-scan.ensures) k.0.part in (
-      subst (λ p. IsLocal (record (view_of c.self.inside) { balance = c.count.new.account.balance; spent = c.count.new.spent; part = p }))
-          (mark_back c.self.inside.pass c.in-Mark.row c.row.result (extent c.new-places.result) c.at_row-scan.result c.event-step.new.self c.event-step.ensures.acted.0 c.at_row-scan.ensures c.event-step.ensures.acted.2.0 c.row.ensures)
-          (counted_local c.self.inside k.0 k.1 k.2 c.count.new.account c.event-step.result.unit _ c.count.new.spent c.count.ensures.account told c.count.ensures.spent (Mark c.event-step.new.self) (subst (λ x. GreyFits x c.event-step.new.self) c.new-places.ensures c.event-step.ensures.fits, fits.1, fits.2) owes tt tt),
-      both.0,
-      both.1,
-      k.3,
-      k.4,
-    )
+pub returns : goal.returns
+returns g c =
+    let inv = c.loop.invariant in
+    let here = ap (λ r. view_of (record c.loop.self-inside { row = rows.Mark r })) (sym c.row.ensures) in
+    subst (λ l. HasRunIn c.args.most g.M.Memory.acts c.args.shared.now c.args.memory.now c.args.self.now c.loop.memory l Went) here
+    (inv.0.run, omega (arith, inv.4, c.loop-test.false, c.requires.some), omega (arith, inv.4, c.loop-test.false))

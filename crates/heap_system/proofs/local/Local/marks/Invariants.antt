@@ -1,14 +1,15 @@
-use Rattle.std.proofs.Common.{◌≡◌, length}
+use Rattle.std.proofs.Common.{◌≡◌, ◌-◌, length}
 use Rattle.heap_system.specs.declared.local.Local.TheInside.{Inside}
 use Rattle.heap_system.specs.declared.rows.Row.TheVariants as rows
+use Rattle.heap_system.specs.Courses.{MayRun}
 use Rattle.heap_system.proofs.OwedAndPaid.{view_of}
 use Rattle.heap_system.proofs.Runs.{Goes}
-use Rattle.heap_system.proofs.local.Local.marks_on.Given as goal
+use Rattle.heap_system.proofs.local.Local.marks.Given as goal
 
 abbrev pub invariant-loop : goal.invariant-loop
 invariant-loop g l =
     let i : Inside = record l.self-inside { row = rows.Mark l.scan.row } in
-    (k : Goes g.C.Memory.acts l.shared l.fn.memory l.fn.self l.memory i)
-    × g.C.Course.stands l.memory l.shared (view_of i)
+    (k : Goes g.M.Memory.acts l.shared l.fn.memory l.fn.self l.memory i)
+    × MayRun g.M.Memory.may g.M.Memory.acts (l.most - l.counter) l.memory l.shared (view_of i)
     × (l.places ≡ l.self-inside.config) × (l.scan.pass ≡ l.self-inside.pass)
     × (length k.run.words ≡ l.counter)

@@ -1,0 +1,167 @@
+-- What the gauges read.
+use Rattle.std.proofs.Common.{◌≡◌, ◌⊎◌, inl, inr, ℕ, zero, suc, ◌+◌, ◌-◌, ◌*◌, ◌/◌, ◌<◌, ◌≤◌, Bool, true, false, cond, ltb, lt-ltb, length, refl, sym, ap, ◌∙◌, subst, arith}
+use Rattle.std.proofs.lemmas.Bool.{ltb-true}
+use Rattle.block_store.specs.declared.Config.{Config}
+use Rattle.block_store.specs.declared.Width.{Width}
+use Rattle.block_store.specs.declared.Width.TheVariants.{Four, Eight}
+use Rattle.block_store.specs.Configs.{IsInBounds}
+use Rattle.block_store.specs.Counts.{total}
+use Rattle.block_store.specs.Heaps.{heap_of}
+use Rattle.block_store.specs.Phases.{cycle_of}
+use Rattle.block_store.specs.Places.{ColourOf, FreeCount, Phase, extent, words_count}
+use Rattle.block_store.specs.Registers.{registers_end}
+use Rattle.block_store.specs.Widths.{payloads}
+use Rattle.block_store.proofs.Functions.{total_none}
+use Rattle.rate_plan.specs.Rates.{IsAdmitted, IsRate}
+use Rattle.never_heap.specs.declared.Command.{Command}
+use Rattle.never_heap.specs.declared.Command.TheVariants as commands
+use Rattle.never_heap.specs.Bounds.{IsCommandInBounds}
+use Rattle.never_heap.specs.Histories.{replay, starts_in}
+use Rattle.never_heap.specs.LiveBlocks.{live_blocks}
+use Rattle.never_heap.specs.RightWork.{units_owed, units_told}
+use Rattle.never_heap.specs.Steps.{blocks_of}
+use Rattle.lone_bound.specs.Near.{changes_cost, farthest, near_bound}
+use Rattle.heap_machine.specs.FreeBlocks.{FreeKept, count_free}
+use Rattle.heap_machine.specs.Holdings.{free_held, holds_nothing}
+use Rattle.heap_system.specs.Locals.{is_rest}
+use Rattle.heap_system.specs.Machines.{Run, heap_in, local_in}
+use Rattle.heap_system.specs.Pictures.{holding, holdings_in}
+use Rattle.heap_system.specs.Alone.{command_bound}
+use Rattle.heap_system.proofs.Kept.{Kept}
+use Rattle.heap_system.proofs.OwedAndPaid.{told_apart}
+use Rattle.heap_system.proofs.SystemStart.{one_rate}
+use Rattle.heap_system.proofs.TurnFacts.{rest_is}
+use Rattle.control_heap.specs.Controls.{ControlOf, Stands, allocation_near}
+use Rattle.control_heap.specs.Gauges.{most_operations}
+use Rattle.control_heap.proofs.CommandBound.{config_is, rate_is, rests}
+use Rattle.control_heap.proofs.HeapAsRun.{kept_of}
+use Rattle.control_heap.proofs.InUse.{live_few}
+
+module _ {M : Type 0} (h : ControlOf M) (r : Run) (st : Stands h r) where
+  kept : Kept h.config st.run.after.traces r
+  kept = kept_of h.config st.single r st.run.after
+
+  pub bounds_is : IsInBounds h.config
+  bounds_is = st.run.after.job.bounds.config
+
+  pub long_is : length h.words ≡ words_count (extent h.config)
+  long_is = ap length (sym st.words) ∙ kept.long
+
+  started : cycle_of (heap_of (extent h.config) h.words Phase) ≡ starts_in r.order
+  started = ap (λ ws. cycle_of (heap_of (extent h.config) ws Phase)) (sym st.words) ∙ sym kept.names.ordered.started
+
+  -- the thread is at rest and holds nothing, so that all Free blocks are counted
+  rests_here : (t : ℕ) → t < h.config.threads → holding h.config (local_in h.config r t).part ≡ holds_nothing
+  rests_here t tl =
+      let zero_is : 0 ≡ t = (let s = st.single in omega (arith, tl, s)) in
+      let rest : is_rest (local_in h.config r 0).part ≡ true = ap (λ l. is_rest l.part) st.thread ∙ rests h r st in
+      subst (λ u. holding h.config (local_in h.config r u).part ≡ holds_nothing) zero_is
+      (ap (holding h.config) (rest_is (local_in h.config r 0).part rest))
+
+  free_here : heap_of (extent h.config) h.words FreeCount ≡ count_free (extent h.config) (λ x. heap_of (extent h.config) h.words (ColourOf x))
+  free_here =
+      let all : FreeKept (extent h.config) (heap_in h.config r.state) (λ t. free_held (holdings_in h.config r.state t)) = kept.rules.reuse.free in
+      let reserved : total h.config.threads (λ t. (free_held (holdings_in h.config r.state t)).reserved) ≡ 0 = total_none h.config.threads _ (λ t tl. ap (λ w. (free_held w).reserved) (rests_here t tl)) in
+      let freed : total h.config.threads (λ t. (free_held (holdings_in h.config r.state t)).freed) ≡ 0 = total_none h.config.threads _ (λ t tl. ap (λ w. (free_held w).freed) (rests_here t tl)) in
+      subst (λ ws. heap_of (extent h.config) ws FreeCount ≡ count_free (extent h.config) (λ x. heap_of (extent h.config) ws (ColourOf x))) st.words
+      (omega (arith, all.credit, reserved, freed))
+
+  pub free_told : (now : ControlOf M) → h ≡ now → (n : ℕ) → n ≡ heap_of (extent h.config) h.words FreeCount → n ≡ count_free (extent now.config) (λ x. heap_of (extent now.config) now.words (ColourOf x))
+  free_told now same n is = subst (λ (x : ControlOf M). n ≡ count_free (extent x.config) (λ y. heap_of (extent x.config) x.words (ColourOf y))) same (is ∙ free_here)
+
+pub cycle_told : {M : Type 0} (h now : ControlOf M) → h ≡ now → (n : ℕ) → n ≡ cycle_of (heap_of (extent h.config) h.words Phase) → (q : Run) → Stands now q → n ≡ starts_in q.order
+cycle_told h now same n is q st = is ∙ started h q (subst (λ x. Stands x q) (sym same) st)
+
+-- ---- the rate
+
+one_block : (w : Width) → blocks_of w (commands.New 0 0) ≡ 1
+one_block Four = refl
+one_block Eight = refl
+
+pub smallest_fits : (c : Config) → IsInBounds c → IsCommandInBounds c (commands.New 0 0)
+smallest_fits c is = record {
+  range = (omega arith, omega arith);
+  blocks = (let e = one_block c.width in let s = is.some_object in omega (arith, e, s));
+  units = omega arith;
+  version = tt;
+}
+
+module _ {M : Type 0} (h : ControlOf M) (r : Run) (st : Stands h r) where
+  pub fits_thread : IsCommandInBounds h.thread.config (commands.New 0 0)
+  fits_thread = subst (λ c. IsCommandInBounds c (commands.New 0 0)) (sym (config_is h r st)) (smallest_fits h.config st.run.after.job.bounds.config)
+
+  pub rate_told : (now : ControlOf M) → h ≡ now → (n : ℕ) → n ≡ units_owed h.thread.config.width h.thread.rate (commands.New 0 0) → IsRate now.config n
+  rate_told now same n is =
+      let one = one_block h.thread.config.width in
+      let e : n ≡ h.thread.rate = is ∙ (ap (λ b. h.thread.rate * b + 0) one ∙ omega arith) in
+      subst (λ (x : ControlOf M). IsRate x.config n) same (subst (λ p. IsRate h.config p) (sym e) (rate_is h r st))
+
+-- ---- the most operations
+
+far_none : (p : ℕ) → farthest 1 p ≡ 0
+far_none zero = refl
+far_none (suc p) = refl
+
+changes_one : (m u : ℕ) → changes_cost 1 m u ≡ 18 + 18 * ((u - 1) / m)
+changes_one m u = let none = far_none (u - 1) in omega (arith, none)
+
+near_one : (w m u k : ℕ) → near_bound 1 w m u k ≡ u * (2 * w + 7) + (18 + 18 * ((u - 1) / m)) + ((w + 4) * k + 8)
+near_one w m u k = let e = changes_one m u in omega (arith, e)
+
+abbrev formula : ℕ → ℕ → ℕ → ℕ → ℕ
+formula w m u k = u * (2 * w + 7) + (18 + 18 * ((u - 1) / m)) + ((w + 4) * k + 8)
+
+none_told : (w : Width) (k : Command) → 0 < blocks_of w k → units_told k ≡ 0
+none_told w k some = by (told_apart w k)
+  where
+    by : (units_told k ≡ 0) ⊎ (blocks_of w k ≡ 0) → units_told k ≡ 0
+    by (inl e) = e
+    by (inr e) = absurd (omega (arith, e, some))
+
+module _ {M : Type 0} (h : ControlOf M) (r : Run) (st : Stands h r) (k : Command) where
+  near_here : (units taken n : ℕ) → units ≡ units_owed h.thread.config.width h.thread.rate k → taken ≡ blocks_of h.config.width k → 0 < taken
+      → n ≡ formula (payloads h.config.width) h.config.blocks units taken
+      → (p : ℕ) → IsRate h.config p → n ≡ most_operations h.config p k
+  near_here units taken n owed blocks some is p planned =
+      let there : 0 < blocks_of h.config.width k = subst (λ x. 0 < x) blocks some in
+      let told : units_told k ≡ 0 = none_told h.config.width k there in
+      let same : h.thread.rate ≡ p = one_rate h.config h.thread.rate p (rate_is h r st) planned in
+      let units_is : units ≡ p * blocks_of h.config.width k =
+      owed ∙ ap (λ c. units_owed c.width h.thread.rate k) (config_is h r st)
+      ∙ ap (λ q. q * blocks_of h.config.width k + units_told k) same
+      ∙ ap (λ t. p * blocks_of h.config.width k + t) told ∙ omega arith in
+      let near : allocation_near h.config p k ≡ formula (payloads h.config.width) h.config.blocks (p * blocks_of h.config.width k) (blocks_of h.config.width k) =
+      ap (λ t. near_bound t (payloads h.config.width) h.config.blocks (p * blocks_of h.config.width k) (blocks_of h.config.width k)) st.single
+      ∙ near_one (payloads h.config.width) h.config.blocks (p * blocks_of h.config.width k) (blocks_of h.config.width k) in
+      let made : most_operations h.config p k ≡ allocation_near h.config p k =
+      ap (λ t. cond t (allocation_near h.config p k) (command_bound h.config p k)) (lt-ltb 0 (blocks_of h.config.width k) there) in
+      is ∙ (λ i. formula (payloads h.config.width) h.config.blocks (units_is i) (blocks i)) ∙ sym near ∙ sym made
+
+  pub near_told : (now : ControlOf M) → h ≡ now → (units taken n : ℕ) → units ≡ units_owed h.thread.config.width h.thread.rate k → taken ≡ blocks_of h.config.width k → 0 < taken
+      → n ≡ formula (payloads h.config.width) h.config.blocks units taken
+      → (p : ℕ) → IsRate now.config p → n ≡ most_operations now.config p k
+  near_told now same units taken n owed blocks some is p planned =
+      subst (λ (x : ControlOf M). n ≡ most_operations x.config p k) same
+      (near_here units taken n owed blocks some is p (subst (λ (x : ControlOf M). IsRate x.config p) (sym same) planned))
+
+pub told_most : (c : Config) (p : ℕ) (k : Command) (n : ℕ) → n ≤ command_bound c p k → (0 < blocks_of c.width k → n ≤ allocation_near c p k) → n ≤ most_operations c p k
+told_most c p k n few near = by (ltb 0 (blocks_of c.width k)) refl
+  where
+    by : (b : Bool) → ltb 0 (blocks_of c.width k) ≡ b → n ≤ cond b (allocation_near c p k) (command_bound c p k)
+    by true e = near (ltb-true 0 (blocks_of c.width k) e)
+    by false e = few
+
+-- ---- the blocks in use
+
+roots_low : (c : Config) → IsAdmitted c → registers_end c.width c.threads ≤ c.blocks
+roots_low c is = omega (arith, is.opens, is.room)
+
+module _ {M : Type 0} (h : ControlOf M) (r : Run) (st : Stands h r) where
+  live_here : live_blocks h.config.width (replay h.config r.order) + count_free (extent h.config) (λ x. heap_of (extent h.config) h.words (ColourOf x)) ≤ h.config.blocks
+  live_here =
+      let is = st.run.after in
+      let some = live_few h.config is.traces r (kept_of h.config st.single r is) (roots_low h.config is.job.plan) in
+      subst (λ ws. live_blocks h.config.width (replay h.config r.order) + count_free (extent h.config) (λ x. heap_of (extent h.config) ws (ColourOf x)) ≤ h.config.blocks) st.words some
+
+  pub in_use_told : (n : ℕ) → n ≡ h.config.blocks - count_free (extent h.config) (λ x. heap_of (extent h.config) h.words (ColourOf x)) → live_blocks h.config.width (replay h.config r.order) ≤ n
+  in_use_told n is = omega (arith, is, live_here)

@@ -1,0 +1,151 @@
+-- Calls of one command each: what they tell of its reply, and when each fault comes.
+use Rattle.std.specs.Prelude.{ℕ, ◌+◌, ◌≡◌, Bool, true, false, if◌then◌else◌, Result, Ok, Err, List, [], ◌∷◌, codes}
+use Rattle.never_heap.specs.declared.Command.{Command}
+use Rattle.never_heap.specs.declared.Command.TheVariants as commands
+use Rattle.never_heap.specs.declared.Reply.{Reply}
+use Rattle.never_heap.specs.declared.Reply.TheVariants as replies
+use Rattle.never_heap.specs.Bounds.{IsCommandInBounds}
+use Rattle.never_heap.specs.Signatures.{Operand, Register, Field, Base, operands}
+use Rattle.never_heap.specs.Steps.{makes_object}
+use Rattle.heap_machine.specs.Memories.{Acts}
+use Rattle.heap_system.specs.Lives.{objects_of}
+use Rattle.control_heap.specs.declared.control.Refused.{Refused}
+use Rattle.control_heap.specs.declared.control.Refused.TheVariants as refusals
+use Rattle.control_heap.specs.declared.faults.Fault.{Fault}
+use Rattle.control_heap.specs.declared.faults.Fault.TheVariants as faults
+use Rattle.control_heap.specs.Controls.{ControlOf, HasAnswered, HasLeft, HasMade, asked}
+use Rattle.control_heap.specs.Refusals.{IsRefused}
+
+-- ---- which replies a command can have
+
+-- whether the command looks at the object in a register, and at a field of it
+abbrev pub has_base : List Operand → Bool
+has_base [] = false
+has_base (Register Base s ∷ os) = true
+has_base (o ∷ os) = has_base os
+
+abbrev pub has_field : List Operand → Bool
+has_field [] = false
+has_field (Field access i ∷ os) = true
+has_field (o ∷ os) = has_field os
+
+abbrev pub IsName : Reply → Type 0
+IsName (replies.New n) = Unit {0}
+IsName _ = ⊥
+
+abbrev pub IsValue : Reply → Type 0
+IsValue (replies.Val v) = Unit {0}
+IsValue _ = ⊥
+
+abbrev pub IsLength : Reply → Type 0
+IsLength (replies.Len n) = Unit {0}
+IsLength _ = ⊥
+
+abbrev pub IsTest : Reply → Type 0
+IsTest replies.Yes = Unit {0}
+IsTest replies.No = Unit {0}
+IsTest _ = ⊥
+
+abbrev pub IsStored : Reply → Type 0
+IsStored replies.Stored = Unit {0}
+IsStored _ = ⊥
+
+abbrev pub IsIdle : Reply → Type 0
+IsIdle replies.Idle = Unit {0}
+IsIdle _ = ⊥
+
+-- what the command tells where nothing is in its way
+abbrev pub Says : Command → Reply → Type 0
+Says (commands.New d f) a = IsName a
+Says (commands.Arr d e) a = IsName a
+Says (commands.Set d v) a = IsStored a
+Says (commands.Nil d) a = IsStored a
+Says (commands.Mov d s) a = IsStored a
+Says (commands.Get d s i) a = IsValue a
+Says (commands.Put s i v) a = IsStored a
+Says (commands.Len s) a = IsLength a
+Says (commands.Same a b) r = IsTest r
+Says (commands.Say s) a = IsValue a
+Says (commands.Swap s i v) a = IsValue a
+Says (commands.Cas s i a v) r = IsTest r
+Says (commands.Idle u) a = IsIdle a
+
+-- An allocation can be answered full; a command that looks at an object can find nil or a number in
+-- its place, and one that looks at a field none of this index. Else it says what it is to tell.
+abbrev pub MayAnswer : Command → Reply → Type 0
+MayAnswer k (replies.Full c) = makes_object k ≡ true
+MayAnswer k replies.Null = has_base (operands k) ≡ true
+MayAnswer k replies.Kind = has_base (operands k) ≡ true
+MayAnswer k replies.Range = has_field (operands k) ≡ true
+MayAnswer k a = Says k a
+
+-- ---- what a call tells
+
+-- the command was asked, as `ask` says, and had this reply
+pub record HasAsked {M : Type 0} (acts : Acts M (Unit {0})) (old : ControlOf M) (k : Command)
+    (a : Reply) (new : ControlOf M) : Type 0 where
+  pub bounds : IsCommandInBounds old.config k
+  pub left : HasLeft old k
+  pub one_more : asked new ≡ asked old + 1
+  pub objects : new.objects ≡ old.objects + objects_of k
+  pub answered : HasAnswered old k a new
+  pub made : HasMade acts old k new
+
+-- when each fault comes: the command was asked and had that reply, which it can have; or it was
+-- refused for that cause, and nothing has changed
+abbrev pub HasFault : {M : Type 0} → Acts M (Unit {0}) → ControlOf M → Command → ControlOf M → Fault
+    → Type 0
+HasFault acts old k new (faults.Full c) =
+    (makes_object k ≡ true) × HasAsked acts old k (replies.Full c) new
+HasFault acts old k new faults.Null =
+    (has_base (operands k) ≡ true) × HasAsked acts old k replies.Null new
+HasFault acts old k new faults.Kind =
+    (has_base (operands k) ≡ true) × HasAsked acts old k replies.Kind new
+HasFault acts old k new faults.Range =
+    (has_field (operands k) ≡ true) × HasAsked acts old k replies.Range new
+HasFault acts old k new faults.OutOfBounds = IsRefused old k refusals.OutOfBounds × (new ≡ old)
+HasFault acts old k new faults.NoLifeLeft = IsRefused old k refusals.NoLifeLeft × (new ≡ old)
+
+-- What a call tells: the command was asked, and its reply is the one that says this; or a fault.
+abbrev pub HasTold : {M T : Type 0} → (T → Reply) → Acts M (Unit {0}) → ControlOf M → Command
+    → ControlOf M → Result T Fault → Type 0
+HasTold says acts old k new (Ok x) = HasAsked acts old k (says x) new
+HasTold says acts old k new (Err f) = HasFault acts old k new f
+
+-- the replies that say nothing, or yes and no
+abbrev pub stored : Unit {0} → Reply
+stored none = replies.Stored
+
+abbrev pub idled : Unit {0} → Reply
+idled none = replies.Idle
+
+abbrev pub tested : Bool → Reply
+tested b = if b then replies.Yes else replies.No
+
+-- a refusal as a fault, and an outcome in which replies that tell nothing are faults
+abbrev pub fault_of : Refused → Fault
+fault_of refusals.OutOfBounds = faults.OutOfBounds
+fault_of refusals.NoLifeLeft = faults.NoLifeLeft
+
+abbrev pub outcome_of : Result Reply Refused → Result Reply Fault
+outcome_of (Ok (replies.Full c)) = Err (faults.Full c)
+outcome_of (Ok replies.Null) = Err faults.Null
+outcome_of (Ok replies.Kind) = Err faults.Kind
+outcome_of (Ok replies.Range) = Err faults.Range
+outcome_of (Ok a) = Ok a
+outcome_of (Err r) = Err (fault_of r)
+
+-- ---- what is printed of a fault
+
+abbrev pub fault_text : Fault → List ℕ
+fault_text (faults.Full c) =
+    codes "full: more was live than the limit at the start of a cycle; let go of objects, and two cycles later there is room, or open a heap with a higher limit"
+fault_text faults.Null = codes "null: the register is nil; put an object into it first"
+fault_text faults.Kind =
+    codes "kind: the register holds a number; name one that refers to an object"
+fault_text faults.Range =
+    codes "range: the object has no such field; len tells how many it has"
+fault_text faults.OutOfBounds =
+    codes "out of bounds: a register, number, index, length or count of units is out of its range on this heap, or the command is none of its version; correct the call"
+fault_text faults.NoLifeLeft =
+    codes "no life left: the heap has no room for one command more like this; open a new heap, and make there what is still needed"

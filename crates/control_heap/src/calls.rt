@@ -1,0 +1,278 @@
+//! One call for each command.
+
+ghost use Rattle.std.specs.Prelude.{◌≡◌, IfOk};
+ghost use Rattle.never_heap.specs.declared.Command.TheVariants as commands;
+ghost use Rattle.never_heap.specs.declared.Reply.TheVariants as replies;
+ghost use Rattle.control_heap.specs.Calls.{HasTold, IsIdle, IsLength, IsName, IsStored, IsTest, IsValue, Says, idled, outcome_of, stored, tested};
+
+use crate::{ControlHeap, Fault, Refused, Store};
+use block_store::{Name, Value};
+use never_heap::{Command, Reply};
+
+// The outcome of a command, in which the replies that tell nothing are faults.
+fn outcome_of(asked: Result<Reply, Refused>) -> Result<Reply, Fault>
+    ensures { result ≡ outcome_of asked }
+{
+    match asked {
+        Ok(Reply::Full(cycle)) => Err(Fault::Full(cycle)),
+        Ok(Reply::Null) => Err(Fault::Null),
+        Ok(Reply::Kind) => Err(Fault::Kind),
+        Ok(Reply::Range) => Err(Fault::Range),
+        Ok(Reply::New(name)) => Ok(Reply::New(name)),
+        Ok(Reply::Stored) => Ok(Reply::Stored),
+        Ok(Reply::Val(value)) => Ok(Reply::Val(value)),
+        Ok(Reply::Len(length)) => Ok(Reply::Len(length)),
+        Ok(Reply::Yes) => Ok(Reply::Yes),
+        Ok(Reply::No) => Ok(Reply::No),
+        Ok(Reply::Idle) => Ok(Reply::Idle),
+        Err(refused) => Err(Fault::from(refused)),
+    }
+}
+
+fn name_in(reply: Reply) -> Name
+    requires { IsName reply }
+    ensures { reply ≡ replies.New result }
+{
+    let Reply::New(name) = reply else {
+        unreachable!()
+    };
+    name
+}
+
+fn value_in(reply: Reply) -> Value
+    requires { IsValue reply }
+    ensures { reply ≡ replies.Val result }
+{
+    let Reply::Val(value) = reply else {
+        unreachable!()
+    };
+    value
+}
+
+fn length_in(reply: Reply) -> u64
+    requires { IsLength reply }
+    ensures { reply ≡ replies.Len result }
+{
+    let Reply::Len(length) = reply else {
+        unreachable!()
+    };
+    length
+}
+
+fn test_in(reply: Reply) -> bool
+    requires { IsTest reply }
+    ensures { reply ≡ tested result }
+{
+    match reply {
+        Reply::Yes => true,
+        Reply::No => false,
+        _ => unreachable!(),
+    }
+}
+
+// A reply that tells nothing more than that something is done.
+fn stored_in(reply: Reply)
+    requires { IsStored reply }
+    ensures { reply ≡ replies.Stored }
+{
+    let _reply = reply;
+}
+
+fn idle_in(reply: Reply)
+    requires { IsIdle reply }
+    ensures { reply ≡ replies.Idle }
+{
+    let _reply = reply;
+}
+
+impl<M: Store> ControlHeap<M> {
+    // Asks a command.
+    fn call(&mut self, command: Command) -> Result<Reply, Fault>
+        ensures config { self.new.config ≡ self.old.config }
+        ensures told { HasTold (λ a. a) M.acts self.old command self.new result }
+        ensures says { IfOk result (Says command) }
+    {
+        outcome_of(self.ask(command))
+    }
+
+    /// Makes a record of nil fields, to which register `d` then refers, and tells its name.
+    ///
+    /// # Errors
+    ///
+    /// `Full` where there is no room for it; `OutOfBounds` and `NoLifeLeft` as of `ask`.
+    pub fn record(&mut self, d: u8, fields: u32) -> Result<Name, Fault>
+        ensures config { self.new.config ≡ self.old.config }
+        ensures told { HasTold replies.New M.acts self.old (commands.New d fields) self.new result }
+    {
+        let reply = self.call(Command::New { d, fields })?;
+        Ok(name_in(reply))
+    }
+
+    /// Makes an array of nil elements, to which register `d` then refers, and tells its name.
+    ///
+    /// # Errors
+    ///
+    /// `Full` where there is no room for it; `OutOfBounds` and `NoLifeLeft` as of `ask`.
+    pub fn array(&mut self, d: u8, elements: u32) -> Result<Name, Fault>
+        ensures config { self.new.config ≡ self.old.config }
+        ensures told { HasTold replies.New M.acts self.old (commands.Arr d elements) self.new
+            result }
+    {
+        let reply = self.call(Command::Arr { d, elements })?;
+        Ok(name_in(reply))
+    }
+
+    /// Register `d` becomes field `i` of the object in register `s`, and that is told.
+    ///
+    /// # Errors
+    ///
+    /// `Null`, `Kind` and `Range` where there is no such field; `OutOfBounds` and `NoLifeLeft` as
+    /// of `ask`.
+    pub fn get(&mut self, d: u8, s: u8, i: u64) -> Result<Value, Fault>
+        ensures config { self.new.config ≡ self.old.config }
+        ensures told { HasTold replies.Val M.acts self.old (commands.Get d s i) self.new result }
+    {
+        let reply = self.call(Command::Get { d, s, i })?;
+        Ok(value_in(reply))
+    }
+
+    /// Field `i` of the object in register `s` becomes what register `v` holds.
+    ///
+    /// # Errors
+    ///
+    /// `Null`, `Kind` and `Range` where there is no such field; `OutOfBounds` and `NoLifeLeft` as
+    /// of `ask`.
+    pub fn put(&mut self, s: u8, i: u64, v: u8) -> Result<(), Fault>
+        ensures config { self.new.config ≡ self.old.config }
+        ensures told { HasTold stored M.acts self.old (commands.Put s i v) self.new result }
+    {
+        let reply = self.call(Command::Put { s, i, v })?;
+        stored_in(reply);
+        Ok(())
+    }
+
+    /// Field `i` of the object in register `s` and register `v` exchange their values. It tells
+    /// what the field held before.
+    ///
+    /// # Errors
+    ///
+    /// `Null`, `Kind` and `Range` where there is no such field; `OutOfBounds` and `NoLifeLeft` as
+    /// of `ask`.
+    pub fn swap(&mut self, s: u8, i: u64, v: u8) -> Result<Value, Fault>
+        ensures config { self.new.config ≡ self.old.config }
+        ensures told { HasTold replies.Val M.acts self.old (commands.Swap s i v) self.new result }
+    {
+        let reply = self.call(Command::Swap { s, i, v })?;
+        Ok(value_in(reply))
+    }
+
+    /// Where field `i` of the object in register `s` and register `a` hold the same, the field
+    /// becomes what register `v` holds. It tells whether that is so.
+    ///
+    /// # Errors
+    ///
+    /// `Null`, `Kind` and `Range` where there is no such field; `OutOfBounds` and `NoLifeLeft` as
+    /// of `ask`.
+    pub fn cas(&mut self, s: u8, i: u64, a: u8, v: u8) -> Result<bool, Fault>
+        ensures config { self.new.config ≡ self.old.config }
+        ensures told { HasTold tested M.acts self.old (commands.Cas s i a v) self.new result }
+    {
+        let reply = self.call(Command::Cas { s, i, a, v })?;
+        Ok(test_in(reply))
+    }
+
+    /// Register `d` becomes this number.
+    ///
+    /// # Errors
+    ///
+    /// `OutOfBounds` and `NoLifeLeft` as of `ask`.
+    pub fn set(&mut self, d: u8, value: u64) -> Result<(), Fault>
+        ensures config { self.new.config ≡ self.old.config }
+        ensures told { HasTold stored M.acts self.old (commands.Set d value) self.new result }
+    {
+        let reply = self.call(Command::Set { d, value })?;
+        stored_in(reply);
+        Ok(())
+    }
+
+    /// Register `d` becomes nil.
+    ///
+    /// # Errors
+    ///
+    /// `OutOfBounds` and `NoLifeLeft` as of `ask`.
+    pub fn nil(&mut self, d: u8) -> Result<(), Fault>
+        ensures config { self.new.config ≡ self.old.config }
+        ensures told { HasTold stored M.acts self.old (commands.Nil d) self.new result }
+    {
+        let reply = self.call(Command::Nil { d })?;
+        stored_in(reply);
+        Ok(())
+    }
+
+    /// Register `d` becomes what register `s` holds.
+    ///
+    /// # Errors
+    ///
+    /// `OutOfBounds` and `NoLifeLeft` as of `ask`.
+    pub fn mov(&mut self, d: u8, s: u8) -> Result<(), Fault>
+        ensures config { self.new.config ≡ self.old.config }
+        ensures told { HasTold stored M.acts self.old (commands.Mov d s) self.new result }
+    {
+        let reply = self.call(Command::Mov { d, s })?;
+        stored_in(reply);
+        Ok(())
+    }
+
+    /// How many fields or elements the object in register `s` has.
+    ///
+    /// # Errors
+    ///
+    /// `Null` and `Kind` where there is no object; `OutOfBounds` and `NoLifeLeft` as of `ask`.
+    pub fn len(&mut self, s: u8) -> Result<u64, Fault>
+        ensures config { self.new.config ≡ self.old.config }
+        ensures told { HasTold replies.Len M.acts self.old (commands.Len s) self.new result }
+    {
+        let reply = self.call(Command::Len { s })?;
+        Ok(length_in(reply))
+    }
+
+    /// Whether registers `a` and `b` are both nil, the same number, or refer to the same object.
+    ///
+    /// # Errors
+    ///
+    /// `OutOfBounds` and `NoLifeLeft` as of `ask`.
+    pub fn same(&mut self, a: u8, b: u8) -> Result<bool, Fault>
+        ensures config { self.new.config ≡ self.old.config }
+        ensures told { HasTold tested M.acts self.old (commands.Same a b) self.new result }
+    {
+        let reply = self.call(Command::Same { a, b })?;
+        Ok(test_in(reply))
+    }
+
+    /// What register `s` holds.
+    ///
+    /// # Errors
+    ///
+    /// `OutOfBounds` and `NoLifeLeft` as of `ask`.
+    pub fn say(&mut self, s: u8) -> Result<Value, Fault>
+        ensures config { self.new.config ≡ self.old.config }
+        ensures told { HasTold replies.Val M.acts self.old (commands.Say s) self.new result }
+    {
+        let reply = self.call(Command::Say { s })?;
+        Ok(value_in(reply))
+    }
+
+    /// Makes this many units of marking or sweeping.
+    ///
+    /// # Errors
+    ///
+    /// `OutOfBounds` and `NoLifeLeft` as of `ask`.
+    pub fn idle(&mut self, units: u64) -> Result<(), Fault>
+        ensures config { self.new.config ≡ self.old.config }
+        ensures told { HasTold idled M.acts self.old (commands.Idle units) self.new result }
+    {
+        let reply = self.call(Command::Idle { units })?;
+        idle_in(reply);
+        Ok(())
+    }
+}
