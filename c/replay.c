@@ -1,0 +1,76 @@
+/* Asks the commands of a job of one thread one by one, and prints each reply as `rtheap run` does,
+   with the units that it owed. */
+#include <inttypes.h>
+#include <stdio.h>
+#include <string.h>
+
+#include "rtheap.h"
+
+static void tell(const rtheap_reply *r, uint64_t work, int pays) {
+    printf("0 ");
+    switch (r->kind) {
+    case RTHEAP_NEW: printf("new %" PRIu32 ".%" PRIu64, r->thread, r->value); break;
+    case RTHEAP_FULL: printf("full %" PRIu64, r->value); break;
+    case RTHEAP_STORED: printf("ok"); break;
+    case RTHEAP_NIL: printf("nil"); break;
+    case RTHEAP_INT: printf("int %" PRIu64, r->value); break;
+    case RTHEAP_REF: printf("ref %" PRIu32 ".%" PRIu64, r->thread, r->value); break;
+    case RTHEAP_LEN: printf("len %" PRIu64, r->value); break;
+    case RTHEAP_YES: printf("yes"); break;
+    case RTHEAP_NO: printf("no"); break;
+    case RTHEAP_NULL: printf("null"); break;
+    case RTHEAP_KIND: printf("kind"); break;
+    case RTHEAP_RANGE: printf("range"); break;
+    case RTHEAP_IDLED: printf("idle"); break;
+    default: printf("what?"); break;
+    }
+    if (pays) printf(" work %" PRIu64, work);
+    printf("\n");
+}
+
+int main(void) {
+    static rtheap heap; /* closed, as all of its bytes are zero */
+    uint32_t version, threads, blocks, live, object, shared;
+    uint64_t all = 0;
+    char word[16];
+    rtheap_status status;
+    if (scanf("rtheap %" SCNu32 " threads %" SCNu32 " blocks %" SCNu32 " live %" SCNu32
+              " object %" SCNu32 " shared %" SCNu32 " thread 0",
+              &version, &threads, &blocks, &live, &object, &shared) != 6 || threads != 1)
+        return 3;
+    status = rtheap_open(&heap, version, blocks, live, object, shared);
+    if (status != RTHEAP_OK) {
+        printf("open: %s\n", rtheap_text(status));
+        return 4;
+    }
+    while (scanf("%15s", word) == 1 && strcmp(word, "end") != 0) {
+        uint64_t n[4] = {0, 0, 0, 0}, before = rtheap_units_left(&heap), work;
+        int i = 0, pays = !strcmp(word, "new") || !strcmp(word, "arr") || !strcmp(word, "idle");
+        rtheap_reply r;
+        while (i < 4 && scanf("%" SCNu64, &n[i]) == 1) i++;
+#define R(k) (n[k] > UINT32_MAX ? UINT32_MAX : (uint32_t)n[k])
+        if (!strcmp(word, "new")) status = rtheap_new(&heap, R(0), R(1), &r);
+        else if (!strcmp(word, "arr")) status = rtheap_arr(&heap, R(0), R(1), &r);
+        else if (!strcmp(word, "set")) status = rtheap_set(&heap, R(0), n[1], &r);
+        else if (!strcmp(word, "nil")) status = rtheap_nil(&heap, R(0), &r);
+        else if (!strcmp(word, "mov")) status = rtheap_mov(&heap, R(0), R(1), &r);
+        else if (!strcmp(word, "get")) status = rtheap_get(&heap, R(0), R(1), n[2], &r);
+        else if (!strcmp(word, "put")) status = rtheap_put(&heap, R(0), n[1], R(2), &r);
+        else if (!strcmp(word, "len")) status = rtheap_len(&heap, R(0), &r);
+        else if (!strcmp(word, "same")) status = rtheap_same(&heap, R(0), R(1), &r);
+        else if (!strcmp(word, "say")) status = rtheap_say(&heap, R(0), &r);
+        else if (!strcmp(word, "swap")) status = rtheap_swap(&heap, R(0), n[1], R(2), &r);
+        else if (!strcmp(word, "cas")) status = rtheap_cas(&heap, R(0), n[1], R(2), R(3), &r);
+        else if (!strcmp(word, "idle")) status = rtheap_idle(&heap, n[0], &r);
+        else return 3;
+        if (status != RTHEAP_OK) {
+            printf("%s: %s\n", word, rtheap_text(status));
+            return 5;
+        }
+        work = before - rtheap_units_left(&heap);
+        all += work;
+        tell(&r, work, pays);
+    }
+    printf("end work %" PRIu64 "\n", all);
+    return rtheap_close(&heap) == RTHEAP_OK ? 0 : 1;
+}

@@ -1,0 +1,204 @@
+-- What a call from C does to the heap of its handle, and what it tells in numbers.
+use Rattle.std.specs.Prelude.{ℕ, ◌+◌, ◌-◌, ◌≡◌, ◌==◌, if◌then◌else◌, Option, Some, None, Result, Ok, Err, min, List, [], ◌∷◌}
+use Rattle.block_store.specs.declared.Config.{Config}
+use Rattle.block_store.specs.declared.Width.{Width}
+use Rattle.block_store.specs.declared.Width.TheVariants.{Four, Eight}
+use Rattle.block_store.specs.declared.Value.TheVariants as values
+use Rattle.never_heap.specs.declared.Command.{Command}
+use Rattle.never_heap.specs.declared.Reply.{Reply}
+use Rattle.never_heap.specs.declared.Reply.TheVariants as replies
+use Rattle.never_heap.specs.Bounds.{IsCommandInBounds}
+use Rattle.never_heap.specs.Histories.{Started}
+use Rattle.heap_system.specs.Lives.{objects_of, most_units, most_objects}
+use Rattle.heap_system.specs.Machines.{Run}
+use Rattle.control_heap.specs.declared.control.OpenFault.TheVariants as faults
+use Rattle.control_heap.specs.declared.control.Refused.TheVariants as refused
+use Rattle.control_heap.specs.Controls.{Control, CanOpen, HasLeft, HasAnswered, Stands, asked, units}
+use Rattle.control_heap.specs.Refusals.{IsOpenFault, IsRefused}
+use Rattle.control_heap_c.specs.declared.answer.Answer.{Answer}
+use Rattle.control_heap_c.specs.declared.answer.Refusal.{Refusal}
+use Rattle.control_heap_c.specs.declared.answer.Refusal.TheVariants.{Closed, Heap}
+use Rattle.control_heap_c.specs.declared.handle.Counts.{Counts}
+use Rattle.control_heap_c.specs.declared.handle.OpenRefusal.{OpenRefusal}
+use Rattle.control_heap_c.specs.declared.handle.OpenRefusal.TheVariants as opening
+
+-- ---- a command
+
+-- The heap was there and is the one after: the command was in bounds, its life had room for it, and
+-- it is counted. Whichever run the heap stood for, it now stands for that run with this command and
+-- this reply behind it.
+pub record Answered (old new : Control) (k : Command) (a : Reply) : Type 0 where
+  pub config : new.config ≡ old.config
+  pub bounds : IsCommandInBounds old.config k
+  pub left : HasLeft old k
+  pub one_more : asked new ≡ asked old + 1
+  pub objects : new.objects ≡ old.objects + objects_of k
+  pub answered : HasAnswered old k a new
+
+-- a command was answered
+abbrev pub IsAnswered : Option Control → Command → Reply → Option Control → Type 0
+IsAnswered None k a h = ⊥
+IsAnswered (Some old) k a None = ⊥
+IsAnswered (Some old) k a (Some new) = Answered old new k a
+
+-- or it was not asked: the handle is closed, or the heap refuses the command
+abbrev pub IsNotAsked : Option Control → Command → Refusal → Type 0
+IsNotAsked None k Closed = Unit {0}
+IsNotAsked None k (Heap r) = ⊥
+IsNotAsked (Some c) k Closed = ⊥
+IsNotAsked (Some c) k (Heap r) = IsRefused c k r
+
+-- what became of a command; a command that was not asked leaves the heap as it was
+abbrev pub Became : Option Control → Command → Result Reply Refusal → Option Control → Type 0
+Became old k (Ok a) new = IsAnswered old k a new
+Became old k (Err e) new = IsNotAsked old k e × (new ≡ old)
+
+-- what is told of it: a number of its own for each refusal
+abbrev pub status_of : Result Reply Refusal → ℕ
+status_of (Ok a) = 0
+status_of (Err Closed) = 1
+status_of (Err (Heap refused.OutOfBounds)) = 2
+status_of (Err (Heap refused.NoLifeLeft)) = 3
+
+abbrev pub answer : ℕ → ℕ → ℕ → Answer
+answer kind thread value = record { kind = kind; thread = thread; value = value }
+
+-- and a triple of its own for each reply
+abbrev pub written : Reply → Answer
+written (replies.New n) = answer 0 n.thread n.serial
+written (replies.Full c) = answer 1 0 c
+written replies.Stored = answer 2 0 0
+written (replies.Val values.Nil) = answer 3 0 0
+written (replies.Val (values.Int n)) = answer 4 0 n
+written (replies.Val (values.Ref n)) = answer 5 n.thread n.serial
+written (replies.Len n) = answer 6 0 n
+written replies.Yes = answer 7 0 0
+written replies.No = answer 8 0 0
+written replies.Null = answer 9 0 0
+written replies.Kind = answer 10 0 0
+written replies.Range = answer 11 0 0
+written replies.Idle = answer 12 0 0
+
+-- the reply that is read off such a triple
+abbrev pub reply_in : Answer → Option Reply
+reply_in w =
+    if w.kind == 0 then Some (replies.New (record { thread = w.thread; serial = w.value }))
+    else if w.kind == 1 then Some (replies.Full w.value)
+    else if w.kind == 2 then Some replies.Stored
+    else if w.kind == 3 then Some (replies.Val values.Nil)
+    else if w.kind == 4 then Some (replies.Val (values.Int w.value))
+    else if w.kind == 5 then Some (replies.Val (values.Ref (record { thread = w.thread; serial = w.value })))
+    else if w.kind == 6 then Some (replies.Len w.value)
+    else if w.kind == 7 then Some replies.Yes
+    else if w.kind == 8 then Some replies.No
+    else if w.kind == 9 then Some replies.Null
+    else if w.kind == 10 then Some replies.Kind
+    else if w.kind == 11 then Some replies.Range
+    else if w.kind == 12 then Some replies.Idle
+    else None
+
+-- the refusal that is read off a status
+abbrev pub refusal_in : ℕ → Option Refusal
+refusal_in s =
+    if s == 1 then Some Closed
+    else if s == 2 then Some (Heap refused.OutOfBounds)
+    else if s == 3 then Some (Heap refused.NoLifeLeft)
+    else None
+
+-- a refusal leaves the caller's answer as it was
+abbrev pub told : Result Reply Refusal → Answer → Answer
+told (Ok a) old = written a
+told (Err e) old = old
+
+-- the whole of a call of a command: the heap of the handle and the answer before it, the number
+-- that was returned, and both after it
+pub record Called (k : Command) (old new : Option Control) (before after : Answer) (status : ℕ)
+    : Type 0 where
+  pub outcome : Result Reply Refusal
+  pub became : Became old k outcome new
+  pub status_is : status ≡ status_of outcome
+  pub answer_is : after ≡ told outcome before
+
+-- A heap was called with these commands one after the other, each call told status 0 and wrote such
+-- a reply, and the heap is then z.
+abbrev pub AllCalled : Control → List Command → List Reply → Control → Type 0
+AllCalled h [] [] z = h ≡ z
+AllCalled h (k ∷ ks) (a ∷ ys) z =
+    (n : Control) × (before : Answer) × Called k (Some h) (Some n) before (written a) 0
+    × AllCalled n ks ys z
+AllCalled h _ _ z = ⊥
+
+-- A register is taken as a wide number, so that none that is too large is cut: from 255 on all are
+-- alike, and no heap has one of them.
+abbrev pub register : ℕ → ℕ
+register r = min r 255
+
+-- ---- opening
+
+abbrev pub width_of : ℕ → Option Width
+width_of v = if v == 1 then Some Four else if v == 2 then Some Eight else None
+
+abbrev pub config_of : Width → ℕ → ℕ → ℕ → ℕ → Config
+config_of w blocks live object shared = record {
+  width = w;
+  threads = 1;
+  blocks = blocks;
+  live = live;
+  object = object;
+  shared = shared;
+}
+
+-- a heap that has done nothing yet
+pub record Fresh (c : Config) (h : Control) : Type 0 where
+  pub can : CanOpen c
+  pub config : h.config ≡ c
+  pub asked : asked h ≡ 0
+  pub units : units h ≡ 0
+  pub objects : h.objects ≡ 0
+  pub run : Run
+  pub stands : Stands h run
+  pub order : run.order ≡ Started ∷ []
+
+abbrev pub IsOpened : Option Width → (Width → Config) → Option Control → Type 0
+IsOpened None c h = ⊥
+IsOpened (Some w) c None = ⊥
+IsOpened (Some w) c (Some h) = Fresh (c w) h
+
+-- why nothing is opened: the handle is open, there is no such version, or the heap's own cause
+abbrev pub IsNotOpened : Option Control → Option Width → (Width → Config) → OpenRefusal → Type 0
+IsNotOpened (Some h) w c opening.Open = Unit {0}
+IsNotOpened None None c opening.Version = Unit {0}
+IsNotOpened None (Some w) c (opening.Heap f) = IsOpenFault (c w) f
+IsNotOpened _ _ c _ = ⊥
+
+abbrev pub BecameOpen : Option Control → Option Width → (Width → Config) → Option OpenRefusal
+    → Option Control → Type 0
+BecameOpen None w c None new = IsOpened w c new
+BecameOpen (Some h) w c None new = ⊥
+BecameOpen old w c (Some e) new = IsNotOpened old w c e × (new ≡ old)
+
+abbrev pub open_status : Option OpenRefusal → ℕ
+open_status None = 0
+open_status (Some (opening.Heap faults.OutOfBounds)) = 2
+open_status (Some opening.Open) = 4
+open_status (Some opening.Version) = 5
+open_status (Some (opening.Heap faults.LiveTooSmall)) = 6
+open_status (Some (opening.Heap faults.NoRate)) = 7
+open_status (Some (opening.Heap faults.NoMemory)) = 8
+open_status (Some (opening.Heap faults.NotOneThread)) = 9
+
+pub record Opened (w : Option Width) (c : Width → Config) (old new : Option Control) (status : ℕ)
+    : Type 0 where
+  pub refusal : Option OpenRefusal
+  pub became : BecameOpen old w c refusal new
+  pub status_is : status ≡ open_status refusal
+
+-- ---- what is left
+
+abbrev pub counts_of : Option Control → Counts
+counts_of None = record { units = 0; objects = 0; asked = 0 }
+counts_of (Some h) = record {
+  units = most_units - units h;
+  objects = most_objects - h.objects;
+  asked = asked h;
+}

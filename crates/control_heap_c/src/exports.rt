@@ -1,0 +1,318 @@
+//! The calls that a program in C makes. Each takes a handle, which is open or not, and tells by a
+//! number what became of it; a call that is refused changes nothing.
+
+ghost use Rattle.std.specs.Prelude.{◌≡◌, is_some, None, if◌then◌else◌};
+ghost use Rattle.never_heap.specs.declared.Command.TheVariants as commands;
+ghost use Rattle.control_heap_c.specs.Outcomes.{Called, Opened, config_of, counts_of, register, width_of};
+
+use crate::answer::{Answer, register, tell};
+use crate::handle::{Handle, ask, close, counts_at, open, open_told};
+use never_heap::Command;
+use std::alloc::Global;
+
+/// Opens a heap in a handle that has none. The version is 1 or 2.
+#[unsafe(no_mangle)]
+pub extern "C" fn rtheap_raw_open(
+    alloc: Global,
+    handle: &mut Handle,
+    version: u32,
+    blocks: u32,
+    live: u32,
+    object: u32,
+    shared: u32,
+) -> u32
+    ensures { Opened (width_of version) (λ w. config_of w blocks live object shared)
+        handle.old.link.heap handle.new.link.heap result }
+{
+    open_told(open(alloc, handle, version, blocks, live, object, shared))
+}
+
+/// Closes a handle, and frees its heap: 0, or 1 where it was closed.
+#[unsafe(no_mangle)]
+pub extern "C" fn rtheap_raw_close(alloc: Global, handle: &mut Handle) -> u32
+    ensures closed { handle.new.link.heap ≡ None }
+    ensures told { result ≡ if is_some handle.old.link.heap then 0 else 1 }
+{
+    if close(alloc, handle) { 0 } else { 1 }
+}
+
+/// How many units the commands of a heap may still owe; 0 where the handle is closed.
+#[unsafe(no_mangle)]
+pub extern "C" fn rtheap_raw_units_left(alloc: Global, handle: &mut Handle) -> u64
+    ensures told { result ≡ (counts_of handle.old.link.heap).units }
+    ensures unchanged { handle.new.link.heap ≡ handle.old.link.heap }
+{
+    counts_at(alloc, handle).units
+}
+
+/// How many commands that make an object it may still be asked; 0 where the handle is closed.
+#[unsafe(no_mangle)]
+pub extern "C" fn rtheap_raw_objects_left(alloc: Global, handle: &mut Handle) -> u64
+    ensures told { result ≡ (counts_of handle.old.link.heap).objects }
+    ensures unchanged { handle.new.link.heap ≡ handle.old.link.heap }
+{
+    counts_at(alloc, handle).objects
+}
+
+/// How many commands it was asked; 0 where the handle is closed.
+#[unsafe(no_mangle)]
+pub extern "C" fn rtheap_raw_asked(alloc: Global, handle: &mut Handle) -> u64
+    ensures told { result ≡ (counts_of handle.old.link.heap).asked }
+    ensures unchanged { handle.new.link.heap ≡ handle.old.link.heap }
+{
+    counts_at(alloc, handle).asked
+}
+
+/// Makes a record of nil fields, to which register `d` then refers.
+#[unsafe(no_mangle)]
+pub extern "C" fn rtheap_raw_new(
+    alloc: Global,
+    handle: &mut Handle,
+    d: u32,
+    fields: u32,
+    out: &mut Answer,
+) -> u32
+    ensures { Called (commands.New (register d) fields) handle.old.link.heap handle.new.link.heap out.old out.new
+        result }
+{
+    let command = Command::New {
+        d: register(d),
+        fields,
+    };
+    let outcome = ask(alloc, handle, command);
+    tell(outcome, out)
+}
+
+/// Makes an array of nil elements, to which register `d` then refers.
+#[unsafe(no_mangle)]
+pub extern "C" fn rtheap_raw_arr(
+    alloc: Global,
+    handle: &mut Handle,
+    d: u32,
+    elements: u32,
+    out: &mut Answer,
+) -> u32
+    ensures { Called (commands.Arr (register d) elements) handle.old.link.heap handle.new.link.heap out.old out.new
+        result }
+{
+    let command = Command::Arr {
+        d: register(d),
+        elements,
+    };
+    let outcome = ask(alloc, handle, command);
+    tell(outcome, out)
+}
+
+/// Register `d` becomes this number.
+#[unsafe(no_mangle)]
+pub extern "C" fn rtheap_raw_set(
+    alloc: Global,
+    handle: &mut Handle,
+    d: u32,
+    value: u64,
+    out: &mut Answer,
+) -> u32
+    ensures { Called (commands.Set (register d) value) handle.old.link.heap handle.new.link.heap out.old out.new
+        result }
+{
+    let command = Command::Set {
+        d: register(d),
+        value,
+    };
+    let outcome = ask(alloc, handle, command);
+    tell(outcome, out)
+}
+
+/// Register `d` becomes nil.
+#[unsafe(no_mangle)]
+pub extern "C" fn rtheap_raw_nil(
+    alloc: Global,
+    handle: &mut Handle,
+    d: u32,
+    out: &mut Answer,
+) -> u32
+    ensures { Called (commands.Nil (register d)) handle.old.link.heap handle.new.link.heap out.old out.new
+        result }
+{
+    let command = Command::Nil { d: register(d) };
+    let outcome = ask(alloc, handle, command);
+    tell(outcome, out)
+}
+
+/// Register `d` becomes what register `s` holds.
+#[unsafe(no_mangle)]
+pub extern "C" fn rtheap_raw_mov(
+    alloc: Global,
+    handle: &mut Handle,
+    d: u32,
+    s: u32,
+    out: &mut Answer,
+) -> u32
+    ensures { Called (commands.Mov (register d) (register s)) handle.old.link.heap handle.new.link.heap out.old out.new
+        result }
+{
+    let command = Command::Mov {
+        d: register(d),
+        s: register(s),
+    };
+    let outcome = ask(alloc, handle, command);
+    tell(outcome, out)
+}
+
+/// Register `d` becomes field `i` of the object in register `s`.
+#[unsafe(no_mangle)]
+pub extern "C" fn rtheap_raw_get(
+    alloc: Global,
+    handle: &mut Handle,
+    d: u32,
+    s: u32,
+    i: u64,
+    out: &mut Answer,
+) -> u32
+    ensures { Called (commands.Get (register d) (register s) i) handle.old.link.heap handle.new.link.heap out.old out.new
+        result }
+{
+    let command = Command::Get {
+        d: register(d),
+        s: register(s),
+        i,
+    };
+    let outcome = ask(alloc, handle, command);
+    tell(outcome, out)
+}
+
+/// Field `i` of the object in register `s` becomes what register `v` holds.
+#[unsafe(no_mangle)]
+pub extern "C" fn rtheap_raw_put(
+    alloc: Global,
+    handle: &mut Handle,
+    s: u32,
+    i: u64,
+    v: u32,
+    out: &mut Answer,
+) -> u32
+    ensures { Called (commands.Put (register s) i (register v)) handle.old.link.heap handle.new.link.heap out.old out.new
+        result }
+{
+    let command = Command::Put {
+        s: register(s),
+        i,
+        v: register(v),
+    };
+    let outcome = ask(alloc, handle, command);
+    tell(outcome, out)
+}
+
+/// How many fields or elements the object in register `s` has.
+#[unsafe(no_mangle)]
+pub extern "C" fn rtheap_raw_len(
+    alloc: Global,
+    handle: &mut Handle,
+    s: u32,
+    out: &mut Answer,
+) -> u32
+    ensures { Called (commands.Len (register s)) handle.old.link.heap handle.new.link.heap out.old out.new
+        result }
+{
+    let command = Command::Len { s: register(s) };
+    let outcome = ask(alloc, handle, command);
+    tell(outcome, out)
+}
+
+/// Whether registers `a` and `b` hold the same.
+#[unsafe(no_mangle)]
+pub extern "C" fn rtheap_raw_same(
+    alloc: Global,
+    handle: &mut Handle,
+    a: u32,
+    b: u32,
+    out: &mut Answer,
+) -> u32
+    ensures { Called (commands.Same (register a) (register b)) handle.old.link.heap handle.new.link.heap out.old out.new
+        result }
+{
+    let command = Command::Same {
+        a: register(a),
+        b: register(b),
+    };
+    let outcome = ask(alloc, handle, command);
+    tell(outcome, out)
+}
+
+/// Shows register `s`.
+#[unsafe(no_mangle)]
+pub extern "C" fn rtheap_raw_say(
+    alloc: Global,
+    handle: &mut Handle,
+    s: u32,
+    out: &mut Answer,
+) -> u32
+    ensures { Called (commands.Say (register s)) handle.old.link.heap handle.new.link.heap out.old out.new
+        result }
+{
+    let command = Command::Say { s: register(s) };
+    let outcome = ask(alloc, handle, command);
+    tell(outcome, out)
+}
+
+/// Field `i` of the object in register `s` and register `v` exchange their values.
+#[unsafe(no_mangle)]
+pub extern "C" fn rtheap_raw_swap(
+    alloc: Global,
+    handle: &mut Handle,
+    s: u32,
+    i: u64,
+    v: u32,
+    out: &mut Answer,
+) -> u32
+    ensures { Called (commands.Swap (register s) i (register v)) handle.old.link.heap handle.new.link.heap out.old out.new
+        result }
+{
+    let command = Command::Swap {
+        s: register(s),
+        i,
+        v: register(v),
+    };
+    let outcome = ask(alloc, handle, command);
+    tell(outcome, out)
+}
+
+/// Where field `i` of the object in register `s` and register `a` hold the same, the field becomes what register `v` holds.
+#[unsafe(no_mangle)]
+pub extern "C" fn rtheap_raw_cas(
+    alloc: Global,
+    handle: &mut Handle,
+    s: u32,
+    i: u64,
+    a: u32,
+    v: u32,
+    out: &mut Answer,
+) -> u32
+    ensures { Called (commands.Cas (register s) i (register a) (register v)) handle.old.link.heap handle.new.link.heap out.old out.new
+        result }
+{
+    let command = Command::Cas {
+        s: register(s),
+        i,
+        a: register(a),
+        v: register(v),
+    };
+    let outcome = ask(alloc, handle, command);
+    tell(outcome, out)
+}
+
+/// Makes this many units of marking or sweeping.
+#[unsafe(no_mangle)]
+pub extern "C" fn rtheap_raw_idle(
+    alloc: Global,
+    handle: &mut Handle,
+    units: u64,
+    out: &mut Answer,
+) -> u32
+    ensures { Called (commands.Idle units) handle.old.link.heap handle.new.link.heap out.old out.new
+        result }
+{
+    let command = Command::Idle { units };
+    let outcome = ask(alloc, handle, command);
+    tell(outcome, out)
+}

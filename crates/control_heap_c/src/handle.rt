@@ -1,0 +1,238 @@
+//! A handle of C's, with the heap that it stands for.
+
+ghost use Rattle.std.specs.Prelude.{◌≡◌, eqb, is_some, Some, None, MatchOption, IfOk, IfErr};
+ghost use Rattle.control_heap.specs.Refusals.{IsOpenFault};
+ghost use Rattle.control_heap_c.specs.Links.{open_mark};
+ghost use Rattle.control_heap_c.specs.Outcomes.{Became, BecameOpen, Fresh, config_of, counts_of, open_status, width_of};
+
+use crate::answer::Refusal;
+use crate::link::Link;
+use block_store::{Config, Width};
+use control_heap::{ControlHeap, OpenFault};
+use never_heap::{Command, Reply};
+use std::alloc::Global;
+use std::mem::replace;
+
+// What a handle that is open begins with. Any other number there is that of a closed one.
+const OPEN: u64 = 7_238_540_126_943_155_201;
+
+/// What C has of a heap: a number that tells whether it is open, and the heap's pointer.
+#[repr(C)]
+#[derive(Drop)]
+pub struct Handle {
+    mark: u64,
+    link: Link,
+    ghost told: { eqb mark open_mark ≡ is_some link.heap },
+}
+
+/// Why no heap is opened.
+#[derive(Clone, Copy, Debug, PartialEq, Eq)]
+pub enum OpenRefusal {
+    /// The handle has a heap.
+    Open,
+    /// There is no such version.
+    Version,
+    /// The heap's own cause.
+    Heap(OpenFault),
+}
+
+impl Handle {
+    // A handle with no heap.
+    fn closed(alloc: Global) -> Handle
+        ensures { result.link.heap ≡ None }
+    {
+        Handle {
+            mark: 0,
+            link: Link::none(alloc),
+        }
+    }
+
+    // A handle with this heap.
+    fn of(heap: Box<ControlHeap>) -> Handle
+        ensures { result.link.heap ≡ Some heap.value }
+    {
+        Handle {
+            mark: OPEN,
+            link: Link::of(heap),
+        }
+    }
+
+    // The heap, where there is one.
+    fn into_heap(self) -> Option<Box<ControlHeap>>
+        ensures { MatchOption result (self.link.heap ≡ None) (λ b. self.link.heap ≡ Some b.value) }
+    {
+        if self.mark == OPEN {
+            Some(self.link.into_heap())
+        } else {
+            None
+        }
+    }
+}
+
+/// Asks a command of the heap of a handle.
+///
+/// # Errors
+///
+/// `Closed` where the handle has no heap, and else as of `ControlHeap::ask`; then nothing has
+/// changed.
+pub fn ask(alloc: Global, handle: &mut Handle, command: Command) -> Result<Reply, Refusal>
+    ensures { Became handle.old.link.heap command result handle.new.link.heap }
+{
+    match replace(handle, Handle::closed(alloc)).into_heap() {
+        None => Err(Refusal::Closed),
+        Some(heap) => {
+            let (heap, outcome) = ask_box(heap, command);
+            *handle = Handle::of(heap);
+            outcome
+        }
+    }
+}
+
+// Asks a command of a heap.
+fn ask_box(heap: Box<ControlHeap>, command: Command) -> (Box<ControlHeap>, Result<Reply, Refusal>)
+    ensures { Became (Some heap.value) command result.1 (Some result.0.value) }
+{
+    let mut heap = heap;
+    match heap.ask(command) {
+        Ok(reply) => (heap, Ok(reply)),
+        Err(refused) => (heap, Err(Refusal::Heap(refused))),
+    }
+}
+
+/// Opens a heap in a handle that has none.
+///
+/// # Errors
+///
+/// The first of these that is so: `Open` where the handle has a heap; `Version` where the version
+/// is neither 1 nor 2; and as of `ControlHeap::open`. Then nothing has changed.
+pub fn open(
+    alloc: Global,
+    handle: &mut Handle,
+    version: u32,
+    blocks: u32,
+    live: u32,
+    object: u32,
+    shared: u32,
+) -> Option<OpenRefusal>
+    ensures { BecameOpen handle.old.link.heap (width_of version)
+        (λ w. config_of w blocks live object shared) result handle.new.link.heap }
+{
+    match replace(handle, Handle::closed(alloc)).into_heap() {
+        Some(heap) => {
+            *handle = Handle::of(heap);
+            Some(OpenRefusal::Open)
+        }
+        None => match width_of(version) {
+            None => Some(OpenRefusal::Version),
+            Some(width) => {
+                let config = Config {
+                    width,
+                    threads: 1,
+                    blocks,
+                    live,
+                    object,
+                    shared,
+                };
+                match opened(alloc, config) {
+                    Err(fault) => Some(OpenRefusal::Heap(fault)),
+                    Ok(heap) => {
+                        *handle = Handle::of(heap);
+                        None
+                    }
+                }
+            }
+        },
+    }
+}
+
+/// The number of what became of an opening.
+pub fn open_told(refusal: Option<OpenRefusal>) -> u32
+    ensures { result ≡ open_status refusal }
+{
+    match refusal {
+        None => 0,
+        Some(OpenRefusal::Heap(OpenFault::OutOfBounds)) => 2,
+        Some(OpenRefusal::Open) => 4,
+        Some(OpenRefusal::Version) => 5,
+        Some(OpenRefusal::Heap(OpenFault::LiveTooSmall)) => 6,
+        Some(OpenRefusal::Heap(OpenFault::NoRate)) => 7,
+        Some(OpenRefusal::Heap(OpenFault::NoMemory)) => 8,
+        Some(OpenRefusal::Heap(OpenFault::NotOneThread)) => 9,
+    }
+}
+
+// The width of a version.
+fn width_of(version: u32) -> Option<Width>
+    ensures { result ≡ width_of version }
+{
+    if version == 1 {
+        return Some(Width::Four);
+    }
+    if version == 2 {
+        return Some(Width::Eight);
+    }
+    None
+}
+
+// The opening heap, boxed.
+fn opened(alloc: Global, config: Config) -> Result<Box<ControlHeap>, OpenFault>
+    ensures fresh { IfOk result (λ b. Fresh config b.value) }
+    ensures refused { IfErr result (IsOpenFault config) }
+{
+    let heap = ControlHeap::open(alloc, config)?;
+    match Box::new(alloc, heap) {
+        Ok(heap) => Ok(heap),
+        Err(_) => Err(OpenFault::NoMemory),
+    }
+}
+
+/// Lets go of the heap of a handle. Answers whether there was one.
+pub fn close(alloc: Global, handle: &mut Handle) -> bool
+    ensures told { result ≡ is_some handle.old.link.heap }
+    ensures closed { handle.new.link.heap ≡ None }
+{
+    match replace(handle, Handle::closed(alloc)).into_heap() {
+        None => false,
+        Some(heap) => {
+            drop(heap);
+            true
+        }
+    }
+}
+
+/// What is left of the life of the heap of a handle, and how many commands it was asked.
+#[derive(Clone, Copy, Debug, PartialEq, Eq)]
+pub struct Counts {
+    pub units: u64,
+    pub objects: u64,
+    pub asked: u64,
+}
+
+/// Those of a heap; 0 where there is none.
+pub fn counts_at(alloc: Global, handle: &mut Handle) -> Counts
+    ensures told { result ≡ counts_of handle.old.link.heap }
+    ensures unchanged { handle.new.link.heap ≡ handle.old.link.heap }
+{
+    match replace(handle, Handle::closed(alloc)).into_heap() {
+        None => Counts {
+            units: 0,
+            objects: 0,
+            asked: 0,
+        },
+        Some(heap) => {
+            let counts = counts_of(&heap);
+            *handle = Handle::of(heap);
+            counts
+        }
+    }
+}
+
+fn counts_of(heap: &ControlHeap) -> Counts
+    ensures { result ≡ counts_of (Some heap.now) }
+{
+    Counts {
+        units: heap.units_left(),
+        objects: heap.objects_left(),
+        asked: heap.asked(),
+    }
+}
