@@ -1,0 +1,113 @@
+-- A seat that has all threads, each of them done, knows that there is one history.
+use Rattle.std.proofs.Common.{◌≡◌, ℕ, zero, suc, ◌<◌, true, arith, subst, sym, ap, ◌∙◌, List, [], ◌∷◌, length, get_or, map}
+use mathlib.Core.Option.{some, some-injective, some-ne-none}
+use lib.ListN.{get_elem?}
+use Rattle.atomic_table.specs.Table as table
+use Rattle.block_store.specs.declared.Config.{Config}
+use Rattle.block_store.specs.Phases.{cycle_of}
+use Rattle.never_heap.specs.declared.Command.{Command}
+use Rattle.never_heap.specs.declared.Entry.{Entry}
+use Rattle.never_heap.specs.Histories.{part}
+use Rattle.heap_system.specs.Locals.{LocalState, is_done}
+use Rattle.heap_system.specs.Machines.{Run, local_in}
+use Rattle.heap_system.specs.Systems.{Whole}
+use Rattle.heap_system.proofs.Kept.{Kept}
+use Rattle.heap_system.proofs.LawsOf.{laws_of}
+use Rattle.heap_system.proofs.RunBounds.{licensed, never_full}
+use Rattle.heap_system.proofs.TalliesOf.{tallies_of}
+use Rattle.heap_system.proofs.TurnFacts.{right_work}
+use Rattle.shared_heap.specs.declared.rules.Held.{Held}
+use Rattle.shared_heap.specs.declared.rules.View.{View}
+use Rattle.shared_heap.specs.Shared.{Fits, AllFit, SharedKept, IsStartOf, held}
+use Rattle.shared_heap.specs.Workers.{HeapState, WorkerState, AreInOrder, AreOfWorkers, IsOfWorker, KnowsAll, HasPart, HaveOneHistory}
+use Rattle.shared_heap.proofs.Crews.{of_at, of_long}
+use Rattle.shared_heap.proofs.Grown.{here, kept_of}
+use Rattle.shared_heap.proofs.Rests.{at_rest, said_when_done, told_at_rest}
+
+pub fit_at : (c : Config) (r : Run) (hs : List Held) (i : ℕ) (d : Held) → AllFit c r hs → i < length hs → Fits c r (get_or hs i d)
+fit_at c r [] i d fit low = absurd (omega arith)
+fit_at c r (h ∷ hs) zero d fit low = fit.0
+fit_at c r (h ∷ hs) (suc i) d fit low = fit_at c r hs i d fit.1 (omega arith)
+
+module _ (k : Whole) (s : table.State Command View) (kept : SharedKept k s) (id : ℕ) (v : View) (at : get_elem? s.views id ≡ some v) (h : HeapState) (ws : List WorkerState) (named : h.config ≡ k.config) (order : AreInOrder h ws) (mine : AreOfWorkers ws v.threads) where
+  abbrev c : Config
+  c = k.config
+
+  abbrev r : Run
+  r = kept.run
+
+  all : Kept c kept.by.after.traces r
+  all = kept_of c r kept.by.after
+
+  count : length ws ≡ c.threads
+  count = order.count ∙ ap (λ (x : Config). x.threads) named
+
+  module _ (t : ℕ) (tl : t < c.threads) (d : WorkerState) where
+    below : t < length ws
+    below = omega (arith, tl, count)
+
+    there : t < length v.threads
+    there = omega (arith, below, of_long ws v.threads mine)
+
+    abbrev w : WorkerState
+    w = get_or ws t d
+
+    -- stands for none
+    abbrev e : Held
+    e = held d.thread []
+
+    abbrev own : Held
+    own = get_or v.threads t e
+
+    its : IsOfWorker w own
+    its = of_at ws v.threads t d e mine below
+
+    fit : Fits c r own
+    fit = fit_at c r v.threads t e (kept.each id v at).0 there
+
+    number : own.local.thread ≡ t
+    number = ap (λ (l : LocalState). l.thread) (sym its.0) ∙ (order.each t d below).1
+
+    is : own.local ≡ local_in c r t
+    is = here c t tl r kept.by.after own.local (subst (λ u. own.local ≡ get_or r.state.locals u own.local) number fit.1)
+
+    over : is_done (local_in c r t) ≡ true
+    over = ap is_done (sym is) ∙ its.2
+
+    log : part t r.order ≡ (local_in c r t).log
+    log = told_at_rest c t tl r kept.by.after (at_rest (local_in c r t) over)
+
+    pub its_part : HasPart r.order t w
+    its_part = record {
+      thread = ap (λ (l : LocalState). l.thread) its.0 ∙ number;
+      told = ap (λ (l : LocalState). l.log) its.0 ∙ ap (λ (l : LocalState). l.log) is ∙ sym log;
+      asked = ap (map (λ (e : Entry). e.command)) log ∙ said_when_done c t tl r kept.by.after over ∙ sym (ap (λ (l : LocalState). l.trace) is) ∙ sym (ap (λ (l : LocalState). l.trace) its.0);
+      seen = subst (λ x. IsStartOf x r.order) (sym its.1) fit.2;
+    }
+
+  pub one_history : (cycles : ℕ) → cycles ≡ cycle_of (get_or s.words 0 0) → HaveOneHistory h.config ws cycles
+  one_history cycles read = subst (λ x. HaveOneHistory x ws cycles) (sym named) (record {
+    order = r.order;
+    legal = all.names.ordered.legal;
+    licensed = licensed c kept.by.after.traces (laws_of c) (tallies_of c) kept.by.after.job kept.by.after.turns r kept.by.after.by_turns kept.by.after.by_turns.opening.rate kept.by.after.by_turns.opening.planned;
+    never = never_full c kept.by.after.traces (laws_of c) (tallies_of c) kept.by.after.job kept.by.after.turns r kept.by.after.by_turns kept.by.after.by_turns.opening.rate kept.by.after.by_turns.opening.planned;
+    right = λ rate planned. right_work c kept.by.after.traces r all rate planned;
+    parts = λ t tl. (t, omega (arith, tl, count), λ d. its_part t tl d);
+    others = all.foreign;
+    starts = read ∙ ap (λ ws. cycle_of (get_or ws 0 0)) kept.words ∙ sym all.names.ordered.started;
+  })
+
+-- the word that is read at place 0 is the phase word
+first_word : (ws : List ℕ) (w : ℕ) → get_elem? ws 0 ≡ some w → get_or ws 0 0 ≡ w
+first_word [] w e = absurd (some-ne-none w (sym e))
+first_word (x ∷ ws) w e = some-injective x w e
+
+pub cycle_is : (s : table.State Command View) (ws : List ℕ) (w : ℕ) → s.words ≡ ws → get_elem? ws 0 ≡ some w → cycle_of (get_or s.words 0 0) ≡ cycle_of w
+cycle_is s ws w same at = ap (λ x. cycle_of (get_or x 0 0)) same ∙ ap cycle_of (first_word ws w at)
+
+-- the same, whatever the seat is called
+pub closes : (h : HeapState) (k : Whole) (s : table.State Command View) (id : ℕ) (me : table.Me Command View) (who ws : List WorkerState) (cycles : ℕ) → SharedKept k s → get_elem? s.views id ≡ some me.0 → KnowsAll me ws → ws ≡ who → h.config ≡ k.config
+    → AreInOrder h who → cycles ≡ cycle_of (get_or s.words 0 0) → HaveOneHistory h.config who cycles
+closes h k s id me who ws cycles kept at knows same named order read =
+    let seen : get_elem? s.views id ≡ some (record { threads = knows.threads; notes = knows.notes }) = at ∙ ap (λ (m : table.Me Command View). some m.0) knows.knows in
+    one_history k s kept id (record { threads = knows.threads; notes = knows.notes }) seen h who named order (subst (λ xs. AreOfWorkers xs knows.threads) same knows.all) cycles read

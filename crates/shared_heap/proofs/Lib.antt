@@ -1,0 +1,13 @@
+pub mod Views
+pub mod Grown
+pub mod Steps
+pub mod Gifts
+pub mod Openings
+pub mod Crews
+pub mod Runs
+pub mod Rests
+pub mod Asking
+pub mod Endings
+pub mod Prefixes
+pub mod Behind
+pub mod Orders

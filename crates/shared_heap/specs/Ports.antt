@@ -1,0 +1,63 @@
+-- What a worker's thread may do to the shared words, and what that makes of its seat.
+use Rattle.std.specs.Prelude.{ℕ, ◌<◌, ◌≡◌, List, [], length, false}
+use Rattle.atomic_table.specs.Table as table
+use Rattle.atomic_table.specs.Seated.{TableId}
+use Rattle.block_store.specs.Places.{extent, words_count}
+use Rattle.heap_machine.specs.declared.op.Op.{Op}
+use Rattle.heap_machine.specs.Operations.{op_place}
+use Rattle.never_heap.specs.declared.Command.{Command}
+use Rattle.never_heap.specs.declared.Entry.{Entry}
+use Rattle.heap_system.specs.Locals.{LocalState, is_done, op_wanted}
+use Rattle.shared_heap.specs.declared.rules.Held.{Held}
+use Rattle.shared_heap.specs.declared.rules.Moment.{Moment}
+use Rattle.shared_heap.specs.declared.rules.View.{View}
+use Rattle.shared_heap.specs.Shared.{IsOfRun, IsStartOf, StepsOn, behind, held, history_of, one_view}
+
+-- The seat is of this table and has one thread, which is not done, and the operation is the one
+-- that the thread wants, on a word of the table.
+pub record MayTurn (me : table.Me Command View) (own shared : TableId) (op : Op) : Type 0 where
+  pub one : Held
+  pub notes : List (List Moment)
+  pub knows : me ≡ (one_view one notes, [])
+  pub going : is_done one.local ≡ false
+  pub wants : op ≡ op_wanted one.local
+  pub place : op_place op < shared.words
+  pub table : own ≡ shared
+  pub slots : shared.slots ≡ 0
+
+-- it is still the same seat of the table, and what it knows has moved on by the word
+abbrev pub HasTurned : TableId → ℕ → table.Me Command View → ℕ → TableId → ℕ
+    → table.Me Command View → Type 0
+HasTurned own id me w own_after id_after me_after =
+    (own_after ≡ own) × (id_after ≡ id) × StepsOn me w me_after
+
+-- The seat is of the table and has this one thread, with commands and entries in front of its own,
+-- and no notes. It has seen the order of a run, of which it is a thread.
+pub record HasThread (me : table.Me Command View) (own shared : TableId) (l : LocalState) : Type 0
+  where
+    pub commands : List Command
+    pub entries : List Entry
+    pub seen : List Moment
+    pub long : length commands ≡ length entries
+    pub knows : me ≡ (one_view (held (behind commands entries l) seen) [], [])
+    pub told : IsOfRun l.config (history_of seen) (behind commands entries l)
+    pub words : own.words ≡ words_count (extent l.config)
+    pub slots : own.slots ≡ 0
+    pub table : own ≡ shared
+
+-- the seat has this thread behind these, and has seen more than before
+pub record HasSeenMore (ks : List Command) (es : List Entry) (seen : List Moment)
+    (after : table.Me Command View) (k : LocalState) : Type 0 where
+  pub now : List Moment
+  pub knows : after ≡ (one_view (held (behind ks es k) now) [], [])
+  pub more : IsStartOf (history_of seen) (history_of now)
+
+-- Whatever is in front of the thread of a seat is in front of it still.
+pub record HasGoneOn (me : table.Me Command View) (l : LocalState) (after : table.Me Command View)
+    (k : LocalState) : Type 0 where
+  pub front : (ks : List Command) (es : List Entry) (seen : List Moment) → length ks ≡ length es
+      → me ≡ (one_view (held (behind ks es l) seen) [], []) → HasSeenMore ks es seen after k
+  pub trace : k.trace ≡ l.trace
+  pub config : k.config ≡ l.config
+  pub thread : k.thread ≡ l.thread
+  pub before : k.before ≡ l.before

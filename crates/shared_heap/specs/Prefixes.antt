@@ -1,0 +1,59 @@
+-- What holds at each moment, between any two steps of any threads.
+use Rattle.std.specs.Prelude.{ℕ, ◌<◌, ◌≤◌, ◌≡◌, ◌++◌, true, List, [], ◌∷◌, length, map, take}
+use mathlib.Core.Option.{some}
+use lib.ListN.{get_elem?}
+use Rattle.atomic_table.specs.Table as table
+use Rattle.block_store.specs.declared.Config.{Config}
+use Rattle.rate_plan.specs.Rates.{IsRate}
+use Rattle.never_heap.specs.declared.Command.{Command}
+use Rattle.never_heap.specs.declared.Entry.{Entry}
+use Rattle.never_heap.specs.Histories.{HistoryItem, Legal, part}
+use Rattle.never_heap.specs.Licensed.{Licensed}
+use Rattle.never_heap.specs.RightWork.{RightWork}
+use Rattle.never_heap.specs.Steps.{blocks_of}
+use Rattle.heap_system.specs.Alone.{EndsWithin, command_bound}
+use Rattle.heap_system.specs.Locals.{LocalState, is_done}
+use Rattle.heap_system.specs.Machines.{Run}
+use Rattle.control_heap.specs.Controls.{allocation_near}
+use Rattle.control_heap.specs.Growth.{run_grown}
+use Rattle.shared_heap.specs.declared.rules.Held.{Held}
+use Rattle.shared_heap.specs.declared.rules.View.{View}
+use Rattle.shared_heap.specs.Shared.{AllNotedIn, AllSeenIn}
+
+-- The part of a thread in a history is its log, and at most one entry more: that of the command in
+-- hand, where it is decided. The entries of the log are those of its first commands.
+pub record HasPartOf (order : List HistoryItem) (l : LocalState) : Type 0 where
+  pub more : List Entry
+  pub few : length more ≤ 1
+  pub told : part l.thread order ≡ l.log ++ more
+  pub rest : is_done l ≡ true → more ≡ []
+  pub asked : map (λ (e : Entry). e.command) l.log ≡ take (length l.log) l.trace
+
+abbrev pub AllHaveParts : List HistoryItem → List Held → Type 0
+AllHaveParts order [] = Unit {0}
+AllHaveParts order (h ∷ hs) = HasPartOf order h.local × AllHaveParts order hs
+
+-- There is one history of which the threads in all seats have their parts. What they have seen, and
+-- what was noted, is how it begins.
+pub record FitsOneHistory (c : Config) (s : table.State Command View) : Type 0 where
+  pub order : List HistoryItem
+  pub legal : Legal c order
+  pub licensed : Licensed c order
+  pub right : (rate : ℕ) → IsRate c rate → RightWork c.width rate order
+  pub parts : (id : ℕ) (v : View) → get_elem? s.views id ≡ some v → AllHaveParts order v.threads × AllSeenIn order v.threads
+      × AllNotedIn order v.notes
+
+-- each thread has done what it was asked
+abbrev pub AllDone : List Held → Type 0
+AllDone [] = Unit {0}
+AllDone (h ∷ hs) = (is_done h.local ≡ true) × AllDone hs
+
+abbrev pub AllAreDone : table.State Command View → Type 0
+AllAreDone s = (id : ℕ) (v : View) → get_elem? s.views id ≡ some v → AllDone v.threads
+
+-- A command that thread t is given after run r, and that it does alone, takes no more turns than the
+-- bound of a lone thread, and an allocation no more than the near bound. None of them waits.
+pub record EndsInTime (c : Config) (t : ℕ) (k : Command) (r : Run) : Type 0 where
+  pub far : (rate : ℕ) → IsRate c rate → EndsWithin c t (run_grown t k r) (command_bound c rate k)
+  pub near : (rate : ℕ) → IsRate c rate → 0 < blocks_of c.width k
+      → EndsWithin c t (run_grown t k r) (allocation_near c rate k)

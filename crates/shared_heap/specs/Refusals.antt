@@ -1,0 +1,25 @@
+-- Why no heap is opened, and why a command is not asked.
+use Rattle.block_store.specs.declared.Config.{Config}
+use Rattle.block_store.specs.Configs.{IsInBounds}
+use Rattle.rate_plan.specs.Rates.{IsRefusal}
+use Rattle.rate_plan.specs.declared.PlanFault.TheVariants as plans
+use Rattle.never_heap.specs.declared.Command.{Command}
+use Rattle.never_heap.specs.Bounds.{IsCommandInBounds}
+use Rattle.shared_heap.specs.declared.heap.OpenFault.{OpenFault}
+use Rattle.shared_heap.specs.declared.heap.OpenFault.TheVariants.{OutOfBounds, LiveTooSmall, NoRate, NoMemory}
+use Rattle.shared_heap.specs.declared.worker.Refused.{Refused}
+use Rattle.shared_heap.specs.declared.worker.Refused.TheVariants as refusals
+use Rattle.shared_heap.specs.Workers.{CanOpen, HasLeft, WorkerState}
+
+-- when each fault comes: one at most fits a configuration, and none but the last where it can be
+-- opened
+abbrev pub IsOpenFault : Config → OpenFault → Type 0
+IsOpenFault c OutOfBounds = ¬ IsInBounds c
+IsOpenFault c LiveTooSmall = IsInBounds c × IsRefusal c plans.LiveTooSmall
+IsOpenFault c NoRate = IsInBounds c × IsRefusal c plans.NoRate
+IsOpenFault c NoMemory = CanOpen c
+
+-- and each refusal of a command
+abbrev pub IsRefused : WorkerState → Command → Refused → Type 0
+IsRefused w k refusals.OutOfBounds = ¬ IsCommandInBounds w.thread.config k
+IsRefused w k refusals.NoLifeLeft = IsCommandInBounds w.thread.config k × ¬ HasLeft w k

@@ -1,0 +1,194 @@
+-- The rule of a heap that several threads ask: the words and the threads of all seats are those of
+-- a run of some job, each turn of which was an event, and what each seat has seen is how the order
+-- of that run begins.
+use Rattle.std.specs.Prelude.{ℕ, ◌+◌, ◌<◌, ◌≡◌, ◌==◌, List, [], ◌∷◌, ◌++◌, map, slice_index, slice_index_or}
+use mathlib.Core.Option.{Option, some}
+use lib.ListN.{get_elem?}
+use Rattle.atomic_table.specs.Table as table
+use Rattle.block_store.specs.declared.Config.{Config}
+use Rattle.block_store.specs.Phases.{bit}
+use Rattle.heap_machine.specs.Operations.{op_place}
+use Rattle.never_heap.specs.declared.Command.{Command}
+use Rattle.never_heap.specs.declared.Entry.{Entry}
+use Rattle.never_heap.specs.Histories.{HistoryItem, Started, Did}
+use Rattle.heap_system.specs.Locals.{LocalState, LocalReads, local_got, op_wanted}
+use Rattle.heap_system.specs.Machines.{Run, IsAfterTurns, local_in}
+use Rattle.heap_system.specs.Systems.{Whole}
+use Rattle.control_heap.specs.Controls.{IsByEvents, with_history}
+use Rattle.control_heap.specs.Growth.{given}
+use Rattle.shared_heap.specs.declared.rules.Held.{Held}
+use Rattle.shared_heap.specs.declared.rules.Moment.{Moment}
+use Rattle.shared_heap.specs.declared.rules.Moment.TheVariants as moments
+use Rattle.shared_heap.specs.declared.rules.View.{View}
+
+-- ---- what was seen of a history
+
+-- the history of these moments
+abbrev pub history_of : List Moment → List HistoryItem
+history_of [] = []
+history_of (moments.Began ∷ ms) = Started ∷ history_of ms
+history_of (moments.Ended e ∷ ms) = Did e ∷ history_of ms
+
+-- one history is how another begins
+abbrev pub IsStartOf : List HistoryItem → List HistoryItem → Type 0
+IsStartOf start order = (more : List HistoryItem) × (order ≡ start ++ more)
+
+-- all that these threads have seen, and all that was noted, is how this history begins
+abbrev pub AllSeenIn : List HistoryItem → List Held → Type 0
+AllSeenIn order [] = Unit {0}
+AllSeenIn order (h ∷ hs) = IsStartOf (history_of h.seen) order × AllSeenIn order hs
+
+abbrev pub AllNotedIn : List HistoryItem → List (List Moment) → Type 0
+AllNotedIn order [] = Unit {0}
+AllNotedIn order (n ∷ ns) = IsStartOf (history_of n) order × AllNotedIn order ns
+
+-- ---- the rule
+
+-- a thread is that of the run, and has seen how its order begins
+abbrev pub Fits : Config → Run → Held → Type 0
+Fits c r h = (h.local.thread < c.threads)
+    × (h.local ≡ slice_index_or r.state.locals h.local.thread h.local)
+    × IsStartOf (history_of h.seen) r.order
+
+abbrev pub AllFit : Config → Run → List Held → Type 0
+AllFit c r [] = Unit {0}
+AllFit c r (h ∷ hs) = Fits c r h × AllFit c r hs
+
+-- how many of these are thread t, and how many in all views
+abbrev pub threads_of : ℕ → List Held → ℕ
+threads_of t [] = 0
+threads_of t (h ∷ hs) = bit (t == h.local.thread) + threads_of t hs
+
+abbrev pub seats_of : ℕ → List View → ℕ
+seats_of t [] = 0
+seats_of t (v ∷ vs) = threads_of t v.threads + seats_of t vs
+
+-- There is a run of some job, each turn of which was an event: its words are those of the table,
+-- and each of its threads stands in one view once, with all that it was asked so far and has
+-- answered. What was seen and noted is how its order begins.
+pub record SharedKept (k : Whole) (s : table.State Command View) : Type 0 where
+  pub run : Run
+  pub by : IsByEvents k.config run
+  pub words : s.words ≡ run.state.words
+  pub each : (id : ℕ) (v : View) → get_elem? s.views id ≡ some v
+      → AllFit k.config run v.threads × AllNotedIn run.order v.notes
+  pub once : (t : ℕ) → t < k.config.threads → seats_of t s.views ≡ 1
+
+-- ---- views
+
+abbrev pub held : LocalState → List Moment → Held
+held l seen = record { local = l; seen = seen }
+
+abbrev pub no_view : View
+no_view = record { threads = []; notes = [] }
+
+abbrev pub one_view : Held → List (List Moment) → View
+one_view h notes = record { threads = h ∷ []; notes = notes }
+
+-- a thread that was asked nothing yet, and has seen the start of cycle 1
+abbrev pub unasked : LocalState → LocalState
+unasked l = with_history [] [] l
+
+abbrev pub first_held : LocalState → Held
+first_held l = held (unasked l) (moments.Began ∷ [])
+
+-- the first seat has all threads
+abbrev pub first_view : Whole → View
+first_view k = record { threads = map first_held k.state.locals; notes = [] }
+
+abbrev pub first_in : List Held → List Held
+first_in [] = []
+first_in (h ∷ hs) = h ∷ []
+
+abbrev pub rest_in : List Held → List Held
+rest_in [] = []
+rest_in (h ∷ hs) = hs
+
+abbrev pub first_of : View → View
+first_of v = record { threads = first_in v.threads; notes = [] }
+
+abbrev pub rest_of : View → View
+rest_of v = record { threads = rest_in v.threads; notes = v.notes }
+
+abbrev pub joined : View → View → View
+joined v w = record { threads = v.threads ++ w.threads; notes = v.notes ++ w.notes }
+
+-- what the threads of a view have seen, noted
+abbrev pub seen_by : Held → List Moment
+seen_by h = h.seen
+
+abbrev pub noted_of : View → View
+noted_of v = record { threads = []; notes = map seen_by v.threads }
+
+abbrev pub same_view : View → View
+same_view v = v
+
+-- ---- steps
+
+-- the thread is that of some run of a job, which has this order
+pub record IsOfRun (c : Config) (order : List HistoryItem) (l : LocalState) : Type 0 where
+  pub run : Run
+  pub after : IsAfterTurns c run
+  pub there : l.thread < c.threads
+  pub local : l ≡ local_in c run l.thread
+  pub ordered : run.order ≡ order
+
+abbrev pub AllOfRuns : List HistoryItem → List Held → Type 0
+AllOfRuns order [] = Unit {0}
+AllOfRuns order (h ∷ hs) = IsOfRun h.local.config order h.local × AllOfRuns order hs
+
+abbrev pub AllRead : List Held → ℕ → Type 0
+AllRead [] w = Unit {0}
+AllRead (h ∷ hs) w = LocalReads h.local.config h.local w × AllRead hs w
+
+-- what each thread of a view is after an event that read w, where it has seen this much
+abbrev pub got_by : ℕ → List Moment → Held → Held
+got_by w now h = held (local_got h.local w) now
+
+abbrev pub got_of : ℕ → List Moment → table.Me Command View → table.Me Command View
+got_of w now me =
+    (record { threads = map (got_by w now) me.0.threads; notes = me.0.notes }, me.1)
+
+-- What an event tells: the thread moved on by one row, the word is one that its row may read, and
+-- it has seen the order of a run, of which it is a thread. What it had seen before is how that order
+-- begins.
+pub record StepsOn (me : table.Me Command View) (w : ℕ) (after : table.Me Command View) : Type 0
+  where
+    pub now : List Moment
+    pub moved : after ≡ got_of w now me
+    pub reads : AllRead me.0.threads w
+    pub told : AllOfRuns (history_of now) after.0.threads
+    pub seen : AllSeenIn (history_of now) me.0.threads
+
+-- each thread of a view has this command behind its trace, and has seen this much; no note is left
+abbrev pub given_by : Command → List Moment → Held → Held
+given_by k now h = held (given k h.local) now
+
+abbrev pub given_of : Command → List Moment → table.Me Command View → table.Me Command View
+given_of k now me = (record { threads = map (given_by k now) me.0.threads; notes = [] }, me.1)
+
+-- What a step tells that announces a command: the thread has it behind its trace, and it has seen
+-- the order of a run, of which it is a thread. What it had seen and noted before is how that order
+-- begins.
+pub record Gives (k : Command) (me after : table.Me Command View) : Type 0 where
+  pub now : List Moment
+  pub moved : after ≡ given_of k now me
+  pub told : AllOfRuns (history_of now) after.0.threads
+  pub seen : AllSeenIn (history_of now) me.0.threads
+  pub noted : AllNotedIn (history_of now) me.0.notes
+
+abbrev pub gives_on : Option Command → table.Me Command View → table.Me Command View → Type 0
+gives_on announced me after = (k : Command) → announced ≡ some k → Gives k me after
+
+-- the word that a thread's next event finds
+abbrev pub found_by : LocalState → table.State Command View → ℕ
+found_by l s = slice_index s.words (op_place (op_wanted l))
+
+-- with so many commands and entries in front of its own
+abbrev pub behind : List Command → List Entry → LocalState → LocalState
+behind ks es l = record l { before = 0; trace = ks ++ l.trace; log = es ++ l.log }
+
+-- the first thread of these, or l
+abbrev pub held_of : LocalState → List Held → Held
+held_of l [] = held l []
+held_of l (h ∷ hs) = h

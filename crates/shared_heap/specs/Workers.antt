@@ -1,0 +1,236 @@
+-- A heap that several threads ask, and its workers, as contracts see them.
+use Rattle.std.specs.Prelude.{ℕ, ◌+◌, ◌<◌, ◌≤◌, ◌≡◌, ◌++◌, true, List, [], ◌∷◌, length, map, slice_index_or}
+use Rattle.atomic_table.specs.Table as table
+use Rattle.atomic_table.specs.Seated.{TableId}
+use Rattle.block_store.specs.declared.Config.{Config}
+use Rattle.block_store.specs.Configs.{IsInBounds}
+use Rattle.block_store.specs.Places.{extent, words_count}
+use Rattle.rate_plan.specs.Rates.{IsRate, IsAdmitted}
+use Rattle.never_heap.specs.declared.Command.{Command}
+use Rattle.never_heap.specs.declared.Command.TheVariants as commands
+use Rattle.never_heap.specs.declared.Entry.{Entry}
+use Rattle.never_heap.specs.declared.Reply.{Reply}
+use Rattle.never_heap.specs.Histories.{HistoryItem, Started, Legal, part, starts_in}
+use Rattle.never_heap.specs.Licensed.{Licensed, NoFulls, StartsSmall}
+use Rattle.never_heap.specs.RightWork.{RightWork, units_owed}
+use Rattle.heap_system.specs.Lives.{sum_after, objects_of, most_commands, most_objects, most_units}
+use Rattle.heap_system.specs.Locals.{LocalState, is_done, works}
+use Rattle.control_heap.specs.Controls.{with_history}
+use Rattle.shared_heap.specs.declared.rules.Held.{Held}
+use Rattle.shared_heap.specs.declared.rules.Moment.{Moment}
+use Rattle.shared_heap.specs.declared.rules.View.{View}
+use Rattle.shared_heap.specs.Shared.{IsOfRun, IsStartOf, first_held, held_of, history_of, one_view, unasked}
+
+-- which table it is, and its configuration
+pub record HeapState : Type 0 where
+  pub id : TableId
+  pub config : Config
+
+-- Which heap it is of, and its thread with all commands that it was asked so far and their entries;
+-- how much of the one history it has seen, and what it was told that others had seen. In memory it
+-- has the last command and its entry alone.
+pub record WorkerState : Type 0 where
+  pub heap : TableId
+  pub thread : LocalState
+  pub seen : List HistoryItem
+  pub notes : List (List HistoryItem)
+
+-- how much of the history of this heap a worker had seen when the note was made
+pub record NoteState : Type 0 where
+  pub heap : TableId
+  pub seen : List HistoryItem
+
+-- a heap of this configuration can be opened, but for memory
+pub record CanOpen (c : Config) : Type 0 where
+  pub bounds : IsInBounds c
+  pub plan : IsAdmitted c
+
+-- the commands that a worker was asked, and what it was answered
+abbrev pub asked : WorkerState → List Command
+asked w = w.thread.trace
+
+abbrev pub told : WorkerState → List Entry
+told w = w.thread.log
+
+-- the worker of thread t of this heap
+abbrev pub IsWorkerOf : HeapState → ℕ → WorkerState → Type 0
+IsWorkerOf h t w = (w.heap ≡ h.id) × (w.thread.thread ≡ t)
+
+-- the workers are all of this heap's, in the order of their threads
+pub record AreInOrder (h : HeapState) (ws : List WorkerState) : Type 0 where
+  pub count : length ws ≡ h.config.threads
+  pub each : (t : ℕ) (d : WorkerState) → t < length ws → IsWorkerOf h t (slice_index_or ws t d)
+
+-- one of these is of thread t
+abbrev pub HasWorker : ℕ → List WorkerState → Type 0
+HasWorker t ws = (i : ℕ) × (i < length ws)
+    × ((d : WorkerState) → (slice_index_or ws i d).thread.thread ≡ t)
+
+-- the workers are all of this heap's, each once, in any order
+pub record AreEachOnce (h : HeapState) (ws : List WorkerState) : Type 0 where
+  pub count : length ws ≡ h.config.threads
+  pub own : (i : ℕ) (d : WorkerState) → i < length ws → (slice_index_or ws i d).heap ≡ h.id
+  pub each : (t : ℕ) → t < h.config.threads → HasWorker t ws
+
+-- each of the first is one of the second
+abbrev pub AreAmong : List WorkerState → List WorkerState → Type 0
+AreAmong these those = (k : ℕ) → k < length these
+    → (j : ℕ) × (j < length those)
+    × ((d : WorkerState) → slice_index_or these k d ≡ slice_index_or those j d)
+
+-- it was asked nothing yet
+pub record IsFresh (c : Config) (w : WorkerState) : Type 0 where
+  pub config : w.thread.config ≡ c
+  pub asked : w.thread.trace ≡ []
+  pub told : w.thread.log ≡ []
+  pub seen : w.seen ≡ Started ∷ []
+  pub notes : w.notes ≡ []
+
+abbrev pub AreFresh : Config → List WorkerState → Type 0
+AreFresh c ws = (t : ℕ) (d : WorkerState) → t < length ws → IsFresh c (slice_index_or ws t d)
+
+-- Its life has room for one command more: not too many were asked, of those that make an object
+-- there were fewer than a life has, and its units fit.
+abbrev pub HasRoom : LocalState → Command → Type 0
+HasRoom l k = (length l.trace < most_commands)
+    × (sum_after objects_of 0 l.trace + objects_of k ≤ most_objects)
+    × ((rate : ℕ) → IsRate l.config rate
+    → works l.log + units_owed l.config.width rate k ≤ most_units)
+
+abbrev pub HasLeft : WorkerState → Command → Type 0
+HasLeft w k = HasRoom w.thread k
+
+-- all of these are how this history begins
+abbrev pub AllStart : List (List HistoryItem) → List HistoryItem → Type 0
+AllStart [] order = Unit {0}
+AllStart (n ∷ ns) order = IsStartOf n order × AllStart ns order
+
+-- what a worker was told is its part of what it has seen, which is a history of the heap that never
+-- frees
+pub record HasSeenIts (w : WorkerState) : Type 0 where
+  pub legal : Legal w.thread.config w.seen
+  pub licensed : Licensed w.thread.config w.seen
+  pub right : (rate : ℕ) → IsRate w.thread.config rate
+      → RightWork w.thread.config.width rate w.seen
+  pub its : part w.thread.thread w.seen ≡ told w
+  pub asked : map (λ (e : Entry). e.command) (told w) ≡ asked w
+
+-- The same worker, which was asked this command more and answered so: it has the command behind
+-- those before, and its entry behind theirs. When it was asked, there was a history that begins with
+-- what it had seen, and with what it had been told that others had seen. What it has seen now is that
+-- history with items behind it: the worker's entry, no other of its own, and what others did.
+pub record HasAnswered (old : WorkerState) (k : Command) (a : Reply) (new : WorkerState) : Type 0
+  where
+    pub asked : new.thread.trace ≡ old.thread.trace ++ k ∷ []
+    pub entry : Entry
+    pub told : new.thread.log ≡ old.thread.log ++ entry ∷ []
+    pub command : entry.command ≡ k
+    pub reply : entry.reply ≡ a
+    pub start : List HistoryItem
+    pub before : IsStartOf old.seen start
+    pub noted : AllStart old.notes start
+    pub items : List HistoryItem
+    pub seen : new.seen ≡ start ++ items
+    pub own : part old.thread.thread items ≡ entry ∷ []
+    pub notes : new.notes ≡ []
+    pub sound : HasSeenIts new
+
+-- the same worker
+pub record IsSame (old new : WorkerState) : Type 0 where
+  pub heap : new.heap ≡ old.heap
+  pub config : new.thread.config ≡ old.thread.config
+  pub thread : new.thread.thread ≡ old.thread.thread
+
+-- This worker is of thread t, was asked the commands of its part of the history, and answered so.
+-- What it has seen is how the history begins.
+pub record HasPart (order : List HistoryItem) (t : ℕ) (w : WorkerState) : Type 0 where
+  pub thread : w.thread.thread ≡ t
+  pub told : told w ≡ part t order
+  pub asked : map (λ (e : Entry). e.command) (part t order) ≡ asked w
+  pub seen : IsStartOf w.seen order
+
+-- There is one history of the heap that never frees, with a full for an allocation only where more
+-- was live than the limit, and none where each cycle began with no more; in it each entry has the
+-- work that its command owes. The entries of
+-- each thread are, in their order, what its worker was asked and answered. It has no others.
+pub record HaveOneHistory (c : Config) (ws : List WorkerState) (cycles : ℕ) : Type 0 where
+  pub order : List HistoryItem
+  pub legal : Legal c order
+  pub licensed : Licensed c order
+  pub never : StartsSmall c order → NoFulls order
+  pub right : (rate : ℕ) → IsRate c rate → RightWork c.width rate order
+  pub parts : (t : ℕ) → t < c.threads → (j : ℕ) × (j < length ws)
+      × ((d : WorkerState) → HasPart order t (slice_index_or ws j d))
+  pub others : (u : ℕ) → c.threads ≤ u → part u order ≡ []
+  pub starts : cycles ≡ starts_in order
+
+-- ---- within a worker
+
+-- A worker between two commands: its seat knows the whole thread, and what it has in memory is that
+-- thread with its last command alone, and three counts.
+pub record Keeps (h : Held) (ns : List (List Moment)) (me : table.Me Command View) (id : TableId)
+    (l : LocalState) (n o : ℕ) : Type 0 where
+  pub knows : me ≡ (one_view h ns, [])
+  pub history : h.local ≡ with_history h.local.trace h.local.log l
+  pub told : IsOfRun h.local.config (history_of h.seen) h.local
+  pub done : is_done h.local ≡ true
+  pub count : length h.local.trace ≡ n
+  pub objects : sum_after objects_of 0 h.local.trace ≡ o
+  pub units : works h.local.log ≡ l.before + works l.log
+  pub one : length l.trace ≡ 1
+  pub slots : id.slots ≡ 0
+  pub words : id.words ≡ words_count (extent l.config)
+
+abbrev pub IsKept : table.Me Command View → TableId → LocalState → ℕ → ℕ → Type 0
+IsKept me id l n o = Keeps (held_of l me.0.threads) me.0.notes me id l n o
+
+-- a worker as it is seen
+abbrev pub worker_of : TableId → Held → List (List Moment) → WorkerState
+worker_of id h ns = record {
+  heap = id;
+  thread = h.local;
+  seen = history_of h.seen;
+  notes = map history_of ns;
+}
+
+abbrev pub start_worker : TableId → LocalState → WorkerState
+start_worker id l = worker_of id (first_held l) []
+
+-- a thread as it is dealt: it was asked nothing, and has room for one command
+pub record IsDealt (ws : ℕ) (l : LocalState) : Type 0 where
+  pub told : IsOfRun l.config (Started ∷ []) (unasked l)
+  pub rest : is_done (unasked l) ≡ true
+  pub before : l.before ≡ 0
+  pub log : l.log ≡ []
+  pub one : length l.trace ≡ 1
+  pub words : ws ≡ words_count (extent l.config)
+
+-- the first of these notes
+abbrev pub note_in : List (List Moment) → List Moment
+note_in [] = []
+note_in (n ∷ ns) = n
+
+-- a seat has no thread, and one note
+abbrev pub IsNote : table.Me Command View → Type 0
+IsNote me = me ≡ (record { threads = []; notes = note_in me.0.notes ∷ [] }, [])
+
+-- these are the threads of these workers, and each is done
+abbrev pub IsOfWorker : WorkerState → Held → Type 0
+IsOfWorker w h = (w.thread ≡ h.local) × (w.seen ≡ history_of h.seen) × (is_done h.local ≡ true)
+
+abbrev pub AreOfWorkers : List WorkerState → List Held → Type 0
+AreOfWorkers [] [] = Unit {0}
+AreOfWorkers (w ∷ ws) (h ∷ hs) = IsOfWorker w h × AreOfWorkers ws hs
+AreOfWorkers _ _ = ⊥
+
+-- a seat knows the threads of these workers
+pub record KnowsAll (me : table.Me Command View) (ws : List WorkerState) : Type 0 where
+  pub threads : List Held
+  pub notes : List (List Moment)
+  pub knows : me ≡ (record { threads = threads; notes = notes }, [])
+  pub all : AreOfWorkers ws threads
+
+-- each of these traces has one command, in whose place the first command will come
+abbrev pub AreOnes : List (List Command) → Type 0
+AreOnes [] = Unit {0}
+AreOnes (x ∷ xs) = (x ≡ commands.Nil 0 ∷ []) × AreOnes xs

@@ -1,0 +1,374 @@
+//! The shared words of a heap, and a command from its asking to its reply.
+
+ghost use Rattle.std.specs.Prelude.{◌≡◌, ◌<◌, ◌≤◌, ℕ, List, [], ◌∷◌, ◌++◌, true, false, map, length, slice_index_or, IfOk, IfErr, OnOk, OnErr};
+ghost use Rattle.std.specs.Vec.{vec_capacity};
+ghost use Rattle.never_heap.specs.declared.Command.{Command};
+ghost use Rattle.never_heap.specs.Bounds.{IsCommandInBounds};
+ghost use Rattle.heap_system.specs.Locals.{LocalState, is_done};
+ghost use Rattle.shared_heap.specs.Shared.{first_held};
+ghost use Rattle.shared_heap.specs.Ports.{HasThread, HasGoneOn};
+ghost use Rattle.shared_heap.specs.Workers.{HeapState, WorkerState, CanOpen, AreInOrder, AreEachOnce, AreAmong, HasWorker, AreFresh, HasLeft, HasAnswered, IsSame, HaveOneHistory, IsDealt, KnowsAll, AreOnes, start_worker};
+ghost use Rattle.shared_heap.specs.Refusals.{IsOpenFault, IsRefused};
+
+use crate::note::Note;
+use crate::port::Port;
+use crate::rules::{Both, Cut, Given, Law, Noted, View};
+use crate::worker::{Refused, Worker, objects_of};
+use atomic_table::{Seat, Shared, Table};
+use block_store::{Config, OutOfMemory, read_phase};
+use crossbeam_utils::Backoff;
+use heap_system::{Local, System, Turn};
+use never_heap::{Command, Reply};
+use rate_plan::{PlanFault, plan};
+use std::alloc::Global;
+use std::marker::Model;
+use std::sync::Wait;
+use std::thread;
+
+/// Why no heap of a configuration is opened.
+#[derive(Clone, Copy, Debug, PartialEq, Eq)]
+pub enum OpenFault {
+    /// A number of the configuration is out of its range. This is looked at first.
+    OutOfBounds,
+    /// The registers and the shared array take more blocks than the live limit.
+    LiveTooSmall,
+    /// The live limit leaves too little of the heap: no number of units a block is enough.
+    NoRate,
+    /// There is no room for the words of the heap, for its workers, or for the blocks that are held
+    /// while an object is built.
+    NoMemory,
+}
+
+/// The shared words of a heap, which its workers ask beside each other.
+#[derive(Drop)]
+pub struct SharedHeap {
+    pub(crate) table: Table<Command, View, System, Law, Global>,
+    pub(crate) config: Config,
+}
+
+impl Model for SharedHeap {
+    ghost use Rattle.std.specs.Prelude.{◌≡◌, ◌<◌};
+    ghost use Rattle.block_store.specs.Places.{extent, words_count};
+    ghost use Rattle.shared_heap.specs.Workers.{HeapState};
+
+    ghost Value = { HeapState };
+
+    ghost view = { λ h. record {
+      id = h.table.shared.table_id;
+      config = h.config;
+    } };
+
+    ghost invariant = { λ h. (h.config ≡ h.table.shared.key.config)
+        × (h.table.shared.table_id.slots ≡ 0)
+        × (h.table.shared.table_id.words ≡ words_count (extent h.config))
+        × (0 < h.config.threads) };
+}
+
+// A trace of one command for each thread, in whose place the first command will come.
+fn first_traces(alloc: Global, c: &Config) -> Result<Vec<Vec<Command>>, OutOfMemory>
+    ensures { IfOk result (λ v. (length (map (λ x. x.items) v.items) ≡ c.now.threads)
+        × AreOnes (map (λ x. x.items) v.items)) }
+{
+    let mut traces = Vec::with_capacity(alloc, c.threads as usize)?;
+    for _thread in 0..c.threads {
+        traces.push(vec![in alloc; Command::Nil { d: 0 }]?)?;
+    }
+    Ok(traces)
+}
+
+// A worker for each thread of the seat, in order. Their room was taken before.
+fn dealt(
+    shared: &Shared<Command, View, System, Law>,
+    config: &Config,
+    seat: Seat<Command, View>,
+    locals: Vec<Local>,
+    room: Vec<Worker>,
+) -> Vec<Worker>
+    requires table { (seat.table_id ≡ shared.now.table_id) × (shared.now.table_id.slots ≡ 0)
+        × (0 < shared.now.table_id.words) }
+    requires knows { seat.me
+        ≡ (record { threads = map first_held locals.items; notes = [] }, []) }
+    requires each { (i : ℕ) (d : LocalState) → i < length locals.items
+        → IsDealt shared.now.table_id.words (slice_index_or locals.items i d) }
+    requires config { (i : ℕ) (d : LocalState) → i < length locals.items
+        → config.now ≡ (slice_index_or locals.items i d).config }
+    requires room { (room.items ≡ []) × (length locals.items ≤ vec_capacity room) }
+    ensures { result.items ≡ map (start_worker shared.now.table_id) locals.items }
+{
+    let mut seat = seat;
+    let mut workers = room;
+    for local in locals {
+        let own = shared.split_seat::<Cut>(&mut seat);
+        let port = Port { seat: own };
+        workers.push_reserved(Worker {
+            port,
+            local,
+            config: *config,
+            count: 0,
+            objects: 0,
+        });
+    }
+    workers
+}
+
+// The opening heap of a configuration that has a rate.
+fn opened(alloc: Global, c: Config) -> Result<(SharedHeap, Vec<Worker>), OutOfMemory>
+    requires { CanOpen c }
+    ensures config { IfOk result (λ r. r.0.config ≡ c) }
+    ensures workers { IfOk result (λ r. AreInOrder r.0 r.1.items) }
+    ensures fresh { IfOk result (λ r. AreFresh c r.1.items) }
+{
+    let traces = first_traces(alloc, &c)?;
+    let system = System::new(alloc, c, traces)?;
+    let words = system.copied_words(alloc)?;
+    let places = Vec::with_capacity(alloc, c.threads as usize)?;
+    let (table, seat) = Table::of_words(alloc, words.as_slice(), &system)?;
+    let workers = dealt(&table.shared, &c, seat, system.into_locals(), places);
+    Ok((SharedHeap { table, config: c }, workers))
+}
+
+// Events of a thread that is not done, in a row, one at least.
+#[inline(always)]
+fn events(shared: &Shared<Command, View, System, Law>, port: &mut Port, local: &mut Local) -> Turn
+    requires has { HasThread port.old.seat.me port.old.seat.table_id shared.now.table_id local.old }
+    requires going { is_done local.old ≡ false }
+    ensures has { HasThread port.new.seat.me port.new.seat.table_id shared.now.table_id local.new }
+    ensures on { HasGoneOn port.old.seat.me local.old port.new.seat.me local.new }
+{
+    local.events(port, shared)
+}
+
+// Makes the events of a thread that has a command in hand, one part after the other, until it is
+// done. After one that waited it pauses, longer each time until it gets on.
+#[tactic(auto, using(crate::proofs::Runs::gone_nowhere))]
+fn serve<R: Wait>(
+    rt: &R,
+    shared: &Shared<Command, View, System, Law>,
+    port: &mut Port,
+    local: &mut Local,
+)
+    requires { HasThread port.old.seat.me port.old.seat.table_id shared.now.table_id local.old }
+    ensures has { HasThread port.new.seat.me port.new.seat.table_id shared.now.table_id local.new }
+    ensures on { HasGoneOn port.old.seat.me local.old port.new.seat.me local.new }
+    ensures done { is_done local.new ≡ true }
+{
+    let backoff = Backoff::new();
+    // How many units it had made when it last waited, where it has made no more since.
+    let mut waited = None;
+    for _ in rt.forever() {
+        if local.done() {
+            return;
+        }
+        match events(shared, port, local) {
+            Turn::Waited => {
+                waited = Some(local.spent());
+                backoff.snooze();
+                thread::yield_now();
+            }
+            Turn::Went | Turn::Done => {
+                if let Some(before) = waited {
+                    if local.spent() != before {
+                        backoff.reset();
+                        waited = None;
+                    }
+                }
+            }
+        }
+    }
+    unreachable!()
+}
+
+// The place of the worker of a thread, from place `from` on.
+fn place_of(who: &[Worker], from: usize, thread: usize) -> usize
+    requires { (j : ℕ) × (from ≤ j) × (j < length who.now)
+        × ((d : WorkerState) → (slice_index_or who.now j d).thread.thread ≡ thread) }
+    ensures low { (from ≤ result) × (result < length who.now) }
+    ensures here { (d : WorkerState) → (slice_index_or who.now result d).thread.thread ≡ thread }
+{
+    for j in from..who.len() {
+        if who[j].thread() as usize == thread {
+            return j;
+        }
+    }
+    unreachable!()
+}
+
+// The workers in the order of their threads.
+fn ordered(who: Vec<Worker>, threads: usize) -> Vec<Worker>
+    requires count { length who.items ≡ threads }
+    requires each { (t : ℕ) → t < threads → HasWorker t who.items }
+    ensures count { length result.items ≡ threads }
+    ensures order { (t : ℕ) (d : WorkerState) → t < threads
+        → (slice_index_or result.items t d).thread.thread ≡ t }
+    ensures same { AreAmong result.items who.items }
+{
+    let mut workers = who;
+    for t in 0..threads {
+        let at = place_of(&workers, t, t);
+        workers.swap(t, at);
+    }
+    workers
+}
+
+// The first of the workers, and the others.
+#[tactic(auto, using(crate::proofs::Crews::taken_first))]
+fn first_and_rest(who: Vec<Worker>) -> (Worker, Vec<Worker>)
+    requires { 0 < length who.items }
+    ensures { result.0 ∷ result.1.items ≡ who.items }
+{
+    let mut rest = who;
+    let first = rest.remove(0);
+    (first, rest)
+}
+
+// The seat of the first worker with the threads of all.
+fn gathered(
+    shared: &Shared<Command, View, System, Law>,
+    first: Worker,
+    rest: Vec<Worker>,
+) -> Seat<Command, View>
+    requires table { (shared.now.table_id.slots ≡ 0) × (0 < shared.now.table_id.words) }
+    requires own { (i : ℕ) (d : WorkerState) → i < length (first ∷ rest.items)
+        → (slice_index_or (first ∷ rest.items) i d).heap ≡ shared.now.table_id }
+    ensures table { result.table_id ≡ shared.now.table_id }
+    ensures knows { KnowsAll result.me (first ∷ rest.items) }
+{
+    let Worker { port, .. } = first;
+    let mut seat = port.seat;
+    for worker in rest {
+        let Worker { port, .. } = worker;
+        shared.join_seat::<Both>(&mut seat, port.seat);
+    }
+    seat
+}
+
+impl SharedHeap {
+    /// The opening heap of a configuration, and a worker for each of its threads, in order. None
+    /// was asked anything yet. What they do from then on takes no memory.
+    ///
+    /// # Errors
+    ///
+    /// The first of these that is so: `OutOfBounds` where a number of the configuration is out of
+    /// its range; `LiveTooSmall` and `NoRate` as of `rate_plan::plan`; and `NoMemory` where memory
+    /// was refused.
+    pub fn open(alloc: Global, c: Config) -> Result<(SharedHeap, Vec<Worker>), OpenFault>
+        ensures can { OnOk result (CanOpen c) }
+        ensures config { IfOk result (λ r. r.0.config ≡ c) }
+        ensures workers { IfOk result (λ r. AreInOrder r.0 r.1.items) }
+        ensures fresh { IfOk result (λ r. AreFresh c r.1.items) }
+        ensures refused { IfErr result (IsOpenFault c) }
+    {
+        if !c.in_bounds() {
+            return Err(OpenFault::OutOfBounds);
+        }
+        match plan(&c) {
+            Err(PlanFault::LiveTooSmall) => Err(OpenFault::LiveTooSmall),
+            Err(PlanFault::NoRate) => Err(OpenFault::NoRate),
+            Ok(_) => match opened(alloc, c) {
+                Ok(heap) => Ok(heap),
+                Err(_) => Err(OpenFault::NoMemory),
+            },
+        }
+    }
+
+    /// The configuration.
+    pub fn config(&self) -> &Config
+        ensures { result.now ≡ self.now.config }
+    {
+        &self.config
+    }
+
+    /// Does a command of one of this heap's workers, and answers its reply. Other workers may be
+    /// asked meanwhile, by other threads. It may wait for them at the gate, at a free list, and
+    /// where another thread changed a word first.
+    pub fn request<R: Wait>(&self, rt: &R, who: &mut Worker, command: Command) -> Reply
+        requires heap { who.old.heap ≡ self.now.id }
+        requires bounds { IsCommandInBounds who.old.thread.config command }
+        requires left { HasLeft who.old command }
+        ensures same { IsSame who.old who.new }
+        ensures answered { HasAnswered who.old command result who.new }
+    {
+        let shared = &self.table.shared;
+        // The step changes no word.
+        shared.compare_exchange_with::<Given>(&mut who.port.seat, 0, 0, 0, &command);
+        who.local.begin(command);
+        serve(rt, shared, &mut who.port, &mut who.local);
+        who.count += 1;
+        who.objects += objects_of(command);
+        who.local.log()[0].reply
+    }
+
+    /// Does a command as `request` does, of which nothing is known before.
+    ///
+    /// # Errors
+    ///
+    /// `OutOfBounds` exactly where the command is not in bounds, and `NoLifeLeft` exactly where it
+    /// is and the worker's life has no room for it. Then nothing has changed.
+    pub fn ask<R: Wait>(&self, rt: &R, who: &mut Worker, command: Command) -> Result<Reply, Refused>
+        requires heap { who.old.heap ≡ self.now.id }
+        ensures same { IsSame who.old who.new }
+        ensures can { OnOk result
+            (IsCommandInBounds who.old.thread.config command × HasLeft who.old command) }
+        ensures answered { IfOk result (λ reply. HasAnswered who.old command reply who.new) }
+        ensures refused { IfErr result (IsRefused who.old command) }
+        ensures unchanged { OnErr result (who.new ≡ who.old) }
+    {
+        if !command.in_bounds(who.config()) {
+            return Err(Refused::OutOfBounds);
+        }
+        if !who.has_left(&command) {
+            return Err(Refused::NoLifeLeft);
+        }
+        Ok(self.request(rt, who, command))
+    }
+
+    /// Notes what a worker of this heap has seen of its history: all commands that it has answered,
+    /// with those of others before them.
+    pub fn note(&self, who: &mut Worker) -> Note
+        requires { who.old.heap ≡ self.now.id }
+        ensures heap { result.heap ≡ self.now.id }
+        ensures seen { result.seen ≡ who.old.seen }
+        ensures same { who.new ≡ who.old }
+    {
+        let seat = self.table.shared.split_seat::<Noted>(&mut who.port.seat);
+        Note { seat }
+    }
+
+    /// Tells a worker of this heap what another had seen. The commands that it is asked from then on
+    /// come behind that in the one history.
+    pub fn learn(&self, who: &mut Worker, note: Note)
+        requires heap { who.old.heap ≡ self.now.id }
+        requires note { note.heap ≡ self.now.id }
+        ensures { who.new ≡ record who.old { notes = who.old.notes ++ note.seen ∷ [] } }
+    {
+        let Note { seat } = note;
+        self.table
+            .shared
+            .join_seat::<Both>(&mut who.port.seat, seat);
+    }
+
+    /// Ends the heap, of which all workers are at hand, each once, in any order. There is one history
+    /// of all that they were asked and answered. Answers how many cycles were started.
+    pub fn close(self, who: Vec<Worker>) -> u64
+        requires { AreEachOnce self who.items }
+        ensures { HaveOneHistory self.config who.items result }
+    {
+        let threads = self.config.threads as usize;
+        let workers = ordered(who, threads);
+        self.close_in_order(workers)
+    }
+
+    // The same of workers in the order of their threads.
+    fn close_in_order(self, who: Vec<Worker>) -> u64
+        requires { AreInOrder self who.items }
+        ensures { HaveOneHistory self.config who.items result }
+    {
+        let SharedHeap { table, .. } = self;
+        let (first, rest) = first_and_rest(who);
+        let seat = gathered(&table.shared, first, rest);
+        let closed = table.close_with(seat);
+        let cycles = read_phase(closed.word(0)).cycle;
+        closed.free();
+        cycles
+    }
+}

@@ -1,0 +1,223 @@
+//! Threads that ask one heap beside each other: objects by name, counting by `cas`, and refusals.
+
+ghost use Rattle.std.specs.Prelude.{◌≡◌, IfOk};
+ghost use Rattle.shared_heap.specs.Workers.{AreInOrder, IsSame};
+
+use crate::{OpenFault, Refused, SharedHeap, Worker};
+use block_store::{Config, Name, OutOfMemory, Value, Width};
+use never_heap::{Command, Reply};
+use std::sync::Wait;
+use std::sync::atomic::{AtomicU64, Ordering};
+use std::thread;
+use std::thread::Threads;
+
+// How many objects each thread makes, and how often it counts.
+const OBJECTS: u32 = 20_000;
+
+const TRIES: u32 = 20_000;
+
+fn heap_of(threads: u32) -> Config {
+    Config {
+        width: Width::Eight,
+        threads,
+        blocks: 256,
+        live: 96,
+        object: 3,
+        shared: 4,
+    }
+}
+
+// Makes records one after the other. How many were answered by the name that is due.
+#[tactic(auto, using(crate::proofs::Crews::same_here, crate::proofs::Crews::same_on))]
+fn makes<R: Wait>(rt: &R, heap: &SharedHeap, who: &mut Worker) -> u32
+    requires { who.old.heap ≡ heap.now.id }
+    ensures { IsSame who.old who.new }
+{
+    let thread = who.thread();
+    let mut right: u32 = 0;
+    for number in 0..OBJECTS {
+        let due = Name {
+            thread,
+            serial: u64::from(number) + 1,
+        };
+        if heap.ask(rt, who, Command::New { d: 1, fields: 2 }) == Ok(Reply::New(due)) {
+            right = right.saturating_add(1);
+        }
+    }
+    right
+}
+
+// Counts the shared element on. How often it was this thread that did.
+#[tactic(auto, using(crate::proofs::Crews::same_here, crate::proofs::Crews::same_on))]
+fn counts<R: Wait>(rt: &R, heap: &SharedHeap, who: &mut Worker) -> u32
+    requires { who.old.heap ≡ heap.now.id }
+    ensures { IsSame who.old who.new }
+{
+    let mut yes: u32 = 0;
+    for _try in 0..TRIES {
+        let number = match heap.ask(rt, who, Command::Get { d: 1, s: 0, i: 0 }) {
+            Ok(Reply::Val(Value::Int(number))) => number,
+            _ => 0,
+        };
+        let next = Command::Set {
+            d: 2,
+            value: number.saturating_add(1) % (1 << 20),
+        };
+        let _set = heap.ask(rt, who, next);
+        let swap = Command::Cas {
+            s: 0,
+            i: 0,
+            a: 1,
+            v: 2,
+        };
+        if heap.ask(rt, who, swap) == Ok(Reply::Yes) {
+            yes = yes.saturating_add(1);
+        }
+    }
+    yes
+}
+
+// Lets each worker make its records in a thread of its own. The right answers of all are added up.
+fn all_make<R: Threads + Wait + Sync>(
+    rt: &R,
+    heap: &SharedHeap,
+    workers: Vec<Worker>,
+    right: &AtomicU64,
+) -> Result<Vec<Worker>, OutOfMemory>
+    requires { AreInOrder heap.now workers.items }
+    ensures { IfOk result (λ v. AreInOrder heap.now v.items) }
+{
+    let done = thread::map_vec(
+        rt,
+        workers,
+        &|who: Worker| -> Worker
+            requires { who.heap ≡ heap.now.id }
+            ensures { IsSame who result }
+        {
+            let mut who = who;
+            right.fetch_add(u64::from(makes(rt, heap, &mut who)), Ordering::SeqCst);
+            who
+        },
+    )?;
+    Ok(done)
+}
+
+// The same, where they count.
+fn all_count<R: Threads + Wait + Sync>(
+    rt: &R,
+    heap: &SharedHeap,
+    workers: Vec<Worker>,
+    yes: &AtomicU64,
+) -> Result<Vec<Worker>, OutOfMemory>
+    requires { AreInOrder heap.now workers.items }
+    ensures { IfOk result (λ v. AreInOrder heap.now v.items) }
+{
+    let done = thread::map_vec(
+        rt,
+        workers,
+        &|who: Worker| -> Worker
+            requires { who.heap ≡ heap.now.id }
+            ensures { IsSame who result }
+        {
+            let mut who = who;
+            yes.fetch_add(u64::from(counts(rt, heap, &mut who)), Ordering::SeqCst);
+            who
+        },
+    )?;
+    Ok(done)
+}
+
+// Each record is named by its thread and its number, whatever the others do, and none is refused.
+#[test]
+fn threads_make_objects_beside_each_other(rt: HostRuntime) -> Result<(), OutOfMemory> {
+    for threads in [1, 2, 4] {
+        let Ok((heap, workers)) = SharedHeap::open(rt.alloc(), heap_of(threads)) else {
+            assert!(rt; false, "it opens");
+            return Ok(());
+        };
+        let right = AtomicU64::new(0);
+        let done = all_make(&rt, &heap, workers, &right)?;
+        assert_eq!(rt;
+            right.load(Ordering::SeqCst),
+            u64::from(threads) * u64::from(OBJECTS)
+        );
+        for who in done.as_slice() {
+            assert_eq!(rt; who.asked(), u64::from(OBJECTS));
+            assert_eq!(rt; who.objects_left(), (1 << 43) - 1 - u64::from(OBJECTS));
+        }
+        assert!(rt; heap.close(done) > 12);
+    }
+    Ok(())
+}
+
+// The shared element is counted on as often as a thread was told that it did.
+#[test]
+fn threads_count_by_cas(rt: HostRuntime) -> Result<(), OutOfMemory> {
+    for threads in [2, 4] {
+        let Ok((heap, workers)) = SharedHeap::open(rt.alloc(), heap_of(threads)) else {
+            assert!(rt; false, "it opens");
+            return Ok(());
+        };
+        let yes = AtomicU64::new(0);
+        let done = all_count(&rt, &heap, workers, &yes)?;
+        let number = Value::Int(yes.load(Ordering::SeqCst));
+        for who in done {
+            let mut who = who;
+            let get = Command::Get { d: 1, s: 0, i: 0 };
+            assert_eq!(rt; heap.ask(&rt, &mut who, get), Ok(Reply::Val(number)));
+        }
+    }
+    Ok(())
+}
+
+#[test]
+fn what_cannot_be_asked_changes_nothing(rt: HostRuntime) {
+    let Ok((heap, workers)) = SharedHeap::open(rt.alloc(), heap_of(1)) else {
+        assert!(rt; false, "it opens");
+        return;
+    };
+    for who in workers {
+        let mut who = who;
+        let refused = heap.ask(&rt, &mut who, Command::Say { s: 16 });
+        assert_eq!(rt; refused, Err(Refused::OutOfBounds));
+        assert_eq!(rt; (who.asked(), who.units_left()), (0, 1 << 45));
+        let idle = heap.ask(&rt, &mut who, Command::Idle { units: 10 });
+        assert_eq!(rt; idle, Ok(Reply::Idle));
+        assert_eq!(rt; (who.asked(), who.units_left()), (1, (1 << 45) - 10));
+    }
+}
+
+#[test]
+fn each_refusal_of_a_configuration_has_its_cause(rt: HostRuntime) {
+    let c = heap_of(2);
+    for (config, fault) in [
+        (Config { threads: 17, ..c }, OpenFault::OutOfBounds),
+        (Config { live: 5, ..c }, OpenFault::LiveTooSmall),
+        (Config { live: 255, ..c }, OpenFault::NoRate),
+    ] {
+        match SharedHeap::open(rt.alloc(), config) {
+            Ok(_) => assert!(rt; false, "it opens"),
+            Err(found) => assert_eq!(rt; found, fault),
+        }
+    }
+}
+
+// A worker may be told what it has seen itself, and goes on.
+#[test]
+fn a_note_is_learned(rt: HostRuntime) {
+    let Ok((heap, workers)) = SharedHeap::open(rt.alloc(), heap_of(2)) else {
+        assert!(rt; false, "it opens");
+        return;
+    };
+    for who in workers {
+        let mut who = who;
+        let set = Command::Set { d: 1, value: 7 };
+        assert!(rt; heap.ask(&rt, &mut who, set).is_ok());
+        let note = heap.note(&mut who);
+        heap.learn(&mut who, note);
+        let say = Command::Say { s: 1 };
+        let seven = Ok(Reply::Val(Value::Int(7)));
+        assert_eq!(rt; heap.ask(&rt, &mut who, say), seven);
+        assert_eq!(rt; who.asked(), 2);
+    }
+}
