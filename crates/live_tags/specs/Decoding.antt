@@ -1,0 +1,26 @@
+-- The operations that commands are, read off the commands alone.
+use Rattle.std.specs.Prelude.{ℕ, ◌==◌, Bool, true, false, if◌then◌else◌, List, [], ◌∷◌}
+use Rattle.never_heap.specs.declared.Command.{Command}
+use Rattle.never_heap.specs.declared.Command.TheVariants as commands
+use Rattle.tag_table.specs.declared.operation.Operation.{Operation}
+use Rattle.tag_table.specs.declared.operation.Operation.TheVariants.{Write, Clear, Read}
+
+-- an exchange with the record that was made of the last two numbers, or with nil
+abbrev pub exchanged : Bool → ℕ → ℕ → ℕ → Operation
+exchanged true i v q = Write i v q
+exchanged false i v q = Clear i
+
+-- The operations of commands: whether a record or nil came last, and the last two numbers.
+abbrev pub operations_from : Bool → ℕ → ℕ → List Command → List Operation
+operations_from made v q [] = []
+operations_from made v q (commands.New d f ∷ ks) = operations_from true v q ks
+operations_from made v q (commands.Nil d ∷ ks) = operations_from false v q ks
+operations_from made v q (commands.Set d n ∷ ks) = operations_from made q n ks
+operations_from made v q (commands.Swap s i r ∷ ks) =
+    exchanged made i v q ∷ operations_from made v q ks
+operations_from made v q (commands.Get d s i ∷ ks) =
+    if d == 1 then Read i ∷ operations_from made v q ks else operations_from made v q ks
+operations_from made v q (k ∷ ks) = operations_from made v q ks
+
+abbrev pub operations_of : List Command → List Operation
+operations_of ks = operations_from false 0 0 ks

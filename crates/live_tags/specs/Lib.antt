@@ -1,0 +1,4 @@
+pub mod Decoding
+pub mod Life
+pub mod Live
+pub mod Behind

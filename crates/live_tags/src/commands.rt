@@ -1,0 +1,88 @@
+//! The commands of operations, and their ranges.
+
+ghost use Rattle.std.specs.Prelude.{◌≡◌, ◌∷◌, [], ◌↔◌, IsTrue};
+ghost use Rattle.tag_table.specs.Tables.{IsOperationInRange, pair_of};
+ghost use Rattle.live_tags.specs.Live.{commands_of};
+
+use block_store::Value;
+use never_heap::{Command, Reply};
+use tag_table::Operation;
+
+// The commands of a write.
+pub(crate) fn write_commands(place: u32, value: u64, quality: u64) -> [Command; 8]
+    ensures { result ≡ commands_of (Operation.Write place value quality ∷ []) }
+{
+    [
+        Command::New { d: 1, fields: 2 },
+        Command::Set { d: 2, value },
+        Command::Put { s: 1, i: 0, v: 2 },
+        Command::Set {
+            d: 2,
+            value: quality,
+        },
+        Command::Put { s: 1, i: 1, v: 2 },
+        Command::Swap {
+            s: 0,
+            i: u64::from(place),
+            v: 1,
+        },
+        Command::Get { d: 2, s: 1, i: 0 },
+        Command::Get { d: 3, s: 1, i: 1 },
+    ]
+}
+
+// The commands of a clear.
+pub(crate) fn clear_commands(place: u32) -> [Command; 4]
+    ensures { result ≡ commands_of (Operation.Clear place ∷ []) }
+{
+    [
+        Command::Nil { d: 1 },
+        Command::Swap {
+            s: 0,
+            i: u64::from(place),
+            v: 1,
+        },
+        Command::Get { d: 2, s: 1, i: 0 },
+        Command::Get { d: 3, s: 1, i: 1 },
+    ]
+}
+
+// The commands of a read.
+pub(crate) fn read_commands(place: u32) -> [Command; 3]
+    ensures { result ≡ commands_of (Operation.Read place ∷ []) }
+{
+    [
+        Command::Get {
+            d: 1,
+            s: 0,
+            i: u64::from(place),
+        },
+        Command::Get { d: 2, s: 1, i: 0 },
+        Command::Get { d: 3, s: 1, i: 1 },
+    ]
+}
+
+// Whether an operation is on a place of the table, with numbers that a field holds.
+pub(crate) fn in_range(op: &Operation, tags: u32) -> bool
+    ensures { IsTrue result ↔ IsOperationInRange tags op.now }
+{
+    match *op {
+        Operation::Write {
+            place,
+            value,
+            quality,
+        } => place < tags && value < 1 << 62 && quality < 1 << 62,
+        Operation::Clear { place } => place < tags,
+        Operation::Read { place } => place < tags,
+    }
+}
+
+// The pair that two replies tell, if they are numbers.
+pub(crate) fn pair(value: Reply, quality: Reply) -> Option<(u64, u64)>
+    ensures { result ≡ pair_of value quality }
+{
+    match (value, quality) {
+        (Reply::Val(Value::Int(v)), Reply::Val(Value::Int(q))) => Some((v, q)),
+        _ => None,
+    }
+}

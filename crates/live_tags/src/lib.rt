@@ -1,0 +1,16 @@
+//! A table of tags that threads of a program use while they run.
+#![tactic(auto)]
+
+mod commands;
+mod crew;
+mod laws;
+mod note;
+mod table;
+#[cfg(test)]
+mod tests;
+mod worker;
+
+pub use laws::operations_stand_behind_what_was_seen;
+pub use note::TagNote;
+pub use table::{LiveTags, OpenFault, Refused};
+pub use worker::TagWorker;

@@ -1,0 +1,317 @@
+//! The table: what is opened, used and closed.
+
+ghost use Rattle.std.specs.Prelude.{◌≡◌, ◌∷◌, [], ◌≤◌, ◌<◌, ◌++◌, ◌↔◌, IsTrue, IfOk, IfErr, OnOk, OnErr, IfSome, length};
+ghost use Rattle.std.specs.List.{AllByRecursion};
+ghost use Rattle.never_heap.specs.Bounds.{IsCommandInBounds};
+ghost use Rattle.shared_heap.specs.Workers as heaps;
+ghost use Rattle.shared_heap.specs.Workers.{CanOpen, HasSeenIts};
+ghost use Rattle.tag_table.specs.Tables.{pair_of};
+ghost use Rattle.live_tags.specs.Life.{HasBegun, HasRoomFor, HasRun};
+ghost use Rattle.live_tags.specs.Live.{AreInOrder, AreFresh, AreEachOnce, CanDo, HasDone, HasSeenAll, HaveOneTable, IsOf, IsOpenFault, IsRefused, IsSameWorker, IsTableInRange, commands_of, has_learned, opened_config};
+
+use crate::commands::{clear_commands, in_range, pair, read_commands, write_commands};
+use crate::crew::{Room, room_of, unwrapped, wrapped};
+use crate::note::TagNote;
+use crate::worker::TagWorker;
+use array_trees::blocks_of_array;
+use block_store::{Config, Width};
+use never_heap::{Command, Reply};
+use shared_heap::{OpenFault as HeapFault, SharedHeap, Worker};
+use std::alloc::Global;
+use std::marker::Model;
+use std::sync::{Mutex, Wait};
+use tag_table::Operation;
+
+// How many commands can be counted.
+const MOST_COMMANDS: u64 = 1 << 60;
+
+/// Why no table is opened.
+#[derive(Clone, Copy, Debug, PartialEq, Eq)]
+pub enum OpenFault {
+    /// There are more than 1,024 tags, no thread, or more than 16.
+    OutOfRange,
+    /// There is no room for the words of the heap or for the workers.
+    NoMemory,
+}
+
+/// Why an operation is not done.
+#[derive(Clone, Copy, Debug, PartialEq, Eq)]
+pub enum Refused {
+    /// The table has no such place, or a number is 2^62 or more. This is looked at first.
+    OutOfRange,
+    /// The worker's life has no room for the commands of the operation.
+    NoLifeLeft,
+}
+
+/// A table of tags, which its workers use beside each other.
+#[derive(Drop)]
+pub struct LiveTags {
+    pub(crate) heap: SharedHeap,
+    // Room for the workers of the heap when it is closed.
+    pub(crate) room: Mutex<Room>,
+}
+
+impl Model for LiveTags {
+    ghost use Rattle.shared_heap.specs.Workers.{HeapState, CanOpen};
+    ghost use Rattle.live_tags.specs.Live.{IsTagHeap};
+
+    ghost Value = { HeapState };
+
+    ghost view = { λ t. t.heap };
+
+    ghost invariant = { λ t. IsTagHeap t.heap.config × CanOpen t.heap.config };
+}
+
+// Whether a worker's life has room for the commands of an operation.
+fn has_life(who: &Worker, op: &Operation, commands: &[Command]) -> bool
+    requires bounds { AllByRecursion (IsCommandInBounds who.now.thread.config) commands.now }
+    requires commands { commands.now ≡ commands_of (op.now ∷ []) }
+    ensures room { IsTrue result ↔ HasRoomFor who.now.thread commands.now }
+    ensures sound { HasSeenIts who.now }
+{
+    let few = who.asked().saturating_add(commands.len() as u64) <= MOST_COMMANDS;
+    few && who.has_left(&commands[0])
+}
+
+// Asks commands one behind the other. The last two replies are answered.
+fn asked_all<R: Wait>(
+    rt: &R,
+    heap: &SharedHeap,
+    who: &mut Worker,
+    commands: &[Command],
+) -> (Reply, Reply)
+    requires heap { who.old.heap ≡ heap.now.id }
+    requires bounds { AllByRecursion (IsCommandInBounds who.old.thread.config) commands.now }
+    requires room { HasRoomFor who.old.thread commands.now }
+    ensures run { HasRun who.old commands.now result who.new }
+    ensures begun { 0 < length commands.now → HasBegun who.old who.new }
+{
+    let mut before = Reply::Null;
+    let mut last = Reply::Null;
+    for command in commands {
+        before = last;
+        last = heap.request(rt, who, *command);
+    }
+    (before, last)
+}
+
+// Does an operation, of which these are the commands.
+fn done<R: Wait>(
+    rt: &R,
+    heap: &SharedHeap,
+    who: &mut TagWorker,
+    op: Operation,
+    commands: &[Command],
+) -> Result<Option<(u64, u64)>, Refused>
+    requires own { IsOf heap.now who.old }
+    requires commands { commands.now ≡ commands_of (op ∷ []) }
+    ensures same { IsSameWorker who.old who.new }
+    ensures can { OnOk result (CanDo who.old op) }
+    ensures did { IfOk result (λ tag. HasDone who.old op tag who.new) }
+    ensures refused { IfErr result (IsRefused who.old op) }
+    ensures unchanged { OnErr result (who.new ≡ who.old) }
+{
+    if !in_range(&op, who.worker.config().shared) {
+        return Err(Refused::OutOfRange);
+    }
+    if !has_life(&who.worker, &op, commands) {
+        return Err(Refused::NoLifeLeft);
+    }
+    let (value, quality) = asked_all(rt, heap, &mut who.worker, commands);
+    Ok(pair(value, quality))
+}
+
+// The heap of a table: of four times as many blocks as may be live.
+fn config_of(tags: u32, threads: u32) -> Config
+    requires { IsTableInRange tags threads }
+    ensures { result ≡ opened_config threads tags }
+{
+    let live = 4 * threads + blocks_of_array(Width::Eight, tags) + tags;
+    Config {
+        width: Width::Eight,
+        threads,
+        blocks: 4 * live,
+        live,
+        object: 1,
+        shared: tags,
+    }
+}
+
+// The heap of a table with its workers, if there is memory.
+fn opened_heap(alloc: Global, tags: u32, threads: u32) -> Option<(SharedHeap, Vec<Worker>)>
+    requires { IsTableInRange tags threads }
+    ensures can { CanOpen (opened_config threads tags) }
+    ensures config { IfSome result (λ r. r.0.config ≡ opened_config threads tags) }
+    ensures workers { IfSome result (λ r. heaps.AreInOrder r.0 r.1.items) }
+    ensures fresh { IfSome result (λ r. heaps.AreFresh (opened_config threads tags) r.1.items) }
+{
+    match SharedHeap::open(alloc, config_of(tags, threads)) {
+        Ok(heap) => Some(heap),
+        Err(HeapFault::NoMemory) => None,
+        Err(HeapFault::OutOfBounds) => unreachable!(),
+        Err(HeapFault::LiveTooSmall) => unreachable!(),
+        Err(HeapFault::NoRate) => unreachable!(),
+    }
+}
+
+// The table with its workers, if there is memory.
+fn opened(alloc: Global, tags: u32, threads: u32) -> Option<(LiveTags, Vec<TagWorker>)>
+    requires { IsTableInRange tags threads }
+    ensures can { CanOpen (opened_config threads tags) }
+    ensures config { IfSome result (λ r. r.0.config ≡ opened_config threads tags) }
+    ensures workers { IfSome result (λ r. AreInOrder r.0 r.1.items) }
+    ensures fresh { IfSome result (λ r. AreFresh r.1.items) }
+{
+    let (heap, workers) = opened_heap(alloc, tags, threads)?;
+    let room = room_of(alloc)?;
+    let crew = wrapped(alloc, workers)?;
+    let table = LiveTags {
+        heap,
+        room: Mutex::new(room),
+    };
+    Some((table, crew))
+}
+
+impl LiveTags {
+    /// An empty table of so many places, and a worker for each of so many threads, in order. None
+    /// did anything yet. What they do from then on takes no memory.
+    ///
+    /// # Errors
+    ///
+    /// `OutOfRange` exactly where there are more than 1,024 tags, no thread, or more than 16; and
+    /// `NoMemory` where memory was refused.
+    pub fn open(
+        alloc: Global,
+        tags: u32,
+        threads: u32,
+    ) -> Result<(LiveTags, Vec<TagWorker>), OpenFault>
+        ensures can { OnOk result (IsTableInRange tags threads) }
+        ensures config { IfOk result (λ r. r.0.config ≡ opened_config threads tags) }
+        ensures workers { IfOk result (λ r. AreInOrder r.0 r.1.items) }
+        ensures fresh { IfOk result (λ r. AreFresh r.1.items) }
+        ensures refused { IfErr result (IsOpenFault tags threads) }
+    {
+        if tags > 1024 || threads == 0 || threads > 16 {
+            return Err(OpenFault::OutOfRange);
+        }
+        match opened(alloc, tags, threads) {
+            Some(table) => Ok(table),
+            None => Err(OpenFault::NoMemory),
+        }
+    }
+
+    /// Puts a value with its quality at a place, and answers what stood there before. Other workers
+    /// may be at work meanwhile, in other threads. It may wait for them.
+    ///
+    /// # Errors
+    ///
+    /// `OutOfRange` exactly where the table has no such place or a number is 2^62 or more, and
+    /// `NoLifeLeft` exactly where it is in range and the worker's life has no room for the
+    /// operation. Then nothing has changed.
+    pub fn write<R: Wait>(
+        &self,
+        rt: &R,
+        who: &mut TagWorker,
+        place: u32,
+        value: u64,
+        quality: u64,
+    ) -> Result<Option<(u64, u64)>, Refused>
+        requires { IsOf self.now who.old }
+        ensures same { IsSameWorker who.old who.new }
+        ensures can { OnOk result (CanDo who.old (Operation.Write place value quality)) }
+        ensures did { IfOk result (λ tag. HasDone who.old (Operation.Write place value quality) tag who.new) }
+        ensures refused { IfErr result (IsRefused who.old (Operation.Write place value quality)) }
+        ensures unchanged { OnErr result (who.new ≡ who.old) }
+    {
+        let op = Operation::Write {
+            place,
+            value,
+            quality,
+        };
+        let commands = write_commands(place, value, quality);
+        done(rt, &self.heap, who, op, &commands)
+    }
+
+    /// Empties a place, and answers what stood there before, as `write` does.
+    ///
+    /// # Errors
+    ///
+    /// As of `write`.
+    pub fn clear<R: Wait>(
+        &self,
+        rt: &R,
+        who: &mut TagWorker,
+        place: u32,
+    ) -> Result<Option<(u64, u64)>, Refused>
+        requires { IsOf self.now who.old }
+        ensures same { IsSameWorker who.old who.new }
+        ensures can { OnOk result (CanDo who.old (Operation.Clear place)) }
+        ensures did { IfOk result (λ tag. HasDone who.old (Operation.Clear place) tag who.new) }
+        ensures refused { IfErr result (IsRefused who.old (Operation.Clear place)) }
+        ensures unchanged { OnErr result (who.new ≡ who.old) }
+    {
+        let op = Operation::Clear { place };
+        let commands = clear_commands(place);
+        done(rt, &self.heap, who, op, &commands)
+    }
+
+    /// Answers what stands at a place: a value with the quality that was written with it.
+    ///
+    /// # Errors
+    ///
+    /// As of `write`.
+    pub fn read<R: Wait>(
+        &self,
+        rt: &R,
+        who: &mut TagWorker,
+        place: u32,
+    ) -> Result<Option<(u64, u64)>, Refused>
+        requires { IsOf self.now who.old }
+        ensures same { IsSameWorker who.old who.new }
+        ensures can { OnOk result (CanDo who.old (Operation.Read place)) }
+        ensures did { IfOk result (λ tag. HasDone who.old (Operation.Read place) tag who.new) }
+        ensures refused { IfErr result (IsRefused who.old (Operation.Read place)) }
+        ensures unchanged { OnErr result (who.new ≡ who.old) }
+    {
+        let op = Operation::Read { place };
+        let commands = read_commands(place);
+        done(rt, &self.heap, who, op, &commands)
+    }
+
+    /// Notes what a worker of this table has seen: all operations that it did, with those of others
+    /// before them.
+    pub fn note(&self, who: &mut TagWorker) -> TagNote
+        requires { IsOf self.now who.old }
+        ensures heap { result.heap ≡ self.now.id }
+        ensures seen { result.seen ≡ who.old.worker.seen }
+        ensures all { HasSeenAll who.old }
+        ensures same { who.new ≡ who.old }
+    {
+        who.worker.asked();
+        let note = self.heap.note(&mut who.worker);
+        TagNote { note }
+    }
+
+    /// Tells a worker of this table what another had seen. The operations that it does from then on
+    /// stand behind that in the one order.
+    pub fn learn(&self, who: &mut TagWorker, note: TagNote)
+        requires own { IsOf self.now who.old }
+        requires note { note.heap ≡ self.now.id }
+        ensures { who.new ≡ has_learned who.old note.seen }
+    {
+        let TagNote { note } = note;
+        self.heap.learn(&mut who.worker, note);
+    }
+
+    /// Ends the table, of which all workers are at hand, each once, in any order. All operations
+    /// that they did stand in one order, each worker's in its own, in which each was answered as on
+    /// a plain table. Answers how many cycles the collector started.
+    pub fn close(self, who: Vec<TagWorker>) -> u64
+        requires { AreEachOnce self who.items }
+        ensures { HaveOneTable self.config who.items result }
+    {
+        let LiveTags { heap, room } = self;
+        let workers = unwrapped(room.into_inner(), who);
+        heap.close(workers)
+    }
+}
