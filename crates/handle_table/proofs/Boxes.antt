@@ -1,5 +1,5 @@
--- Items and boxes: what shows a slot, what registers hold of them at rest, that it stays, and how many
--- blocks it carries.
+-- Items and boxes: how a slot is shown by them, what registers hold of them at rest, that this
+-- stays true, and how many blocks they take.
 use Rattle.std.proofs.Common.{◌≡◌, ℕ, zero, suc, ◌+◌, ◌-◌, ◌*◌, ◌<◌, ◌≤◌, ◌==◌, ◌⊎◌, inl, inr, cond, ltb, Bool, true, false, Option, Some, None, List, [], ◌∷◌, sym, refl, ap, ◌∙◌, subst, arith}
 use Rattle.std.specs.List.{sum_by}
 use Rattle.std.proofs.lemmas.Bool.{lt-ltb, le-ltb}
@@ -79,7 +79,7 @@ abbrev pub HasItem : Slot → Value → Type 0
 HasItem None v = Unit {0}
 HasItem (Some c) v = v ≡ Ref (item_name c.0 c.1)
 
--- what is known of values beside slots
+-- what is known of values besides slots
 pub data Other : Type 0 where
   Loose : Other
   Small : Other
@@ -92,7 +92,7 @@ Means obj out v Small = IsSmall obj out v
 Means obj out v (Handle t n) = HoldsHandle obj out t v n
 Means obj out v (Item slot) = IsSmall obj out v × HasItem slot v
 
--- ---- all this stays where finished objects do
+-- ---- all this stays true while finished objects are not written
 
 module _ (obj new : Name → Object) (out more : ℕ → ℕ) (frame : Frame obj new out more) where
   box_move : (t j x : ℕ) → IsBox obj out t j x → IsBox new more t j x
@@ -182,7 +182,7 @@ handle_limit h low =
     ap (λ (z : Bool). cond z (cond (4 + h == 1) 2 (cond (4 + h == 2) 0 1)) (cond (ltb (4 + h) 12) 2 0))
     high ∙ ap (λ (z : Bool). cond z 2 0) few
 
--- ---- what they carry
+-- ---- how many blocks they take
 
 item_plain : (v : Value) → IsPlain v → (j : ℕ) → IsPlain (field_of (item_object v) j)
 item_plain v p zero = p

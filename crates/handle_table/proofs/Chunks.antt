@@ -8,8 +8,7 @@ use Rattle.handle_table.specs.declared.operation.Operation.TheVariants as said
 use Rattle.handle_table.specs.declared.told.Outcome.{Outcome}
 use Rattle.handle_table.specs.Handles.{Deed, Make, See, Drop, Take, Evict, Answer, Matched, Found, outcome_of, outcomes_told, numbered, last_after, rows_of, ends, is_yes, found_by}
 
--- what calls came to, of operations of thread t behind n makes
--- lists that agree in their heads and tails
+-- lists that are equal agree in their heads and in their tails
 head_of : {A : Type 0} (x y : A) (xs ys : List A) → x ∷ xs ≡ y ∷ ys → x ≡ y
 head_of {A} x y xs ys e = ap (λ (l : List A). head l) e
   where

@@ -1,4 +1,4 @@
--- What comparisons of what shows a slot come to, and what the last replies of an operation tell.
+-- What a comparison with the box of a slot gives, and what the last replies of an operation say.
 use Rattle.std.proofs.Common.{◌≡◌, ℕ, ◌+◌, ◌*◌, ◌==◌, ◌&&◌, inl, inr, cond, Bool, true, false, Some, None, List, [], ◌∷◌, ◌++◌, eq-eqb, ne_eqb, sym, refl, ap, ◌∙◌, arith}
 use Rattle.std.proofs.lemmas.Bool.{cases_eq}
 use Rattle.block_store.specs.declared.Name.{Name}

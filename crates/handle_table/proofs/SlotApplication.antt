@@ -1,4 +1,4 @@
--- All that an application of handles owes, and that every run is its operations in one order.
+-- What has to be shown of the table of handles, and that every run has a linearization.
 use Rattle.std.proofs.Common.{◌≡◌, ℕ, ◌+◌, ◌≤◌, List, [], ◌∷◌, ◌++◌, length, map, slice_index_or, refl, ap, ◌∙◌, subst, arith}
 use Rattle.std.specs.Prelude.{flat_map}
 use Rattle.never_heap.specs.Histories.{HistoryItem}
@@ -24,7 +24,7 @@ whole (Drop t j q i) rows = refl
 whole (Take i) rows = refl
 whole (Evict i) rows = refl
 
--- the rows of a script begin with the first row of an operation, and stand in their order
+-- nothing is known before the first row of a script
 at_first : (slots : ℕ) (ops : List Deed) (c : Slot)
     → spot_of (kept slots) (flat_map rows_of ops) c ≡ nowhere
 at_first slots [] c = refl
@@ -73,7 +73,7 @@ slots_owe n slots blocks scripts count numbered = record {
   tells = tells slots;
 }
 
--- every run of a job of handles is its operations in one order, and has no full
+-- every run of a job of handles has a linearization, and none of its allocations is full
 pub slots_are_kept : (n slots blocks rate : ℕ) (scripts : List (List Operation))
     (h : List HistoryItem) → length scripts ≡ n
     → ((t : ℕ) → AreInTurn slots [] (slice_index_or scripts t []))

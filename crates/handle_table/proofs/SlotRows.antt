@@ -1,4 +1,4 @@
--- Each row of handles keeps the table, and the last row of an operation tells its answer.
+-- Each row of handles keeps what its table says, and the last row of an operation gives its answer.
 use Rattle.std.proofs.Common.{◌≡◌, ◌≢◌, ℕ, suc, ◌+◌, ◌-◌, ◌*◌, ◌<◌, ◌≤◌, ◌==◌, inl, inr, cond, ltb, Bool, true, false, Some, None, List, [], ◌∷◌, ◌++◌, eq-eqb, ne_eqb, sym, refl, ap, ◌∙◌, subst, append_assoc, arith}
 use Rattle.std.proofs.lemmas.Bool.{cases_lt, lt-ltb}
 use Rattle.block_store.specs.declared.Name.{Name}
@@ -238,7 +238,7 @@ module _ (slots : ℕ) where
             (s.regs q one),
       )
 
-  -- nothing is in the making, and nil stands in register v
+  -- nothing is in the making, and register v holds nil
   release_finish : (u j h i : ℕ) (b : Before (kept slots) (Release u j h i))
       → Finish (kept slots) b 2 None
   release_finish u j h i b obj frame s =
@@ -367,7 +367,7 @@ module _ (slots : ℕ) where
             (λ y s. s.0, (λ y s. inr (p.cell, s), tt)) s,
       )
 
-  -- ---- what the last row of an operation tells is what was decided
+  -- ---- the last row of an operation answers what was decided
 
   pub tells : (row : Row) (b : Before (kept slots) row) → Says (kept slots) b
   tells (Claim u j h i x) b =

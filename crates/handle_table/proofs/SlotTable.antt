@@ -1,4 +1,4 @@
--- The slots' table: what is known before each row of handles.
+-- The table of the slots: what is known before each row of handles.
 use Rattle.std.proofs.Common.{◌≡◌, ℕ, ◌+◌, ◌*◌, ◌<◌, ◌&&◌, true, Option, Some, None, List, [], ◌∷◌, length, refl, ap, ◌∙◌}
 use Rattle.operations.proofs.Records.{reply_by}
 use Rattle.operations.proofs.Tables.{Sym, Empty, Number, Own, Shown, Meant, Hold, Is, Has, Spot, nowhere, making, telling, Table}
@@ -60,7 +60,7 @@ pub same_made : (row : Row) (c e : Slot) → length (before row c).made ≡ leng
 same_made (NewItem u j h i x) c e = refl
 same_made _ c e = refl
 
--- of a thread it is known how many makes it finished, and of each h one more than the last
+-- the state of a thread: how many makes it finished, and the last of each h, counted from 1
 pub record Makes : Type 0 where
   pub done : ℕ
   pub last : ℕ → ℕ

@@ -1,4 +1,4 @@
--- The rings' table: what is known before each row, and that each row keeps it.
+-- The table of the rings: what is known before each row, and that each row keeps it.
 use Rattle.std.proofs.Common.{◌≡◌, ℕ, zero, suc, ◌+◌, ◌<◌, true, Option, Some, None, List, [], ◌∷◌, ◌++◌, length, get_or, refl, ap, ◌∙◌, arith}
 use Rattle.std.specs.Prelude.{flat_map, slice_index_or}
 use Rattle.block_store.specs.declared.Value.{Value}

@@ -1,4 +1,4 @@
--- Every run of a table's job is its operations in one order, and has no full.
+-- Every run of the job of a table has a linearization, and none of its allocations is full.
 use Rattle.std.proofs.Common.{◌≡◌, ℕ, List, [], length, map, slice_index_or, ◌∙◌, arith}
 use Rattle.never_heap.specs.Histories.{HistoryItem}
 use Rattle.never_heap.specs.Licensed.{NoFulls}

@@ -113,7 +113,7 @@ tagged tags = recorded (table tags)
 
 -- ---- the rows
 
--- what stands last is what is told
+-- the last two replies make the pair, whatever replies come before them
 behind : (a b x y : Reply) (before : List Reply)
     → pair_behind a b (before ++ x ∷ y ∷ []) ≡ pair_of x y
 behind a b x y [] = refl
@@ -168,7 +168,7 @@ module _ (tags : ℕ) where
       field_last (table tags) b 3 1 (omega arith, omega arith) refl has_quality (λ r c. refl)
       (λ c. refl) refl pair_told refl refl (λ l. refl) (λ c. refl) refl (λ c. refl)
 
-  -- the last row of an operation tells what was decided
+  -- the last row of an operation answers what was decided
   tells : (row : Row) (b : Before (tagged tags) row) → Says (tagged tags) b
   tells TellQuality b =
       let p = place (tagged tags) b in
