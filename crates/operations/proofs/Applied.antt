@@ -1,4 +1,5 @@
--- An application whose table says enough of its rows owes nothing more.
+-- From a table to an application: what has to be shown of the table (`Owes`), and that every run
+-- then has a linearization without a full (`ordered`).
 use Rattle.std.proofs.Common.{◌≡◌, ℕ, ◌+◌, ◌*◌, ◌<◌, ◌≤◌, inl, inr, cond, List, [], ◌∷◌, ◌++◌, length, map, replicate, slice_index_or, ne_eqb, sym, refl, ap, ◌∙◌, subst, arith}
 use Rattle.std.specs.Prelude.{flat_map}
 use Rattle.std.proofs.lemmas.Bool.{cases_lt}
@@ -30,21 +31,21 @@ use Rattle.operations.proofs.Weights.{Weights, few, upto}
 
 module _ {Op Row Answer Cell K L : Type 0} (a : Table Op Row Answer Cell K L) (c : Config)
     (rows_of : Op → List Row) (scripts : List (List Op)) where
-  -- what is left to say of an application with a table
+  -- what has to be shown of an application with a table
   pub record Owes : Type 0 where
     pub eight : c.width ≡ Eight
     pub shared : c.shared ≡ a.size
     pub count : length scripts ≡ c.threads
-    -- each operation is decided by one of its rows
+    -- one row of each operation decides it
     pub whole : (op : Op) (rows : List Row)
         → ops_in a.decides (rows_of op ++ rows) ≡ op ∷ ops_in a.decides rows
-    -- a thread's first state, and its script's rows
+    -- the first state of a thread, and the rows of its script
     pub first : L
     pub none_finished : a.finished first ≡ 0
     pub at_first : (t : ℕ) (cell : Cell)
         → spot_of a (flat_map rows_of (slice_index_or scripts t [])) cell ≡ nowhere
     pub proper : (t : ℕ) → IsProper a t first (flat_map rows_of (slice_index_or scripts t []))
-    -- nil is what is known at rest, and shows the first cell
+    -- at first each register fits what is known at rest, and each place is empty
     pub nil_shown : (obj : Name → Object) (out : ℕ → ℕ) → a.Shows obj out Nil a.none
     pub nil_rests : (obj : Name → Object) (out : ℕ → ℕ) (t q : ℕ)
         → Lasts a obj out (a.rest t first q) Nil
@@ -52,7 +53,7 @@ module _ {Op Row Answer Cell K L : Type 0} (a : Table Op Row Answer Cell K L) (c
     pub fits : 3 * c.threads + (array_blocks Eight a.size
         + (a.size * weights.most + total weights.limit c.threads (upto 1 15)))
         ≤ c.live
-    -- the rows
+    -- each row keeps the invariant, and the last one answers what was decided
     pub goes : (row : Row) (b : Before a row) → Goes a b
     pub tells : (row : Row) (b : Before a row) → Says a b
 
@@ -160,7 +161,7 @@ module _ {Op Row Answer Cell K L : Type 0} (a : Table Op Row Answer Cell K L) (c
           owes.goes row (before g at cells t row rows h next) new same is;
     }
 
-    -- every run is its operations in one order, and has no full
+    -- every run has a linearization, and none of its allocations is full
     pub ordered : (rate : ℕ) (h : List HistoryItem)
         → IsRun c rate (traces_of rows_of a.command_at scripts) h
         → (order : List (Call Op Answer))

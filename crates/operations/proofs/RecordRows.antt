@@ -1,5 +1,5 @@
--- Applications whose cells are shown by records of numbers, with register 1 to work with: the table,
--- what each kind of row owes, and the weights.
+-- Applications whose cells are shown by records of numbers, which register 1 holds: their table,
+-- what is left to show of each kind of row, and how many blocks registers carry.
 use Rattle.std.proofs.Common.{◌≡◌, ℕ, ◌<◌, ◌==◌, ◌&&◌, not, cond, Bool, true, false, Option, Some, None, List, [], ◌∷◌, ◌++◌, length, map, get_or, sym, refl, ap, ◌∙◌, subst, arith}
 use Rattle.std.proofs.lemmas.Bool.{and_parts, eqb-true}
 use Rattle.block_store.specs.declared.Name.{Name}
@@ -16,7 +16,7 @@ use Rattle.operations.proofs.Turns.{Before, Goes, place}
 use Rattle.operations.proofs.Tables.{Frame, same_frame, Sym, Empty, Number, Own, Lasting, Plain, Shown, Any, Meant, Hold, Is, Has, Spot, Table, value_of, record_of, held, behind, Lasts, Meets}
 use Rattle.operations.proofs.Weights.{Weights, light_lasting, all_light}
 
--- At rest register 1 shows some cell, and the others are no references.
+-- At rest register 1 shows some cell, and no other register holds a reference.
 abbrev pub at_rest : {Cell : Type 0} → ℕ → Lasting Cell (Unit {0})
 at_rest q = cond (q == 1) Any Plain
 
@@ -30,7 +30,7 @@ pub record RecordRows (Op Row Answer Cell : Type 0) : Type 1 where
   pub ends : Row → Option (List Reply → Answer)
   pub say : Op → List Cell → Answer
   pub act : Op → List Cell → List Cell
-  -- the fields of the record that shows a cell
+  -- the cell of an empty place, and the fields of the record that shows a cell
   pub none : Cell
   pub shape : Cell → Option (List Value)
   pub slim : (c : Cell) → IsSlim (shape c)
@@ -38,14 +38,14 @@ pub record RecordRows (Op Row Answer Cell : Type 0) : Type 1 where
   pub before : Row → Cell → Spot Answer Cell (Unit {0})
   pub follow : Row → Option Row
   pub Fits : Row → Type 0
-  -- how many records a row finishes
+  -- how many records a thread has finished after a row
   pub next : ℕ → Row → ℕ
   pub same_made : (row : Row) (c e : Cell) → length (before row c).made ≡ length (before row e).made
   pub light : (row : Row) (c : Cell)
       → all_light 1 (λ (x : Unit {0}). 0) limit (before row c).made (before row c).puts ≡ true
 
 module _ {Op Row Answer Cell : Type 0} (r : RecordRows Op Row Answer Cell) where
-  -- of a thread it is known how many records it finished
+  -- the state of a thread is the number of records that it has finished
   abbrev pub recorded : Table Op Row Answer Cell (Unit {0}) ℕ
   recorded = record {
     size = r.size;
@@ -203,7 +203,7 @@ module _ {Op Row Answer Cell : Type 0} (r : RecordRows Op Row Answer Cell) where
           (subst (λ (h : Hold Cell (Unit {0})). Meets recorded (object_of b.g) b.out b.t h
           (register_of b.g b.t d)) (plain p.cell) (p.spot.regs d range.0))
 
-      -- the next row has heard it
+      -- the next row has its reply
       pub field_on : Still recorded b → ((c : Cell) → behind recorded row c
           ≡ record (r.before row c) { heard = (r.before row c).heard ++ reply_by (r.shape c) i ∷ [] })
           → Goes recorded b
@@ -216,7 +216,7 @@ module _ {Op Row Answer Cell : Type 0} (r : RecordRows Op Row Answer Cell) where
             λ q ne x s. s,
           )
 
-      -- or it is the last one of its operation
+      -- or the get is the last row of its operation
       pub field_last : r.decides row ≡ None → (f : List Reply → Answer) → r.ends row ≡ Some f
           → r.follow row ≡ None → ((l : ℕ) → r.next l row ≡ l)
           → ((c : Cell) → length (r.before row c).made ≡ 0) → (d == 1) ≡ false

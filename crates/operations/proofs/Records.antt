@@ -1,4 +1,4 @@
--- Cells that finished records of numbers show, and what a get of a field of one is answered.
+-- Cells that are shown by finished records of numbers, and what a get on such a record answers.
 use Rattle.std.proofs.Common.{◌≡◌, ℕ, ◌<◌, ◌≤◌, Option, Some, None, List, length, map, get_or, sym, refl, ap, ◌∙◌, subst, arith}
 use Rattle.block_store.specs.declared.Name.{Name}
 use Rattle.block_store.specs.declared.Value.{Value}
@@ -27,7 +27,7 @@ pub record IsRecord (obj : Name → Object) (out : ℕ → ℕ) (x : Name) (fiel
   pub finished : x.serial ≤ out x.thread
   pub is : obj x ≡ record_with fields
 
--- nil where there is none, and else its record
+-- what a value shows: nothing if it is nil, or the fields of the record to which it refers
 abbrev pub IsShown : (Name → Object) → (ℕ → ℕ) → Value → Option (List Value) → Type 0
 IsShown obj out Nil None = Unit {0}
 IsShown obj out Nil (Some fields) = ⊥
@@ -62,7 +62,7 @@ shown_own obj out t n j fs v low is refers =
 pub shown_nil : (obj : Name → Object) (out : ℕ → ℕ) (v : Value) → v ≡ Nil → IsShown obj out v None
 shown_nil obj out v e = subst (λ (x : Value). IsShown obj out x None) (sym e) tt
 
--- ---- what it carries
+-- ---- how many blocks it carries
 
 -- numbers that fit one block
 abbrev pub IsSlim : Option (List Value) → Type 0
@@ -92,7 +92,7 @@ carries_shown g out (Ref y) (Some fields) x s slim e = subst (λ (v : Value). ca
     plain : (i : ℕ) → IsPlain (field_of (object_of g y) i)
     plain i = subst (λ (o : Object). IsPlain (field_of o i)) (sym s.is) (slim.1 i)
 
--- ---- what a get is answered
+-- ---- what a get answers
 
 abbrev pub reply_by : Option (List Value) → ℕ → Reply
 reply_by None i = Null
@@ -102,7 +102,7 @@ abbrev pub HasField : Option (List Value) → ℕ → Type 0
 HasField None i = Unit {0}
 HasField (Some fields) i = i < length fields
 
--- what stands in a register then
+-- what the register of a get holds after it
 abbrev pub value_by : Option (List Value) → ℕ → Value → Value
 value_by None i old = old
 value_by (Some fields) i old = get_or fields i Nil
@@ -115,7 +115,7 @@ slim_value (Some fields) i old slim plain = slim.1 i
 module _ {Op Row Answer Cell K L : Type 0} (a : Table Op Row Answer Cell K L) {row : Row}
     (b : Before a row) (d s i : ℕ) (range : IsRegister d)
     (command : a.command_at row ≡ commands.Get d s i) where
-  -- by a record
+  -- a get on a record
   pub tell_known : (x : Name) (fields : List Value) → register_of b.g b.t s ≡ Ref x
       → object_of b.g x ≡ record_with fields → i < length fields
       → Told a b d (get_or fields i Nil) (Val (get_or fields i Nil))
@@ -127,7 +127,7 @@ module _ {Op Row Answer Cell K L : Type 0} (a : Table Op Row Answer Cell K L) {r
     effect = stores b.g b.t d (get_or fields i Nil) (inside a b) (room a b d range.1) (shared_name b.n);
   }
 
-  -- by nil, or by a number
+  -- on nil, or on a number
   pub tell_null : register_of b.g b.t s ≡ Nil → Told a b d (register_of b.g b.t d) Null
   tell_null is = record {
     graph = b.g;
@@ -142,7 +142,7 @@ module _ {Op Row Answer Cell K L : Type 0} (a : Table Op Row Answer Cell K L) {r
     effect = nothing b.g b.t d (shared_name b.n);
   }
 
-  -- by what shows a cell
+  -- on what shows a cell
   pub tell_by : (v : Value) (shape : Option (List Value)) → register_of b.g b.t s ≡ v
       → IsShown (object_of b.g) b.out v shape → HasField shape i
       → Told a b d (value_by shape i (register_of b.g b.t d)) (reply_by shape i)

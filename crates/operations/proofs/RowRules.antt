@@ -1,6 +1,6 @@
--- What rows do, kind by kind: a row that stores in a register, one that makes an object or writes in
--- one that its thread is making, and one that fetches from the array or stores there. Each leads from
--- what an application's table says before a row to what it says behind it.
+-- The kinds of rows, each proved once: a row stores in a register, makes an object or writes in one
+-- that its thread is making, fetches from the shared array, or stores there. Each rule leads from
+-- what the table says before a row to what it says after it.
 use Rattle.std.proofs.Common.{◌≡◌, ◌≢◌, ℕ, zero, suc, ◌+◌, ◌-◌, ◌<◌, ◌≤◌, inl, inr, cond, Bool, true, false, Option, Some, None, List, [], ◌∷◌, ◌++◌, length, map, get_or, set, replicate, slice_index_or, eq-eqb, ne_eqb, sym, refl, ap, ◌∙◌, subst, append-nil, append_assoc, arith}
 use Rattle.std.specs.Prelude.{slice_set}
 use Rattle.std.proofs.lemmas.Bool.{cases_eq, cases_lt}
@@ -21,7 +21,7 @@ use Rattle.operations.proofs.Effects.{Effect, nothing, stores, puts, makes, swap
 use Rattle.operations.proofs.Tables.{Frame, IsMade, Sym, Empty, Own, Lasting, Shown, Hold, Is, Has, Spot, nowhere, Table, own_name, value_of, record_of, held, behind, spot_by, Lasts, Meets, InSpot, lasts_move, meets_move, spot_move}
 use Rattle.operations.proofs.Turns.{Before, Arrives, Goes, finishes_none, finishes_more, grown, out_after, out_same, thread, inside, room, place, owes, known, reply, acts, told, frame, leaves, shared_stays, shared_changes}
 
--- a thread's registers that a row may store in
+-- the registers in which a row may store
 abbrev pub IsRegister : ℕ → Type 0
 IsRegister d = (1 ≤ d) × (d < 16)
 
@@ -78,7 +78,7 @@ module _ {Op Row Answer Cell K L : Type 0} (a : Table Op Row Answer Cell K L) wh
     abbrev pub array : Object
     array = object_of b.g (shared_name b.n)
 
-    -- what was known is known of the graph k where the array alone changed
+    -- where the array alone changed, what was known is known of the graph k
     spot_on : (k : Graph) (d : ℕ) (x : Value) (o : Object)
         → Effect b.g k b.t d x shared o 0 → (l : L) (s : Spot Answer Cell K) (r : ℕ → Value)
         → InSpot a (object_of b.g) b.out b.t l s r → InSpot a (object_of k) b.out b.t l s r
@@ -98,7 +98,7 @@ module _ {Op Row Answer Cell K L : Type 0} (a : Table Op Row Answer Cell K L) wh
         Meets a (object_of b.g) b.out b.t h (register_of b.g b.t q))
         (is (a.rest b.t (place a b).state) (place a b).cell) ((place a b).spot.regs q one)
 
-    -- ---- answers that are pending, and replies that are heard
+    -- ---- the answer that is decided, and the replies so far
 
     goes_on : a.ends row ≡ None → (decided : List Answer) → told a b ≡ decided
         → kept_next (a.ends row) ((b.at b.t).pending ++ told a b) ≡ (known a b).pend ++ decided
@@ -125,7 +125,7 @@ module _ {Op Row Answer Cell K L : Type 0} (a : Table Op Row Answer Cell K L) wh
     abbrev pub Still : Type 0
     Still = (a.decides row ≡ None) × (a.ends row ≡ None) × ((l : L) → a.next l row ≡ l)
 
-    -- the next row knows this of registers and of objects in the making, and has heard this
+    -- before the next row this is known of registers, objects in the making, and replies
     abbrev still : Still → (ps : List (ℕ × Hold Cell K)) (m : List (List Sym)) (replies hs : List Reply)
         → behind a row (place a b).cell ≡ record (known a b) { puts = ps; made = m; heard = hs }
         → (b.at b.t).seen ++ reply a b ∷ [] ≡ replies ++ hs → Arrives a b b.out
@@ -143,7 +143,7 @@ module _ {Op Row Answer Cell K L : Type 0} (a : Table Op Row Answer Cell K L) wh
           ∙ seen;
     }
 
-    -- or has heard nothing
+    -- or no reply is kept
     abbrev silent : Still → (ps : List (ℕ × Hold Cell K)) (m : List (List Sym))
         → behind a row (place a b).cell ≡ record (known a b) { puts = ps; made = m; heard = [] }
         → Arrives a b b.out
@@ -331,7 +331,7 @@ module _ {Op Row Answer Cell K L : Type 0} (a : Table Op Row Answer Cell K L) wh
           own = (place a b).spot.own;
         })
 
-    -- ---- rows that store there, by which all that is in the making is finished
+    -- ---- rows that store there, which finishes all that is in the making
 
     abbrev pub left : ℕ
     left = length (known a b).made
@@ -339,7 +339,7 @@ module _ {Op Row Answer Cell K L : Type 0} (a : Table Op Row Answer Cell K L) wh
     abbrev pub now : ℕ → ℕ
     now = out_after b.out b.t left
 
-    -- What an application owes: what register v holds shows a cell, and registers are at rest.
+    -- What an application has to show: register v shows a cell, and registers are at rest.
     abbrev pub Finish : (v : ℕ) → Cell → Type 0
     Finish v cell = (obj : Name → Object) → Frame obj obj b.out now
         → InSpot a obj b.out b.t (place a b).state (known a b) (register_of b.g b.t)
@@ -494,9 +494,9 @@ module _ {Op Row Answer Cell K L : Type 0} (a : Table Op Row Answer Cell K L) wh
     cas_last i x v cell f z low command found =
         cas_by i v cell f z low (ap (λ p. p.0) (found_is i x v z low command found))
 
-    -- ---- rows that tell what was fetched
+    -- ---- rows whose reply says something of what was fetched
 
-    -- the row was answered r, and register d is v then
+    -- the reply of the row is r, and register d holds v after it
     pub record Told (d : ℕ) (v : Value) (r : Reply) : Type 0 where
       pub graph : Graph
       pub stepped : step b.g b.t (a.command_at row) ≡ (graph, r)
@@ -521,7 +521,7 @@ module _ {Op Row Answer Cell K L : Type 0} (a : Table Op Row Answer Cell K L) wh
           ((place a b).spot.regs q one))
     ]
 
-    -- a reply that the next row has heard
+    -- a reply that is kept for the next row
     pub tells_on : (d : ℕ) (v : Value) (r : Reply) → Told d v r → 1 ≤ d → Still
         → (ps : List (ℕ × Hold Cell K)) → behind a row (place a b).cell
         ≡ record (known a b) { puts = ps; heard = (known a b).heard ++ r ∷ [] }
@@ -537,7 +537,7 @@ module _ {Op Row Answer Cell K L : Type 0} (a : Table Op Row Answer Cell K L) wh
           own = (place a b).spot.own;
         })
 
-    -- and the last one of an operation, after which the thread is at rest
+    -- the last reply of an operation, after which the thread is at rest
     pub tells_last : (d : ℕ) (v : Value) (r : Reply) → Told d v r → 1 ≤ d
         → a.decides row ≡ None → (f : List Reply → Answer) → a.ends row ≡ Some f → a.follow row ≡ None
         → ((l : L) → a.next l row ≡ l) → length (known a b).made ≡ 0
@@ -552,7 +552,7 @@ module _ {Op Row Answer Cell K L : Type 0} (a : Table Op Row Answer Cell K L) wh
         (register_of k b.t q)) (sym (next (place a b).state))
         (got k d v heard.effect (λ p. Has (a.rest b.t (place a b).state p)) lands q some)))
 
-    -- what the last row tells is what was decided
+    -- the last row answers what was decided
     abbrev pub Says : Type 0
     Says = Tells (a.ends row) ((b.at b.t).seen ++ reply a b ∷ []) ((b.at b.t).pending ++ told a b)
 

@@ -1,6 +1,6 @@
--- What an application says of its rows, as a table: what is known, before each row, of the registers of
--- its thread and of the objects that the thread is making. What such a table means, and that it stays
--- where finished objects do, and those that the thread is making.
+-- An application's table: as data, what is known before each row of the registers of its thread and
+-- of the objects that the thread is making. What such a table means, and that this stays true as
+-- long as finished objects, and those that the thread is making, are not written.
 use Rattle.std.proofs.Common.{◌≡◌, ◌≢◌, ℕ, ◌+◌, ◌<◌, ◌≤◌, ◌==◌, cond, Bool, eq-eqb, ne_eqb, Option, Some, None, List, [], ◌∷◌, ◌++◌, length, map, get_or, sym, refl, ap, ◌∙◌, subst, arith}
 use Rattle.block_store.specs.declared.Name.{Name}
 use Rattle.block_store.specs.declared.Value.{Value}
@@ -29,20 +29,20 @@ pub data Sym : Type 0 where
   Number : (n : ℕ) → Sym
   Own : (k : ℕ) → Sym
 
--- what is known of a value for good: it is no reference, it shows this cell, or some cell, or what an
--- application says
+-- what is known of a value for good: it is no reference, it shows this cell, it shows some cell, or
+-- what the application says of it
 pub data Lasting (Cell K : Type 0) : Type 0 where
   Plain : Lasting Cell K
   Shown : (c : Cell) → Lasting Cell K
   Any : Lasting Cell K
   Meant : (x : K) → Lasting Cell K
 
--- and of a register, until the next row
+-- what is known of a register until the next row
 pub data Hold (Cell K : Type 0) : Type 0 where
   Is : (s : Sym) → Hold Cell K
   Has : (y : Lasting Cell K) → Hold Cell K
 
--- the objects that thread t makes behind those that it finished, and a value that is known
+-- the objects that thread t makes after the first o, and the values and the records of symbols
 abbrev pub own_name : ℕ → ℕ → ℕ → Name
 own_name t o k = record { thread = t; serial = o + k + 1 }
 
@@ -54,7 +54,7 @@ value_of t o (Own k) = Ref (own_name t o k)
 abbrev pub record_of : ℕ → ℕ → List Sym → Object
 record_of t o fields = record { kind = Record; fields = map (value_of t o) fields }
 
--- what is known of register q: what stands first in the list, and else what is known at rest
+-- what is known of register q: the first entry for it in the list, or else what is known at rest
 abbrev pub held : {Cell K : Type 0} → (ℕ → Lasting Cell K) → List (ℕ × Hold Cell K) → ℕ
     → Hold Cell K
 held rest [] q = Has (rest q)
@@ -68,8 +68,8 @@ pub held_past : {Cell K : Type 0} (rest : ℕ → Lasting Cell K) (ps : List (�
     (h : Hold Cell K) → d ≢ q → held rest ((d, h) ∷ ps) q ≡ held rest ps q
 held_past rest ps d q h ne = ap (λ (z : Bool). cond z h (held rest ps q)) (ne_eqb d q ne)
 
--- What is known before a row: the registers that are not at rest, and the objects in the making; the
--- answer that is decided and not yet told, and the last replies.
+-- What is known before a row: the registers that are not at rest, the objects in the making, the
+-- answer that is decided and not yet given, and the last replies.
 pub record Spot (Answer Cell K : Type 0) : Type 0 where
   pub puts : List (ℕ × Hold Cell K)
   pub made : List (List Sym)
@@ -88,7 +88,7 @@ abbrev pub telling : {Answer Cell K : Type 0} → List (ℕ × Hold Cell K) → 
     → Spot Answer Cell K
 telling puts answer heard = record { puts = puts; made = []; pend = answer ∷ []; heard = heard }
 
--- An application's table. K is what it knows of values beside cells, and L what it keeps of a thread.
+-- An application's table. K is what it knows of values besides cells, L what it keeps of a thread.
 pub record Table (Op Row Answer Cell K L : Type 0) : Type 1 where
   pub size : ℕ
   pub command_at : Row → Command
@@ -96,11 +96,11 @@ pub record Table (Op Row Answer Cell K L : Type 0) : Type 1 where
   pub ends : Row → Option (List Reply → Answer)
   pub say : Op → List Cell → Answer
   pub act : Op → List Cell → List Cell
-  -- a place of the array where nothing is kept, and what a value shows
+  -- the cell of an empty place, and what a value shows and means
   pub none : Cell
   pub Shows : (Name → Object) → (ℕ → ℕ) → Value → Cell → Type 0
   pub Means : (Name → Object) → (ℕ → ℕ) → Value → K → Type 0
-  -- what is known before a row of which the thread fetched this cell; and the row behind one, where it
+  -- what is known before a row, where the thread fetched this cell; and the row after one, if that
   -- does not end its operation
   pub before : Row → Cell → Spot Answer Cell K
   pub follow : Row → Option Row
@@ -109,7 +109,7 @@ pub record Table (Op Row Answer Cell K L : Type 0) : Type 1 where
   pub Fits : ℕ → L → Row → Type 0
   pub next : L → Row → L
   pub finished : L → ℕ
-  -- how many objects are in the making is told by the row alone
+  -- how many objects are in the making depends on the row alone
   pub same_made : (row : Row) (c e : Cell) → length (before row c).made ≡ length (before row e).made
   -- what is known for good stays
   pub shows_move : (obj new : Name → Object) (out more : ℕ → ℕ) → Frame obj new out more
@@ -118,7 +118,7 @@ pub record Table (Op Row Answer Cell K L : Type 0) : Type 1 where
       → (v : Value) (x : K) → Means obj out v x → Means new more v x
 
 module _ {Op Row Answer Cell K L : Type 0} (a : Table Op Row Answer Cell K L) where
-  -- what is known where these rows are left, and behind a row
+  -- what is known before the first of these rows, and after a row
   abbrev pub spot_of : List Row → Cell → Spot Answer Cell K
   spot_of [] c = nowhere
   spot_of (row ∷ rows) c = a.before row c
@@ -130,7 +130,7 @@ module _ {Op Row Answer Cell K L : Type 0} (a : Table Op Row Answer Cell K L) wh
   abbrev pub behind : Row → Cell → Spot Answer Cell K
   behind row c = spot_by (a.follow row) c
 
-  -- how many objects a thread has made beside those that it finished
+  -- how many objects a thread has made besides those that it finished
   abbrev pub owed : List Row → ℕ
   owed rows = length (spot_of rows a.none).made
 
@@ -138,7 +138,7 @@ module _ {Op Row Answer Cell K L : Type 0} (a : Table Op Row Answer Cell K L) wh
   owed_is [] c = refl
   owed_is (row ∷ rows) c = a.same_made row a.none c
 
-  -- the rows that thread t has left stand in their order, and fit
+  -- the rows that thread t has left fit, and follow each other as the table says
   abbrev pub IsProper : ℕ → L → List Row → Type 0
   IsProper t l [] = Unit {0}
   IsProper t l (row ∷ rows) =
@@ -154,14 +154,14 @@ module _ {Op Row Answer Cell K L : Type 0} (a : Table Op Row Answer Cell K L) wh
   Meets obj out t (Is s) v = v ≡ value_of t (out t) s
   Meets obj out t (Has y) v = Lasts obj out y v
 
-  -- the registers are as is known, and so are the objects in the making
+  -- the registers and the objects in the making are as the table says
   pub record InSpot (obj : Name → Object) (out : ℕ → ℕ) (t : ℕ) (l : L) (s : Spot Answer Cell K)
       (r : ℕ → Value) : Type 0 where
     pub regs : (q : ℕ) → 1 ≤ q → Meets obj out t (held (a.rest t l) s.puts q) (r q)
     pub own : (k : ℕ) → k < length s.made
         → obj (own_name t (out t) k) ≡ record_of t (out t) (get_or s.made k [])
 
-  -- a thread's place
+  -- how far a thread is, and what is known there
   pub record Place (obj : Name → Object) (out : ℕ → ℕ) (t : ℕ) (m : Progress Row Answer)
       (r : ℕ → Value) : Type 0 where
     pub state : L
@@ -173,7 +173,7 @@ module _ {Op Row Answer Cell K L : Type 0} (a : Table Op Row Answer Cell K L) wh
     pub pending : m.pending ≡ (spot_of m.todo cell).pend
     pub seen : m.seen ≡ replies ++ (spot_of m.todo cell).heard
 
-  -- ---- all this stays
+  -- ---- all this stays true
 
   module _ (obj new : Name → Object) (out more : ℕ → ℕ) (frame : Frame obj new out more) where
     pub lasts_move : (y : Lasting Cell K) (v : Value) → Lasts obj out y v → Lasts new more y v

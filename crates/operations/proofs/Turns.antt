@@ -1,6 +1,6 @@
--- A turn of a thread by a table: what holds before its row, and that all holds again behind it, where
--- one register of the thread and one object changed, which is the array or one in the making. Objects
--- that a thread has finished are never written again.
+-- One turn of a thread by a table. What holds before its row holds again after it, if the row
+-- changed one register of the thread and one object, which is the array or one in the making. An
+-- object that a thread has finished is never written again.
 use Rattle.std.proofs.Common.{◌≡◌, ◌≢◌, ℕ, ◌+◌, ◌<◌, ◌≤◌, ◌==◌, ◌⊎◌, inl, inr, cond, eqb, Bool, List, [], ◌∷◌, ◌++◌, length, slice_index_or, eq-eqb, ne_eqb, sym, refl, ap, ◌∙◌, subst, arith}
 use Rattle.std.specs.Prelude.{slice_set}
 use Rattle.std.proofs.lemmas.Bool.{cases_eq, cases_lt}
@@ -41,7 +41,7 @@ grown out now t j f u = elim (cases_eq t u) [
 ]
 
 module _ {Op Row Answer Cell K L : Type 0} (a : Table Op Row Answer Cell K L) where
-  -- thread t: its registers, how many objects it made, and its place
+  -- thread t: its registers, how many objects it made, and how far it is
   pub record Thread (n : ℕ) (g : Graph) (out : ℕ → ℕ) (m : Progress Row Answer) (t : ℕ)
       : Type 0 where
     pub zero : register_of g t 0 ≡ Ref (shared_name n)
@@ -65,7 +65,7 @@ module _ {Op Row Answer Cell K L : Type 0} (a : Table Op Row Answer Cell K L) wh
     pub each : (t : ℕ) → t < n → Thread n g out (at t) t
     pub beyond : (t : ℕ) → n ≤ t → ((at t).todo ≡ []) × ((at t).pending ≡ [])
 
-  -- a run's state is kept
+  -- the invariant
   abbrev pub Kept : ℕ → Graph → (ℕ → Progress Row Answer) → List Cell → Type 0
   Kept n g at cells = (out : ℕ → ℕ) × HoldsBy n g at cells out
 
@@ -97,7 +97,7 @@ module _ {Op Row Answer Cell K L : Type 0} (a : Table Op Row Answer Cell K L) wh
     pub room : (d : ℕ) → d < 16 → d < length (mutator_at b.g b.t).registers
     room d low = omega (arith, thread.sixteen)
 
-    -- the thread's place, where the row stands first, and what is known there
+    -- how far the thread is, which has this row next, and what is known there
     pub place : Place a (object_of b.g) b.out b.t
         (record { todo = row ∷ b.rows; seen = (b.at b.t).seen; pending = (b.at b.t).pending })
         (register_of b.g b.t)
@@ -123,12 +123,12 @@ module _ {Op Row Answer Cell K L : Type 0} (a : Table Op Row Answer Cell K L) wh
     abbrev pub told : List Answer
     told = said a.say (a.decides row) b.cells
 
-    -- the row keeps the state
+    -- the row keeps the invariant
     abbrev pub Goes : Type 0
     Goes = (new : ℕ → Progress Row Answer) → ((u : ℕ) → b.t ≢ u → new u ≡ b.at u)
         → new b.t ≡ after → Kept b.n (step b.g b.t (a.command_at row)).0 new acts
 
-    -- what holds of the thread at its next row, where it finished so many
+    -- what holds of the thread at its next row, if it has finished so many objects
     pub record Arrives (now : ℕ → ℕ) : Type 0 where
       pub state : L
       pub cell : Cell
@@ -190,7 +190,7 @@ module _ {Op Row Answer Cell K L : Type 0} (a : Table Op Row Answer Cell K L) wh
         sixteen = e.sixteen u ∙ th.sixteen;
       }
 
-      -- all holds again
+      -- the invariant holds again
       pub leaves : 1 ≤ d → (step b.g b.t (a.command_at row)).0 ≡ k → Shared b.n k now acts
           → (s : Arrives now) → length known.made + more ≡ j + length s.spot.made
           → InSpot a (object_of k) now b.t s.state s.spot (register_of k b.t) → Goes
@@ -240,7 +240,7 @@ module _ {Op Row Answer Cell K L : Type 0} (a : Table Op Row Answer Cell K L) wh
             (a.shows_move (object_of b.g) (object_of k) b.out now frame _ _ (b.holds.shared.slots i low));
       })
 
-      -- place i of the array has another value, and shows another part there
+      -- place i of the array has another value, which shows another cell
       pub shared_changes : (i : ℕ) (y : Value) (cell : Cell)
           → object_of k (shared_name b.n) ≡ set_field (object_of b.g (shared_name b.n)) i y → i < a.size
           → acts ≡ slice_set b.cells i cell

@@ -1,4 +1,4 @@
--- How many blocks are live at most where an application's table says what registers and objects hold.
+-- How many blocks are live at most, read off what a table says of registers and objects.
 use Rattle.std.proofs.Common.{◌≡◌, ℕ, zero, suc, ◌+◌, ◌*◌, ◌<◌, ◌≤◌, ◌&&◌, inl, inr, cond, ltb, leb, Bool, true, false, List, [], ◌∷◌, length, map, get_or, slice_index_or, eq-eqb, ne_eqb, sym, refl, ap, ◌∙◌, subst, arith}
 use Rattle.std.specs.List.{sum_by}
 use Rattle.std.proofs.lemmas.Bool.{cases_eq, cases_lt, and_parts, ltb-true, leb-true}
@@ -27,7 +27,7 @@ all_plain (_ ∷ fs) = all_plain fs
 abbrev pub is_slim : List Sym → Bool
 is_slim fs = all_plain fs && leb (record_blocks Eight (length fs)) 1
 
--- all to which an object refers are such ones
+-- an object refers to such objects alone
 abbrev pub refers_slim : List (List Sym) → List Sym → Bool
 refers_slim made [] = true
 refers_slim made (Own j ∷ fs) =
@@ -40,7 +40,7 @@ weight [] = 1
 weight (Own j ∷ fs) = suc (weight fs)
 weight (_ ∷ fs) = weight fs
 
--- the k-th object in the making has at most so many
+-- the k-th object in the making takes at most m blocks
 abbrev pub light_own : List (List Sym) → ℕ → ℕ → Bool
 light_own made m k =
     (ltb k (length made) && leb (record_blocks Eight (length (get_or made k []))) 1)
@@ -56,7 +56,7 @@ module _ (t o : ℕ) where
   plain_fields (Number n ∷ fs) e zero = tt
   plain_fields (Number n ∷ fs) e (suc i) = plain_fields fs e i
 
-  -- an object in the making to which one refers
+  -- an object in the making to which another one refers
   record Inner (made : List (List Sym)) (c : Name) : Type 0 where
     index : ℕ
     low : index < length made
@@ -189,7 +189,7 @@ module _ {Cell K : Type 0} (most : ℕ) (weigh : K → ℕ) where
       ]
 
 module _ {Op Row Answer Cell K L : Type 0} (a : Table Op Row Answer Cell K L) where
-  -- what an application owes: how many blocks a cell, a register and another value carry at most
+  -- what an application has to give: the most blocks of a cell, a register and another value
   pub record Weights : Type 0 where
     pub most : ℕ
     pub weigh : K → ℕ
