@@ -232,7 +232,7 @@ impl AtomBoard {
     /// Makes turns of a mutator of this board until it is done, and tells the pace before each
     /// command. After a turn that waited it pauses, longer each time until it gets on: until it
     /// has made a unit or ended a command. Where the configuration has one thread, it makes at most
-    /// as many turns as the bounds of the commands sum up to. Each turn is of one word that it read.
+    /// as many turns as the bounds of the commands sum up to. Each turn reads one word.
     pub fn drive<R: Wait, Q: Pace>(&self, rt: &R, who: Mutator, pace: &Q) -> Mutator
         requires { who.board ≡ self.now.id }
         ensures later { IsLater who result }

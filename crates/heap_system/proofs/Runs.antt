@@ -139,7 +139,7 @@ made_once acts s m l n k turn has = by has.0.words has.0.ran has.0.told has.1 ha
         (w, subst (λ x. acts m s (op_wanted l) w x) ran.3.0 ran.1, (sym ran.3.1, told))
     by (w ∷ v ∷ ws) ran told some few = absurd (omega (arith, few))
 
--- A memory that stands for a thread may make any number of its events, and stands for it behind them.
+-- A memory that stands for a thread may make any number of its events, and stands for it then.
 module _ {M S : Type 0} (may : M → S → Op → Type 0) (acts : Acts M S)
     (stands : M → S → LocalState → Type 0)
     (law : (m : M) (s : S) (l : LocalState) → stands m s l → is_done l ≡ false

@@ -21,9 +21,9 @@ TellsLast l (w ∷ v ∷ ws) turn =
 abbrev pub IsGoing : LocalState → Type 0
 IsGoing l = (is_done l ≡ false) × (op_place (op_wanted l) < words_count (extent l.config))
 
--- A memory made the events of a thread one after the other: each is the one that the thread wants
--- there, which is not done, and reads one of these words, which its row may read. So are memory and
--- thread behind them.
+-- A memory made the events of a thread one after the other, which led to this memory and thread.
+-- Before each the thread was not done; the event is the one that it wanted, and read the next of
+-- these words, which its row may read.
 abbrev pub Ran : {M S : Type 0} → Acts M S → S → M → LocalState → List ℕ → M → LocalState → Type 0
 Ran acts s m l [] n k = (m ≡ n) × (l ≡ k)
 Ran {M} acts s m l (w ∷ ws) n k = (o : M) × acts m s (op_wanted l) w o × LocalReads l.config l w
@@ -58,8 +58,8 @@ pub record Leads {M S : Type 0} (may : M → S → Op → Type 0) (acts : Acts M
   pub reads : ReadsOnly acts m s (op_wanted l) (LocalReads l.config l)
   pub on : (w : ℕ) (n : M) → acts m s (op_wanted l) w n → stands n s (local_got l w)
 
--- So many events of a thread may be made by a memory, one after the other: while it is not done, the
--- memory may make the next, which reads no word that the row may not, and then those behind it.
+-- A memory may make so many events of a thread one after the other: while the thread is not done it
+-- may make the next one, which reads no word that the row may not, and then the others.
 abbrev pub MayRun : {M S : Type 0} → (M → S → Op → Type 0) → Acts M S → ℕ → M → S → LocalState → Type 0
 MayRun may acts zero m s l = Unit {0}
 MayRun may acts (suc k) m s l = IsGoing l → Leads may acts (MayRun may acts k) m s l

@@ -66,7 +66,7 @@ impl Local {
         self.run(memory, shared)
     }
 
-    /// Makes events as `events` does, by a memory by which 64 may be made.
+    /// Makes events as `events` does, on any memory that may make 64 of them one after the other.
     #[inline(always)]
     pub fn run<M: Memory>(&mut self, memory: &mut M, shared: &M::Shared) -> Turn
         requires open { is_done self.old ≡ false }
@@ -82,7 +82,7 @@ impl Local {
         }
     }
 
-    // So many events at most, of a part that marks.
+    // Makes events of a part that marks, `most` at most.
     #[inline(always)]
     pub(super) fn marks<M: Memory>(&mut self, memory: &mut M, shared: &M::Shared, most: u32) -> Turn
         requires part { is_marking self.old.part ≡ true }
@@ -115,7 +115,7 @@ impl Local {
         }
     }
 
-    // So many at most, of a part that sweeps.
+    // Makes events of a part that sweeps, `most` at most.
     #[inline(always)]
     pub(super) fn sweeps<M: Memory>(
         &mut self,
@@ -155,7 +155,7 @@ impl Local {
         }
     }
 
-    // Of a command that makes no object.
+    // Makes events of a command that makes no object, 64 at most.
     fn serves_on<M: Memory>(&mut self, memory: &mut M, shared: &M::Shared) -> Turn
         requires part { is_serving self.old.part ≡ true }
         requires may { MayRun M.may M.acts longest memory.old shared.now self.old }
@@ -171,7 +171,7 @@ impl Local {
         Turn::Went
     }
 
-    // Of an object that is built.
+    // Makes events that build an object, 64 at most.
     fn builds_on<M: Memory>(&mut self, memory: &mut M, shared: &M::Shared) -> Turn
         requires part { is_build self.old.part ≡ true }
         requires may { MayRun M.may M.acts longest memory.old shared.now self.old }
