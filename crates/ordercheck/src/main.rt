@@ -2,15 +2,18 @@
 //! accepted.
 #![tactic(auto)]
 
+mod help;
+
+use help::{HELP, VERSION};
+use program_words::{Question, words_of};
 use rt_check::check;
 use std::alloc::AllocError;
-use std::env;
-use std::io::ErrorKind;
 use std::process::ExitCode;
-use std::rt::Env;
 use trace_text::{StdSink, StdSource, put_line};
 
-/// The status of want of memory.
+/// The statuses of success and of memory that ran out.
+const DONE: u8 = 0;
+
 const NO_MEMORY: u8 = 7;
 
 fn main(rt: HostRuntime) -> ExitCode {
@@ -26,16 +29,10 @@ fn without_memory(rt: &HostRuntime) -> u8 {
 /// Checks what stands in standard input, and says with which status the program ends.
 fn run(rt: &HostRuntime) -> Result<u8, AllocError> {
     let words = words_of(rt)?;
-    let mut source = StdSource::new(rt.stdin());
     let mut sink = StdSink::new(rt.stdout());
-    Ok(check(rt.alloc(), &words, &mut source, &mut sink).status)
-}
-
-/// The words behind the program's name. Words of which one is no text are words too, and refused.
-fn words_of(rt: &HostRuntime) -> Result<Vec<String>, AllocError> {
-    match env::args(rt) {
-        Ok(args) => args.skip(1).collect(rt.alloc()),
-        Err(e) if e.kind() == ErrorKind::OutOfMemory => Err(AllocError),
-        Err(_) => vec![in rt.alloc(); String::new(rt.alloc())].map_err(|_| AllocError),
+    if let Some(question) = Question::of(&words) {
+        return Ok(put_line(question.answer(HELP, VERSION).as_bytes(), DONE, &mut sink));
     }
+    let mut source = StdSource::new(rt.stdin());
+    Ok(check(rt.alloc(), &words, &mut source, &mut sink).status)
 }

@@ -1,19 +1,21 @@
 //! Runs a job of commands on a garbage-collected heap and prints what each command answered.
 #![tactic(auto)]
 
+mod help;
+
+use help::{HELP, VERSION};
 use never_heap::NoPace;
+use program_words::{Question, words_of};
 use rtheap_core::rtheap;
 use std::alloc::AllocError;
-use std::env;
-use std::io::{self, BufWriter, ErrorKind, Write};
+use std::io::{self, BufWriter, Write};
 use std::process::ExitCode;
-use std::rt::Env;
 use std::sync::Wait;
 use std::thread::Threads;
-use trace_text::{Sink, StdSink, StdSource};
+use trace_text::{StdSink, StdSource, WRITE_FAULT, put_line};
 
-/// The status of a writing that failed, and that of want of memory.
-const WRITE_FAULT: u8 = 6;
+/// The statuses of success and of memory that ran out.
+const DONE: u8 = 0;
 
 const NO_MEMORY: u8 = 7;
 
@@ -23,10 +25,8 @@ fn main(rt: HostRuntime) -> ExitCode {
 
 /// Tells that memory ran out before anything was done.
 fn without_memory(rt: &HostRuntime) -> u8 {
-    match StdSink::new(rt.stdout()).put(b"rtheap: no memory\n") {
-        Ok(()) => NO_MEMORY,
-        Err(_) => WRITE_FAULT,
-    }
+    let mut sink = StdSink::new(rt.stdout());
+    put_line(b"rtheap: no memory\n", NO_MEMORY, &mut sink)
 }
 
 /// Does what the program's words ask for, and says with which status the program ends. What is
@@ -34,6 +34,10 @@ fn without_memory(rt: &HostRuntime) -> u8 {
 /// The second handle is the same runtime, by which the run of a job makes threads and waits.
 fn run<T: Threads + Wait + Sync>(rt: &HostRuntime, threads: &T) -> Result<u8, AllocError> {
     let words = words_of(rt)?;
+    if let Some(question) = Question::of(&words) {
+        let mut sink = StdSink::new(rt.stdout());
+        return Ok(put_line(question.answer(HELP, VERSION).as_bytes(), DONE, &mut sink));
+    }
     let mut source = StdSource::new(rt.stdin());
     let mut out = BufWriter::new(rt.alloc(), rt.stdout()).map_err(|_| AllocError)?;
     let mut sink = StdSink::new(&mut out);
@@ -42,14 +46,4 @@ fn run<T: Threads + Wait + Sync>(rt: &HostRuntime, threads: &T) -> Result<u8, Al
         return Ok(WRITE_FAULT);
     }
     Ok(exit.status)
-}
-
-/// The words behind the program's name. Words of which one is no text are no words that the
-/// program knows.
-fn words_of(rt: &HostRuntime) -> Result<Vec<String>, AllocError> {
-    match env::args(rt) {
-        Ok(args) => args.skip(1).collect(rt.alloc()),
-        Err(e) if e.kind() == ErrorKind::OutOfMemory => Err(AllocError),
-        Err(_) => Ok(Vec::new(rt.alloc())),
-    }
 }

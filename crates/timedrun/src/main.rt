@@ -1,18 +1,22 @@
 //! Runs a job of commands on a garbage-collected heap, and prints how long its commands took.
 #![tactic(auto)]
 
+mod help;
+
 use block_store::OutOfMemory;
+use help::{HELP, VERSION};
+use program_words::{Question, words_of};
 use std::alloc::AllocError;
-use std::env;
-use std::io::{self, BufWriter, ErrorKind, Write};
+use std::io::{self, BufWriter, Write};
 use std::process::ExitCode;
-use std::rt::Env;
 use std::sync::Wait;
 use std::thread::Threads;
 use timed_runs::timed;
 use trace_text::{StdSink, StdSource, WRITE_FAULT, put_line};
 
-/// The status of want of memory.
+/// The statuses of success and of memory that ran out.
+const DONE: u8 = 0;
+
 const NO_MEMORY: u8 = 7;
 
 fn main(rt: HostRuntime) -> ExitCode {
@@ -30,6 +34,10 @@ fn without_memory(rt: &HostRuntime) -> u8 {
 /// handle is the same runtime, by which the run makes threads and waits.
 fn run<T: Threads + Wait + Sync>(rt: &HostRuntime, threads: &T) -> Result<u8, OutOfMemory> {
     let words = words_of(rt)?;
+    if let Some(question) = Question::of(&words) {
+        let mut sink = StdSink::new(rt.stdout());
+        return Ok(put_line(question.answer(HELP, VERSION).as_bytes(), DONE, &mut sink));
+    }
     let mut source = StdSource::new(rt.stdin());
     let mut out = BufWriter::new(rt.alloc(), rt.stdout()).map_err(|_| OutOfMemory)?;
     let mut sink = StdSink::new(&mut out);
@@ -38,13 +46,4 @@ fn run<T: Threads + Wait + Sync>(rt: &HostRuntime, threads: &T) -> Result<u8, Ou
         return Ok(WRITE_FAULT);
     }
     Ok(status)
-}
-
-/// The words behind the program's name. Words of which one is no text are words too, and refused.
-fn words_of(rt: &HostRuntime) -> Result<Vec<String>, AllocError> {
-    match env::args(rt) {
-        Ok(args) => args.skip(1).collect(rt.alloc()),
-        Err(e) if e.kind() == ErrorKind::OutOfMemory => Err(AllocError),
-        Err(_) => vec![in rt.alloc(); String::new(rt.alloc())].map_err(|_| AllocError),
-    }
 }
