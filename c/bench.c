@@ -1,22 +1,24 @@
-/* How long one `new` of a record of two fields takes that a program in C asks, and what malloc with
-   free, and with -DBOEHM Boehm's collector, take for the like: single ones, by the clock, and many in
-   a row. 500 records are live. Words: how many. */
+/* Times commands of a heap of 4,096 blocks with 500 live records, beside malloc with free, or with
+   -DBOEHM one allocation of Boehm's collector. Of each it prints the mean of `count` calls in a
+   row, and the median, the 99.9th percentile and the longest of `count` calls that are timed one by
+   one; the latter include two readings of the clock, which the first line shows alone. */
 #define _POSIX_C_SOURCE 200809L
 #include <stdint.h>
 #include <stdio.h>
 #include <stdlib.h>
 #include <time.h>
 
-#include "rtheap.h"
 #ifdef BOEHM
 #include <gc.h>
+#else
+#include "rtheap.h"
 #endif
+
+enum { LIVE = 500 };
 
 struct record { struct record *link; uint64_t value; };
 
-static rtheap heap = RTHEAP_CLOSED;
 static struct record *volatile kept, *volatile last;
-static volatile uint32_t wrong;
 
 static uint64_t now(void) {
     struct timespec t;
@@ -26,32 +28,67 @@ static uint64_t now(void) {
 
 static void nothing(void) {}
 
-static void heap_new(void) {
-    rtheap_reply r;
-    if (rtheap_new(&heap, 1, 2, &r) != RTHEAP_OK || r.kind != RTHEAP_NEW) wrong = 1;
+#ifdef BOEHM
+
+static void boehm_new(void) {
+    last = GC_MALLOC(sizeof *last);
+    if (!last) exit(1);
 }
 
-static void heap_get(void) {
-    if (rtheap_get(&heap, 3, 2, 0, NULL) != RTHEAP_OK) wrong = 1;
+#else
+
+static rtheap heap = RTHEAP_CLOSED;
+static rtheap_reply reply;
+
+/* Ends the program unless the command was answered as it should be. */
+static void wanted(rtheap_status status, rtheap_kind kind) {
+    if (status != RTHEAP_OK || reply.kind != (uint32_t)kind) {
+        fprintf(stderr, "bench: %s, reply %lu\n", rtheap_text(status), (unsigned long)reply.kind);
+        exit(1);
+    }
 }
 
-static void heap_put(void) {
-    if (rtheap_put(&heap, 1, 1, 2, NULL) != RTHEAP_OK) wrong = 1;
-}
+/* Register 1 has the newest record, and 2 the first of a list through fields 0. */
+static void heap_new(void) { wanted(rtheap_new(&heap, 1, 2, &reply), RTHEAP_NEW); }
 
-static void heap_set(void) {
-    if (rtheap_set(&heap, 4, 7, NULL) != RTHEAP_OK) wrong = 1;
+static void heap_get(void) { wanted(rtheap_get(&heap, 3, 2, 0, &reply), RTHEAP_REF); }
+
+static void heap_put(void) { wanted(rtheap_put(&heap, 1, 1, 2, &reply), RTHEAP_STORED); }
+
+static void heap_set(void) { wanted(rtheap_set(&heap, 4, 7, &reply), RTHEAP_STORED); }
+
+static void open_heap(void) {
+    int i;
+    if (rtheap_open(&heap, 2, 4096, 1024, 32, 40) != RTHEAP_OK) exit(1);
+    for (i = 0; i < LIVE; i++) {
+        heap_new();
+        wanted(rtheap_put(&heap, 1, 0, 2, &reply), RTHEAP_STORED);
+        wanted(rtheap_mov(&heap, 2, 1, &reply), RTHEAP_STORED);
+    }
 }
 
 static void malloc_new(void) {
     struct record *made = calloc(1, sizeof *made);
+    if (!made) exit(1);
     free(last);
     last = made;
 }
 
-#ifdef BOEHM
-static void boehm_new(void) { last = GC_MALLOC(sizeof *last); }
 #endif
+
+static void keep_records(void) {
+    int i;
+    for (i = 0; i < LIVE; i++) {
+#ifdef BOEHM
+        struct record *r = GC_MALLOC(sizeof *r);
+#else
+        struct record *r = calloc(1, sizeof *r);
+#endif
+        if (!r) exit(1);
+        r->link = kept;
+        kept = r;
+    }
+}
 
 static int by_size(const void *a, const void *b) {
     uint64_t x = *(const uint64_t *)a, y = *(const uint64_t *)b;
@@ -70,42 +107,34 @@ static void measure(const char *kind, void (*work)(void), size_t count) {
     qsort(times, count, sizeof *times, by_size);
     start = now();
     for (i = 0; i < count; i++) work();
-    printf("%-12s in a row %.1f ns each; alone median %llu ns, 99.9 per cent %llu ns, longest %llu ns\n",
+    printf("%-12s in a row %.1f ns; one by one median %llu, 99.9 per cent %llu, longest %llu ns\n",
            kind, (double)(now() - start) / (double)count, (unsigned long long)times[count / 2],
-           (unsigned long long)times[count - count / 1000 - 1], (unsigned long long)times[count - 1]);
+           (unsigned long long)times[count - count / 1000 - 1],
+           (unsigned long long)times[count - 1]);
     free(times);
 }
 
 int main(int n, char **words) {
-    size_t count = n == 2 ? (size_t)atol(words[1]) : 0, i;
-    if (count < 1000) return 1;
+    size_t count = n == 2 ? (size_t)strtoul(words[1], NULL, 10) : 0;
+    if (count < 1000) {
+        fprintf(stderr, "usage: bench COUNT, at least 1000\n");
+        return 2;
+    }
 #ifdef BOEHM
     GC_INIT();
-    for (i = 0; i < 500; i++) {
-        struct record *r = GC_MALLOC(sizeof *r);
-        r->link = kept;
-        kept = r;
-    }
-    measure("Boehm", boehm_new, count);
+    keep_records();
+    measure("the clock", nothing, count);
+    measure("GC_MALLOC", boehm_new, count);
+    return 0;
 #else
-    if (rtheap_open(&heap, 2, 4096, 1024, 32, 40) != RTHEAP_OK) return 1;
-    for (i = 0; i < 500; i++)
-        if (rtheap_new(&heap, 1, 2, NULL) || rtheap_put(&heap, 1, 0, 2, NULL)
-            || rtheap_mov(&heap, 2, 1, NULL))
-            return 1;
-    for (i = 0; i < 500; i++) {
-        struct record *r = calloc(1, sizeof *r);
-        if (!r) return 1;
-        r->link = kept;
-        kept = r;
-    }
+    open_heap();
+    keep_records();
     measure("the clock", nothing, count);
     measure("rtheap new", heap_new, count);
     measure("rtheap get", heap_get, count);
     measure("rtheap put", heap_put, count);
     measure("rtheap set", heap_set, count);
-    measure("malloc, free", malloc_new, count);
-    if (rtheap_close(&heap) != RTHEAP_OK) return 1;
+    measure("calloc, free", malloc_new, count);
+    return rtheap_close(&heap) == RTHEAP_OK ? 0 : 1;
 #endif
-    return (int)wrong;
 }

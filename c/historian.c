@@ -1,6 +1,6 @@
-/* The last 40 readings of a number, kept as records on a garbage-collected heap, and which of them
-   are outside of limits: what the proved program `historian` does, in C. It reads two limits in the
-   first line and a reading in each other one, and writes a line behind each reading. */
+/* Keeps the last 40 readings as records on a garbage-collected heap, with those outside two limits
+   as alarms: the proved program `historian` in C. It reads the limits from the first line and a
+   reading from each further line, and writes a line after each reading. */
 #include <inttypes.h>
 #include <stdio.h>
 #include <stdlib.h>
@@ -9,11 +9,12 @@
 
 enum { KEPT = 40 };
 
-/* The values that registers hold: 1 the new record, 2 its reading, 3 and 4 what is fetched; 5 is nil
-   for good. */
+/* Registers. Elements 0 to 39 of the table are the readings, and 40 to 79 the alarms among them. */
+enum { TABLE = 0, RECORD = 1, NUMBER = 2, FOUND = 3, VALUE = 4, NONE = 5 };
+
 static rtheap heap = RTHEAP_CLOSED;
 
-/* Ends the program where a command was not answered so. */
+/* Ends the program unless the reply has this kind. */
 static rtheap_reply wanted(rtheap_status status, rtheap_reply reply, rtheap_kind kind) {
     if (status != RTHEAP_OK) {
         fprintf(stderr, "historian: %s\n", rtheap_text(status));
@@ -28,31 +29,32 @@ static rtheap_reply wanted(rtheap_status status, rtheap_reply reply, rtheap_kind
 
 static void keep(uint64_t count, uint64_t reading, int alarm) {
     rtheap_reply r = {0, 0, 0};
-    rtheap_status s = rtheap_new(&heap, 1, 1, &r);
+    rtheap_status s = rtheap_new(&heap, RECORD, 1, &r);
     wanted(s, r, RTHEAP_NEW);
-    s = rtheap_set(&heap, 2, reading, &r);
+    s = rtheap_set(&heap, NUMBER, reading, &r);
     wanted(s, r, RTHEAP_STORED);
-    s = rtheap_put(&heap, 1, 0, 2, &r);
+    s = rtheap_put(&heap, RECORD, 0, NUMBER, &r);
     wanted(s, r, RTHEAP_STORED);
-    s = rtheap_put(&heap, 0, count % KEPT, 1, &r);
+    s = rtheap_put(&heap, TABLE, count % KEPT, RECORD, &r);
     wanted(s, r, RTHEAP_STORED);
-    s = rtheap_put(&heap, 0, KEPT + count % KEPT, alarm ? 1 : 5, &r);
+    s = rtheap_put(&heap, TABLE, KEPT + count % KEPT, alarm ? RECORD : NONE, &r);
     wanted(s, r, RTHEAP_STORED);
 }
 
 static uint64_t reading_at(uint64_t i) {
     rtheap_reply r = {0, 0, 0};
-    rtheap_status s = rtheap_get(&heap, 3, 0, i % KEPT, &r);
+    rtheap_status s = rtheap_get(&heap, FOUND, TABLE, i % KEPT, &r);
     wanted(s, r, RTHEAP_REF);
-    s = rtheap_get(&heap, 4, 3, 0, &r);
+    s = rtheap_get(&heap, VALUE, FOUND, 0, &r);
     return wanted(s, r, RTHEAP_INT).value;
 }
 
 static int is_alarm(uint64_t i) {
     rtheap_reply r = {0, 0, 0};
-    rtheap_status s = rtheap_get(&heap, 3, 0, KEPT + i % KEPT, &r);
-    if (s != RTHEAP_OK) wanted(s, r, RTHEAP_REF);
-    return r.kind == RTHEAP_REF;
+    rtheap_status s = rtheap_get(&heap, FOUND, TABLE, KEPT + i % KEPT, &r);
+    if (s == RTHEAP_OK && r.kind == RTHEAP_NIL) return 0;
+    wanted(s, r, RTHEAP_REF);
+    return 1;
 }
 
 int main(void) {
@@ -75,8 +77,8 @@ int main(void) {
             total += value;
             alarms += (uint64_t)is_alarm(count - 1 - back);
         }
-        printf("least %" PRIu64 " greatest %" PRIu64 " mean %" PRIu64 " alarms %" PRIu64 "\n", least,
-               greatest, total / kept, alarms);
+        printf("least %" PRIu64 " greatest %" PRIu64 " mean %" PRIu64 " alarms %" PRIu64 "\n",
+               least, greatest, total / kept, alarms);
     }
     return rtheap_close(&heap) == RTHEAP_OK ? 0 : 1;
 }

@@ -1,4 +1,4 @@
-/* What is refused, and that it changes nothing. Prints nothing where all is as it should be. */
+/* Tests what is refused, and that a refusal changes nothing. Prints nothing if all is well. */
 #include <stdio.h>
 #include <string.h>
 
@@ -13,7 +13,7 @@ static void is(const char *what, unsigned long long found, unsigned long long wa
     }
 }
 
-/* Each command, refused alike, leaves reply and heap as they were. */
+/* Each command is refused with this status, and leaves reply and heap unchanged. */
 static void all_refused(const char *who, rtheap *heap, rtheap_status wanted) {
     rtheap_reply r, before;
     uint64_t asked = rtheap_asked(heap);
@@ -22,10 +22,10 @@ static void all_refused(const char *who, rtheap *heap, rtheap_status wanted) {
     is(who, rtheap_new(heap, 16, 1, &r), wanted);
     is(who, rtheap_arr(heap, 16, 1, &r), wanted);
     is(who, rtheap_set(heap, 16, 1, &r), wanted);
-    is(who, rtheap_nil(heap, 272, &r), wanted); /* 272 is 16 modulo 256 */
+    is(who, rtheap_nil(heap, 272, &r), wanted); /* 16 modulo 256 */
     is(who, rtheap_mov(heap, 1, UINT32_MAX, &r), wanted);
     is(who, rtheap_get(heap, 1, 0, UINT64_C(1) << 62, &r), wanted);
-    is(who, rtheap_put(heap, 256, 0, 0, &r), wanted); /* and 256 is no register 0 */
+    is(who, rtheap_put(heap, 256, 0, 0, &r), wanted); /* 0 modulo 256 */
     is(who, rtheap_len(heap, 16, &r), wanted);
     is(who, rtheap_same(heap, 0, 16, &r), wanted);
     is(who, rtheap_say(heap, 16, &r), wanted);
@@ -48,7 +48,7 @@ int main(void) {
     all_refused("closed", &heap, RTHEAP_NO_HEAP);
     is("closed close", rtheap_close(&heap), RTHEAP_NO_HEAP);
     is("closed units", rtheap_units_left(&heap), 0);
-    memset(&junk, 0xa5, sizeof junk); /* no open handle begins so */
+    memset(&junk, 0xa5, sizeof junk); /* an open handle begins otherwise */
     all_refused("junk", &junk, RTHEAP_NO_HEAP);
     is("junk close", rtheap_close(&junk), RTHEAP_NO_HEAP);
 

@@ -1,12 +1,12 @@
-/* Asks the commands of a job of one thread one by one, and prints each reply as `rtheap run` does,
-   with the units that it owed. */
+/* Carries out the commands of a job of one thread one by one, and prints each reply as `rtheap run`
+   does, with the units of collection that the command did. */
 #include <inttypes.h>
 #include <stdio.h>
 #include <string.h>
 
 #include "rtheap.h"
 
-static void tell(const rtheap_reply *r, uint64_t work, int pays) {
+static void print_reply(const rtheap_reply *r, uint64_t work, int pays) {
     printf("0 ");
     switch (r->kind) {
     case RTHEAP_NEW: printf("new %" PRIu32 ".%" PRIu64, r->thread, r->value); break;
@@ -22,14 +22,14 @@ static void tell(const rtheap_reply *r, uint64_t work, int pays) {
     case RTHEAP_KIND: printf("kind"); break;
     case RTHEAP_RANGE: printf("range"); break;
     case RTHEAP_IDLED: printf("idle"); break;
-    default: printf("what?"); break;
+    default: printf("unknown reply"); break;
     }
     if (pays) printf(" work %" PRIu64, work);
     printf("\n");
 }
 
 int main(void) {
-    static rtheap heap; /* closed, as all of its bytes are zero */
+    static rtheap heap; /* closed, since all its bytes are zero */
     uint32_t version, threads, blocks, live, object, shared;
     uint64_t all = 0;
     char word[16];
@@ -69,7 +69,7 @@ int main(void) {
         }
         work = before - rtheap_units_left(&heap);
         all += work;
-        tell(&r, work, pays);
+        print_reply(&r, work, pays);
     }
     printf("end work %" PRIu64 "\n", all);
     return rtheap_close(&heap) == RTHEAP_OK ? 0 : 1;

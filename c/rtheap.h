@@ -1,32 +1,43 @@
-/* rtheap.h: a garbage-collected heap for one thread of a program for process control, in C99 or
+/* rtheap.h: a garbage-collected heap for one thread of a control program, for C99 and later and
    C++98 and later. Link with librtheap.a.
 
-   A heap has 16 registers (0 to 15), and objects: records and arrays whose fields hold nil, a number
-   below 2^62, or a reference to an object. The program asks commands; what it can no longer reach
-   from the registers is collected, a little in each allocation, so that no command takes long: an
-   allocation of k blocks makes P*k units of collection, where P is the heap's rate, and no other
-   command but `idle` makes any. Register 0 refers to an array that is there from the start (its
-   length is `shared`).
+   A heap has 16 registers, numbered 0 to 15, and objects: records with fields and arrays with
+   elements. A register, field or element holds nil, a number below 2^62, or a reference to an
+   object. Register 0 starts as a reference to an array of `shared` elements, the others as nil. The
+   heap reclaims the objects that can no longer be reached from the registers.
+
+   Collection is incremental, and allocations pay for it: an allocation of k blocks does P*k units
+   of marking or sweeping, where the rate P follows from `blocks` and `live`. rtheap_idle does the
+   units it is given. No other command does any, so the number of steps of each command is bounded.
 
        rtheap heap = RTHEAP_CLOSED;
        rtheap_reply reply;
-       if (rtheap_open(&heap, 2, 512, 128, 1, 80) != RTHEAP_OK) ...
-       if (rtheap_new(&heap, 1, 2, &reply) == RTHEAP_OK && reply.kind == RTHEAP_NEW) ...
+       rtheap_status status = rtheap_open(&heap, 2, 512, 128, 1, 80);
+       if (status == RTHEAP_OK) status = rtheap_new(&heap, 1, 2, &reply);
+       if (status != RTHEAP_OK) ... rtheap_text(status) says why the last call did nothing ...
+       else if (reply.kind != RTHEAP_NEW) ... the allocation failed: RTHEAP_FULL ...
        rtheap_close(&heap);
 
-   Every call answers a status. But for RTHEAP_OK it says why nothing was done, and then neither the
-   heap nor the reply has changed. What the heap answers to a command is the reply.
+   Check both the status and the reply. A status other than RTHEAP_OK is the reason why the call did
+   nothing: heap and reply are unchanged. (A handle without a heap may be set to zero.) RTHEAP_OK
+   means that the heap carried the command out and wrote the reply, and the reply may report a
+   failure: FULL, NULL, KIND or RANGE.
 
-   What the program owes:
-   - A handle is a variable of its own: closed at first (RTHEAP_CLOSED, or all bytes zero), never
-     written but by these calls, and never copied. (A call on a copy of a handle that was closed
-     since, or whose heap pointer was changed, is what no call can see.)
-   - A handle that is not NULL is memory of the type; so is a reply. NULL handles are told; for a
-     reply that is not wanted pass NULL.
-   - One call at a time on one handle. Different handles are independent; none is called from a
-     signal handler.
-   - malloc, realloc and free are one allocator, and align a block to the powers of two up to 16 that
-     divide its size. Only rtheap_open allocates, only rtheap_close frees.
+   The program has to ensure the following. No call can check it.
+   - A handle starts closed: RTHEAP_CLOSED, or all bytes zero. Only these calls write to it. It is
+     not copied; after a move, the old variable is not used again. A call detects a closed handle,
+     but not a copy of one that was closed since, nor a heap pointer that was overwritten.
+   - A handle argument points to an rtheap and a reply argument to an rtheap_reply, and the two do
+     not overlap. Either may be NULL: a NULL handle is reported, and a NULL reply means that the
+     reply is not wanted.
+   - One call at a time uses a handle. A handle may pass from one thread to another if the program
+     synchronises them, for example by a mutex, or by starting or joining the thread. Calls on
+     different handles are independent.
+   - No call is made from a signal handler, or in the child of a fork of a process with threads.
+   - malloc, realloc and free belong to one allocator. malloc and realloc align a block to every
+     power of two up to 16 that divides its size. Only rtheap_open allocates; only rtheap_close, and
+     an rtheap_open that fails, free.
+   - The processor has the instructions of x86-64-v2.
 */
 #ifndef RTHEAP_H
 #define RTHEAP_H
@@ -38,54 +49,54 @@
 extern "C" {
 #endif
 
-/* A handle: no part of it is the program's. */
+/* A handle. The program does not use its fields. */
 typedef struct rtheap {
     uint64_t open;
     void *heap;
 } rtheap;
 
-/* A handle without a heap: rtheap heap = RTHEAP_CLOSED; */
+/* The initial value of a handle: rtheap heap = RTHEAP_CLOSED; */
 #define RTHEAP_CLOSED {0, NULL}
 
-/* What became of a call. */
+/* The status of a call. 9 is not used. */
 typedef enum rtheap_status {
-    RTHEAP_OK = 0,              /* done; of a command: asked, and the reply is written */
+    RTHEAP_OK = 0,              /* done; a command has written its reply */
     RTHEAP_NO_HEAP = 1,         /* the handle is closed */
-    RTHEAP_OUT_OF_BOUNDS = 2,   /* a number is out of its range, or the command not of the version */
-    RTHEAP_NO_LIFE_LEFT = 3,    /* the heap has no room for the command in its life */
-    RTHEAP_IS_OPEN = 4,         /* rtheap_open: the handle has a heap */
+    RTHEAP_OUT_OF_BOUNDS = 2,   /* a number is out of range, or version 1 lacks the command */
+    RTHEAP_NO_LIFE_LEFT = 3,    /* too little is left of the heap's life; see rtheap_units_left */
+    RTHEAP_IS_OPEN = 4,         /* rtheap_open: the handle already has a heap */
     RTHEAP_NO_SUCH_VERSION = 5, /* rtheap_open: the version is neither 1 nor 2 */
-    RTHEAP_LIVE_TOO_SMALL = 6,  /* rtheap_open: registers and shared array take more than `live` */
-    RTHEAP_NO_RATE = 7,         /* rtheap_open: `live` leaves too little of `blocks` */
-    RTHEAP_NO_MEMORY = 8,       /* rtheap_open: malloc refused */
+    RTHEAP_LIVE_TOO_SMALL = 6,  /* rtheap_open: registers and shared array exceed `live` */
+    RTHEAP_NO_RATE = 7,         /* rtheap_open: `blocks` is below live + 2*object + 2 */
+    RTHEAP_NO_MEMORY = 8,       /* rtheap_open: malloc or realloc failed */
     RTHEAP_NULL_HANDLE = 10     /* the handle is NULL */
 } rtheap_status;
 
-/* What a heap answers. */
+/* The kind of a reply. */
 typedef enum rtheap_kind {
-    RTHEAP_NEW = 0,     /* an object was made; its name is thread.value */
-    RTHEAP_FULL = 1,    /* too few blocks are free: more than `live` were live as cycle `value` began */
-    RTHEAP_STORED = 2,  /* stored */
-    RTHEAP_NIL = 3,     /* the value is nil */
-    RTHEAP_INT = 4,     /* the value is the number `value` */
-    RTHEAP_REF = 5,     /* the value is a reference to the object thread.value */
-    RTHEAP_LEN = 6,     /* the length is `value` */
+    RTHEAP_NEW = 0,    /* the new object has the name thread.value */
+    RTHEAP_FULL = 1,   /* no room: more than `live` blocks were reachable as cycle `value` began */
+    RTHEAP_STORED = 2, /* the value is stored */
+    RTHEAP_NIL = 3,    /* the value is nil */
+    RTHEAP_INT = 4,    /* the value is the number `value` */
+    RTHEAP_REF = 5,    /* the value refers to the object with the name thread.value */
+    RTHEAP_LEN = 6,    /* the object has `value` fields or elements */
     RTHEAP_YES = 7,
     RTHEAP_NO = 8,
-    RTHEAP_NULL = 9,    /* the register is nil, and the command wants an object */
-    RTHEAP_KIND = 10,   /* the register holds a number, and the command wants an object */
-    RTHEAP_RANGE = 11,  /* the object has no such field */
-    RTHEAP_IDLED = 12   /* the units are made */
+    RTHEAP_NULL = 9,   /* failed: the register holds nil, not a reference */
+    RTHEAP_KIND = 10,  /* failed: the register holds a number, not a reference */
+    RTHEAP_RANGE = 11, /* failed: the object has no field or element of this index */
+    RTHEAP_IDLED = 12  /* the units are done */
 } rtheap_kind;
 
-/* A reply; numbers that its kind has none of are 0. */
+/* A reply. A number that its kind does not use is 0. */
 typedef struct rtheap_reply {
     uint32_t kind;   /* an rtheap_kind */
     uint32_t thread; /* of a name: 0, or 1 for the shared array */
-    uint64_t value;  /* the serial of a name, a number, a length or a cycle */
+    uint64_t value;  /* the serial number of a name, a number, a length or a cycle */
 } rtheap_reply;
 
-/* The calls of librtheap.a, of which each asks for a handle and a reply that are there. */
+/* The exports of librtheap.a. They do not accept NULL; the functions below do. */
 uint32_t rtheap_raw_open(rtheap *heap, uint32_t version, uint32_t blocks, uint32_t live,
                          uint32_t object, uint32_t shared);
 uint32_t rtheap_raw_close(rtheap *heap);
@@ -103,167 +114,172 @@ uint32_t rtheap_raw_len(rtheap *heap, uint32_t s, rtheap_reply *reply);
 uint32_t rtheap_raw_same(rtheap *heap, uint32_t a, uint32_t b, rtheap_reply *reply);
 uint32_t rtheap_raw_say(rtheap *heap, uint32_t s, rtheap_reply *reply);
 uint32_t rtheap_raw_swap(rtheap *heap, uint32_t s, uint64_t i, uint32_t v, rtheap_reply *reply);
-uint32_t rtheap_raw_cas(rtheap *heap, uint32_t s, uint64_t i, uint32_t a, uint32_t v, rtheap_reply *reply);
+uint32_t rtheap_raw_cas(rtheap *heap, uint32_t s, uint64_t i, uint32_t a, uint32_t v,
+                        rtheap_reply *reply);
 uint32_t rtheap_raw_idle(rtheap *heap, uint64_t units, rtheap_reply *reply);
 
-#if defined(__GNUC__)
-#define RTHEAP_CALL static __inline__ __attribute__((unused))
-#elif defined(__cplusplus) || (defined(__STDC_VERSION__) && __STDC_VERSION__ >= 199901L)
-#define RTHEAP_CALL static inline
+/* The status that an export returned. */
+static inline rtheap_status rtheap_status_of(uint32_t number) {
+#ifdef __cplusplus
+    return static_cast<rtheap_status>(number);
 #else
-#define RTHEAP_CALL static
+    return (rtheap_status)number;
 #endif
-
-/* Opens a heap in a closed handle. Version 1 has blocks of 4 words, 2 of 8, and the commands swap,
-   cas and idle. `blocks`: how many blocks it has, 1 to 65,535. `live`: the most blocks that the
-   program keeps reachable, so that no allocation is answered FULL as long as it does. `object`: the
-   most blocks that one object takes, 1 to 1,024. `shared`: how many elements the array in register
-   0 has, 0 to 1,024. */
-RTHEAP_CALL rtheap_status rtheap_open(rtheap *heap, uint32_t version, uint32_t blocks, uint32_t live,
-                                      uint32_t object, uint32_t shared) {
-    if (!heap) return RTHEAP_NULL_HANDLE;
-    return (rtheap_status)rtheap_raw_open(heap, version, blocks, live, object, shared);
 }
 
-/* Frees the heap; the handle is closed. */
-RTHEAP_CALL rtheap_status rtheap_close(rtheap *heap) {
+/* Opens a heap in a closed handle.
+   version: 1, with blocks of 4 words; or 2, with blocks of 8 words and the commands swap, cas and
+       idle. A record takes one block for each 3 fields in version 1, and for each 7 in version 2;
+       c/README.md has the sizes of arrays.
+   blocks: the size of the heap, 1 to 65,535 blocks.
+   live: the most blocks that the program keeps reachable, at most 65,535. While it keeps to this,
+       no allocation returns FULL.
+   object: the largest object, 1 to 1,024 blocks.
+   shared: the length of the array in register 0, 0 to 1,024 elements. */
+static inline rtheap_status rtheap_open(rtheap *heap, uint32_t version, uint32_t blocks,
+                                      uint32_t live, uint32_t object, uint32_t shared) {
     if (!heap) return RTHEAP_NULL_HANDLE;
-    return (rtheap_status)rtheap_raw_close(heap);
+    return rtheap_status_of(rtheap_raw_open(heap, version, blocks, live, object, shared));
 }
 
-/* How many units of collection the commands may still owe in the life of the heap (2^45 at first),
-   how many of them may still make an object (2^43 - 1 at first), and how many it was asked. 0 of a
-   handle that is closed or NULL. */
-RTHEAP_CALL uint64_t rtheap_units_left(rtheap *heap) {
+/* Frees the heap and closes the handle. */
+static inline rtheap_status rtheap_close(rtheap *heap) {
+    if (!heap) return RTHEAP_NULL_HANDLE;
+    return rtheap_status_of(rtheap_raw_close(heap));
+}
+
+/* What is left of the heap's life: 2^45 units of collection and 2^43 - 1 allocations at first. Each
+   new and arr counts as an allocation, even if it returns FULL. 0 for a closed or NULL handle. */
+static inline uint64_t rtheap_units_left(rtheap *heap) {
     return heap ? rtheap_raw_units_left(heap) : 0;
 }
 
-RTHEAP_CALL uint64_t rtheap_objects_left(rtheap *heap) {
+static inline uint64_t rtheap_objects_left(rtheap *heap) {
     return heap ? rtheap_raw_objects_left(heap) : 0;
 }
 
-RTHEAP_CALL uint64_t rtheap_asked(rtheap *heap) {
+/* The number of commands so far, of which a life has 2^60. 0 for a closed or NULL handle. */
+static inline uint64_t rtheap_asked(rtheap *heap) {
     return heap ? rtheap_raw_asked(heap) : 0;
 }
 
-/* Makes a record of `fields` nil fields, to which register d then refers. Replies: NEW, FULL. */
-RTHEAP_CALL rtheap_status rtheap_new(rtheap *heap, uint32_t d, uint32_t fields,
-                                     rtheap_reply *reply) {
+/* Makes register d refer to a new record of `fields` fields, all nil. Replies: NEW, FULL. */
+static inline rtheap_status rtheap_new(rtheap *heap, uint32_t d, uint32_t fields,
+                                       rtheap_reply *reply) {
     rtheap_reply unread;
     if (!heap) return RTHEAP_NULL_HANDLE;
-    return (rtheap_status)rtheap_raw_new(heap, d, fields, reply ? reply : &unread);
+    return rtheap_status_of(rtheap_raw_new(heap, d, fields, reply ? reply : &unread));
 }
 
-/* Makes an array of `elements` nil elements, to which register d then refers. Replies: NEW, FULL. */
-RTHEAP_CALL rtheap_status rtheap_arr(rtheap *heap, uint32_t d, uint32_t elements,
-                                     rtheap_reply *reply) {
+/* Makes register d refer to a new array of `elements` elements, all nil. Replies: NEW, FULL. */
+static inline rtheap_status rtheap_arr(rtheap *heap, uint32_t d, uint32_t elements,
+                                       rtheap_reply *reply) {
     rtheap_reply unread;
     if (!heap) return RTHEAP_NULL_HANDLE;
-    return (rtheap_status)rtheap_raw_arr(heap, d, elements, reply ? reply : &unread);
+    return rtheap_status_of(rtheap_raw_arr(heap, d, elements, reply ? reply : &unread));
 }
 
-/* Register d becomes this number, which is below 2^62. Reply: STORED. */
-RTHEAP_CALL rtheap_status rtheap_set(rtheap *heap, uint32_t d, uint64_t value,
-                                     rtheap_reply *reply) {
+/* Sets register d to a number below 2^62. Reply: STORED. */
+static inline rtheap_status rtheap_set(rtheap *heap, uint32_t d, uint64_t value,
+                                       rtheap_reply *reply) {
     rtheap_reply unread;
     if (!heap) return RTHEAP_NULL_HANDLE;
-    return (rtheap_status)rtheap_raw_set(heap, d, value, reply ? reply : &unread);
+    return rtheap_status_of(rtheap_raw_set(heap, d, value, reply ? reply : &unread));
 }
 
-/* Register d becomes nil. Reply: STORED. */
-RTHEAP_CALL rtheap_status rtheap_nil(rtheap *heap, uint32_t d, rtheap_reply *reply) {
+/* Sets register d to nil. Reply: STORED. */
+static inline rtheap_status rtheap_nil(rtheap *heap, uint32_t d, rtheap_reply *reply) {
     rtheap_reply unread;
     if (!heap) return RTHEAP_NULL_HANDLE;
-    return (rtheap_status)rtheap_raw_nil(heap, d, reply ? reply : &unread);
+    return rtheap_status_of(rtheap_raw_nil(heap, d, reply ? reply : &unread));
 }
 
-/* Register d becomes what register s holds. Reply: STORED. */
-RTHEAP_CALL rtheap_status rtheap_mov(rtheap *heap, uint32_t d, uint32_t s, rtheap_reply *reply) {
+/* Copies register s to register d. Reply: STORED. */
+static inline rtheap_status rtheap_mov(rtheap *heap, uint32_t d, uint32_t s, rtheap_reply *reply) {
     rtheap_reply unread;
     if (!heap) return RTHEAP_NULL_HANDLE;
-    return (rtheap_status)rtheap_raw_mov(heap, d, s, reply ? reply : &unread);
+    return rtheap_status_of(rtheap_raw_mov(heap, d, s, reply ? reply : &unread));
 }
 
-/* Register d becomes field i of the object in register s. Replies: NIL, INT, REF: what it is;
-   NULL, KIND, RANGE. */
-RTHEAP_CALL rtheap_status rtheap_get(rtheap *heap, uint32_t d, uint32_t s, uint64_t i,
-                                     rtheap_reply *reply) {
+/* Copies field i of the object in register s to register d. Replies: NIL, INT, REF for the
+   value; NULL, KIND, RANGE. */
+static inline rtheap_status rtheap_get(rtheap *heap, uint32_t d, uint32_t s, uint64_t i,
+                                       rtheap_reply *reply) {
     rtheap_reply unread;
     if (!heap) return RTHEAP_NULL_HANDLE;
-    return (rtheap_status)rtheap_raw_get(heap, d, s, i, reply ? reply : &unread);
+    return rtheap_status_of(rtheap_raw_get(heap, d, s, i, reply ? reply : &unread));
 }
 
-/* Field i of the object in register s becomes what register v holds. Replies: STORED; NULL,
-   KIND, RANGE. */
-RTHEAP_CALL rtheap_status rtheap_put(rtheap *heap, uint32_t s, uint64_t i, uint32_t v,
-                                     rtheap_reply *reply) {
+/* Copies register v to field i of the object in register s. Replies: STORED; NULL, KIND, RANGE. */
+static inline rtheap_status rtheap_put(rtheap *heap, uint32_t s, uint64_t i, uint32_t v,
+                                       rtheap_reply *reply) {
     rtheap_reply unread;
     if (!heap) return RTHEAP_NULL_HANDLE;
-    return (rtheap_status)rtheap_raw_put(heap, s, i, v, reply ? reply : &unread);
+    return rtheap_status_of(rtheap_raw_put(heap, s, i, v, reply ? reply : &unread));
 }
 
-/* How many fields or elements the object in register s has. Replies: LEN; NULL, KIND. */
-RTHEAP_CALL rtheap_status rtheap_len(rtheap *heap, uint32_t s, rtheap_reply *reply) {
+/* Returns how many fields or elements the object in register s has. Replies: LEN; NULL, KIND. */
+static inline rtheap_status rtheap_len(rtheap *heap, uint32_t s, rtheap_reply *reply) {
     rtheap_reply unread;
     if (!heap) return RTHEAP_NULL_HANDLE;
-    return (rtheap_status)rtheap_raw_len(heap, s, reply ? reply : &unread);
+    return rtheap_status_of(rtheap_raw_len(heap, s, reply ? reply : &unread));
 }
 
-/* Whether registers a and b are both nil, the same number, or refer to the same object.
+/* Compares registers a and b: both nil, the same number, or references to the same object.
    Replies: YES, NO. */
-RTHEAP_CALL rtheap_status rtheap_same(rtheap *heap, uint32_t a, uint32_t b, rtheap_reply *reply) {
+static inline rtheap_status rtheap_same(rtheap *heap, uint32_t a, uint32_t b, rtheap_reply *reply) {
     rtheap_reply unread;
     if (!heap) return RTHEAP_NULL_HANDLE;
-    return (rtheap_status)rtheap_raw_same(heap, a, b, reply ? reply : &unread);
+    return rtheap_status_of(rtheap_raw_same(heap, a, b, reply ? reply : &unread));
 }
 
-/* Shows register s. Replies: NIL, INT, REF. */
-RTHEAP_CALL rtheap_status rtheap_say(rtheap *heap, uint32_t s, rtheap_reply *reply) {
+/* Returns the value in register s. Replies: NIL, INT, REF. */
+static inline rtheap_status rtheap_say(rtheap *heap, uint32_t s, rtheap_reply *reply) {
     rtheap_reply unread;
     if (!heap) return RTHEAP_NULL_HANDLE;
-    return (rtheap_status)rtheap_raw_say(heap, s, reply ? reply : &unread);
+    return rtheap_status_of(rtheap_raw_say(heap, s, reply ? reply : &unread));
 }
 
-/* Field i of the object in register s and register v exchange their values. Version 2.
-   Replies: NIL, INT, REF: what the field held; NULL, KIND, RANGE. */
-RTHEAP_CALL rtheap_status rtheap_swap(rtheap *heap, uint32_t s, uint64_t i, uint32_t v,
-                                      rtheap_reply *reply) {
+/* Exchanges field i of the object in register s with register v. Version 2. Replies: NIL, INT,
+   REF for the old value of the field; NULL, KIND, RANGE. */
+static inline rtheap_status rtheap_swap(rtheap *heap, uint32_t s, uint64_t i, uint32_t v,
+                                        rtheap_reply *reply) {
     rtheap_reply unread;
     if (!heap) return RTHEAP_NULL_HANDLE;
-    return (rtheap_status)rtheap_raw_swap(heap, s, i, v, reply ? reply : &unread);
+    return rtheap_status_of(rtheap_raw_swap(heap, s, i, v, reply ? reply : &unread));
 }
 
-/* Where field i of the object in register s holds what register a does, it becomes what
-   register v holds. Version 2. Replies: YES, NO; NULL, KIND, RANGE. */
-RTHEAP_CALL rtheap_status rtheap_cas(rtheap *heap, uint32_t s, uint64_t i, uint32_t a, uint32_t v,
-                                     rtheap_reply *reply) {
+/* If field i of the object in register s has the value in register a, copies register v to it.
+   Version 2. Replies: YES if it did, NO; NULL, KIND, RANGE. */
+static inline rtheap_status rtheap_cas(rtheap *heap, uint32_t s, uint64_t i, uint32_t a, uint32_t v,
+                                       rtheap_reply *reply) {
     rtheap_reply unread;
     if (!heap) return RTHEAP_NULL_HANDLE;
-    return (rtheap_status)rtheap_raw_cas(heap, s, i, a, v, reply ? reply : &unread);
+    return rtheap_status_of(rtheap_raw_cas(heap, s, i, a, v, reply ? reply : &unread));
 }
 
-/* Makes so many units of marking or sweeping, at most 131,070. Version 2. Reply: IDLED. */
-RTHEAP_CALL rtheap_status rtheap_idle(rtheap *heap, uint64_t units, rtheap_reply *reply) {
+/* Does the given number of units of collection, at most 131,070. Version 2. Reply: IDLED. */
+static inline rtheap_status rtheap_idle(rtheap *heap, uint64_t units, rtheap_reply *reply) {
     rtheap_reply unread;
     if (!heap) return RTHEAP_NULL_HANDLE;
-    return (rtheap_status)rtheap_raw_idle(heap, units, reply ? reply : &unread);
+    return rtheap_status_of(rtheap_raw_idle(heap, units, reply ? reply : &unread));
 }
 
-/* A status in words. */
-RTHEAP_CALL const char *rtheap_text(rtheap_status status) {
+/* A status as text. */
+static inline const char *rtheap_text(rtheap_status status) {
     switch (status) {
     case RTHEAP_OK: return "done";
     case RTHEAP_NO_HEAP: return "the handle is closed";
-    case RTHEAP_OUT_OF_BOUNDS: return "a number is out of its range";
-    case RTHEAP_NO_LIFE_LEFT: return "the heap has no life left";
-    case RTHEAP_IS_OPEN: return "the handle is open";
-    case RTHEAP_NO_SUCH_VERSION: return "there is no such version";
-    case RTHEAP_LIVE_TOO_SMALL: return "the live limit is below what the heap opens with";
-    case RTHEAP_NO_RATE: return "the live limit leaves too little of the heap";
-    case RTHEAP_NO_MEMORY: return "there is no memory for the heap";
+    case RTHEAP_OUT_OF_BOUNDS: return "a number is out of range, or version 1 lacks the command";
+    case RTHEAP_NO_LIFE_LEFT: return "too little is left of the heap's life";
+    case RTHEAP_IS_OPEN: return "the handle already has a heap";
+    case RTHEAP_NO_SUCH_VERSION: return "the version is neither 1 nor 2";
+    case RTHEAP_LIVE_TOO_SMALL: return "registers and shared array exceed the live limit";
+    case RTHEAP_NO_RATE: return "the heap has too few blocks for the live limit";
+    case RTHEAP_NO_MEMORY: return "out of memory";
     case RTHEAP_NULL_HANDLE: return "the handle is NULL";
-    default: return "no status";
     }
+    return "not a status";
 }
 
 #ifdef __cplusplus

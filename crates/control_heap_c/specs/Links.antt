@@ -18,7 +18,7 @@ use Rattle.control_heap.specs.contracts.control.ControlHeap as Heap
 abbrev pub heap_row : RattleType
 heap_row = Heap.the_row Words.the_row store.ghosts memory.ghosts
 
--- a boxed heap, with the right to free it, or nothing
+-- a boxed heap, with the right to free it, or no memory
 abbrev pub link_owns : Global → Ptr → Option Control → Fml
 link_owns alloc p None = ftrue
 link_owns alloc p (Some c) = box_owns (ghosts.dealloc_token alloc) heap_row p c
@@ -26,6 +26,6 @@ link_owns alloc p (Some c) = box_owns (ghosts.dealloc_token alloc) heap_row p c
 abbrev pub heap_coded : Coded (Option Control)
 heap_coded = coded_option heap_row.coded
 
--- with this number a handle says that it is open
+-- an open handle begins with this number, and a closed one does not
 abbrev pub open_mark : ℕ
 open_mark = 7238540126943155201

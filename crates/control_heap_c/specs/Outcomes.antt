@@ -1,19 +1,23 @@
--- What a call from C does to the heap of its handle, and what it tells in numbers.
+-- What a call from C does to the heap of its handle, and the numbers that it returns.
 use Rattle.std.specs.Prelude.{ℕ, ◌+◌, ◌-◌, ◌≡◌, ◌==◌, if◌then◌else◌, Option, Some, None, Result, Ok, Err, min, List, [], ◌∷◌}
 use Rattle.block_store.specs.declared.Config.{Config}
 use Rattle.block_store.specs.declared.Width.{Width}
 use Rattle.block_store.specs.declared.Width.TheVariants.{Four, Eight}
+use Rattle.block_store.specs.declared.Name.{Name}
 use Rattle.block_store.specs.declared.Value.TheVariants as values
 use Rattle.never_heap.specs.declared.Command.{Command}
 use Rattle.never_heap.specs.declared.Reply.{Reply}
 use Rattle.never_heap.specs.declared.Reply.TheVariants as replies
 use Rattle.never_heap.specs.Bounds.{IsCommandInBounds}
 use Rattle.never_heap.specs.Histories.{Started}
+use Rattle.heap_machine.specs.declared.op.Op.{Op}
+use Rattle.heap_machine.specs.Operations.{HasActed}
 use Rattle.heap_system.specs.Lives.{objects_of, most_units, most_objects}
 use Rattle.heap_system.specs.Machines.{Run}
 use Rattle.control_heap.specs.declared.control.OpenFault.TheVariants as faults
 use Rattle.control_heap.specs.declared.control.Refused.TheVariants as refused
-use Rattle.control_heap.specs.Controls.{Control, CanOpen, HasLeft, HasAnswered, Stands, asked, units}
+use Rattle.control_heap.specs.Calls.{MayAnswer}
+use Rattle.control_heap.specs.Controls.{Control, CanOpen, HasLeft, HasAnswered, HasMade, Stands, asked, units}
 use Rattle.control_heap.specs.Refusals.{IsOpenFault, IsRefused}
 use Rattle.control_heap_c.specs.declared.answer.Answer.{Answer}
 use Rattle.control_heap_c.specs.declared.answer.Refusal.{Refusal}
@@ -24,9 +28,14 @@ use Rattle.control_heap_c.specs.declared.handle.OpenRefusal.TheVariants as openi
 
 -- ---- a command
 
--- The heap was there and is the one after: the command was in bounds, its life had room for it, and
--- it is counted. Whichever run the heap stood for, it now stands for that run with this command and
--- this reply behind it.
+-- an operation on a list of words, the word that it read, and the list after it
+abbrev pub acts_on_words : List ℕ → Unit {0} → Op → ℕ → List ℕ → Type 0
+acts_on_words ws none op word after = HasActed ws op word after
+
+-- The heap carried the command out, as `ControlHeap::ask` ensures: the command was in bounds, the
+-- life had room for it, and it is counted. Each run of the heap before is extended by this command
+-- and this reply. The memory made the operations of the command and no others, and the reply is one
+-- that the command can have.
 pub record Answered (old new : Control) (k : Command) (a : Reply) : Type 0 where
   pub config : new.config ≡ old.config
   pub bounds : IsCommandInBounds old.config k
@@ -34,26 +43,28 @@ pub record Answered (old new : Control) (k : Command) (a : Reply) : Type 0 where
   pub one_more : asked new ≡ asked old + 1
   pub objects : new.objects ≡ old.objects + objects_of k
   pub answered : HasAnswered old k a new
+  pub made : HasMade acts_on_words old k new
+  pub fits : MayAnswer k a
 
--- a command was answered
+-- the handle had a heap and has one, which carried the command out
 abbrev pub IsAnswered : Option Control → Command → Reply → Option Control → Type 0
 IsAnswered None k a h = ⊥
 IsAnswered (Some old) k a None = ⊥
 IsAnswered (Some old) k a (Some new) = Answered old new k a
 
--- or it was not asked: the handle is closed, or the heap refuses the command
+-- or the command was refused: the handle is closed, or the heap refuses the command
 abbrev pub IsNotAsked : Option Control → Command → Refusal → Type 0
 IsNotAsked None k Closed = Unit {0}
 IsNotAsked None k (Heap r) = ⊥
 IsNotAsked (Some c) k Closed = ⊥
 IsNotAsked (Some c) k (Heap r) = IsRefused c k r
 
--- what became of a command; a command that was not asked leaves the heap as it was
+-- the outcome of a command; a refused command leaves the heap unchanged
 abbrev pub Became : Option Control → Command → Result Reply Refusal → Option Control → Type 0
 Became old k (Ok a) new = IsAnswered old k a new
 Became old k (Err e) new = IsNotAsked old k e × (new ≡ old)
 
--- what is told of it: a number of its own for each refusal
+-- its status: a different number for each refusal
 abbrev pub status_of : Result Reply Refusal → ℕ
 status_of (Ok a) = 0
 status_of (Err Closed) = 1
@@ -63,7 +74,7 @@ status_of (Err (Heap refused.NoLifeLeft)) = 3
 abbrev pub answer : ℕ → ℕ → ℕ → Answer
 answer kind thread value = record { kind = kind; thread = thread; value = value }
 
--- and a triple of its own for each reply
+-- a reply as numbers: a different triple for each
 abbrev pub written : Reply → Answer
 written (replies.New n) = answer 0 n.thread n.serial
 written (replies.Full c) = answer 1 0 c
@@ -79,15 +90,18 @@ written replies.Kind = answer 10 0 0
 written replies.Range = answer 11 0 0
 written replies.Idle = answer 12 0 0
 
--- the reply that is read off such a triple
+abbrev pub named : Answer → Name
+named w = record { thread = w.thread; serial = w.value }
+
+-- the reply with such a triple
 abbrev pub reply_in : Answer → Option Reply
 reply_in w =
-    if w.kind == 0 then Some (replies.New (record { thread = w.thread; serial = w.value }))
+    if w.kind == 0 then Some (replies.New (named w))
     else if w.kind == 1 then Some (replies.Full w.value)
     else if w.kind == 2 then Some replies.Stored
     else if w.kind == 3 then Some (replies.Val values.Nil)
     else if w.kind == 4 then Some (replies.Val (values.Int w.value))
-    else if w.kind == 5 then Some (replies.Val (values.Ref (record { thread = w.thread; serial = w.value })))
+    else if w.kind == 5 then Some (replies.Val (values.Ref (named w)))
     else if w.kind == 6 then Some (replies.Len w.value)
     else if w.kind == 7 then Some replies.Yes
     else if w.kind == 8 then Some replies.No
@@ -97,7 +111,7 @@ reply_in w =
     else if w.kind == 12 then Some replies.Idle
     else None
 
--- the refusal that is read off a status
+-- the refusal with such a status
 abbrev pub refusal_in : ℕ → Option Refusal
 refusal_in s =
     if s == 1 then Some Closed
@@ -105,13 +119,13 @@ refusal_in s =
     else if s == 3 then Some (Heap refused.NoLifeLeft)
     else None
 
--- a refusal leaves the caller's answer as it was
+-- what the caller's struct holds after the call: a refusal leaves it unchanged
 abbrev pub told : Result Reply Refusal → Answer → Answer
 told (Ok a) old = written a
 told (Err e) old = old
 
--- the whole of a call of a command: the heap of the handle and the answer before it, the number
--- that was returned, and both after it
+-- a call of a command: the heap of the handle before and after, the caller's struct before and
+-- after, and the status
 pub record Called (k : Command) (old new : Option Control) (before after : Answer) (status : ℕ)
     : Type 0 where
   pub outcome : Result Reply Refusal
@@ -119,8 +133,8 @@ pub record Called (k : Command) (old new : Option Control) (before after : Answe
   pub status_is : status ≡ status_of outcome
   pub answer_is : after ≡ told outcome before
 
--- A heap was called with these commands one after the other, each call told status 0 and wrote such
--- a reply, and the heap is then z.
+-- A heap was called with these commands one after the other, each call returned status 0 and wrote
+-- this reply, and the heap is then z.
 abbrev pub AllCalled : Control → List Command → List Reply → Control → Type 0
 AllCalled h [] [] z = h ≡ z
 AllCalled h (k ∷ ks) (a ∷ ys) z =
@@ -128,8 +142,8 @@ AllCalled h (k ∷ ks) (a ∷ ys) z =
     × AllCalled n ks ys z
 AllCalled h _ _ z = ⊥
 
--- A register is taken as a wide number, so that none that is too large is cut: from 255 on all are
--- alike, and no heap has one of them.
+-- A register argument has 32 bits, so that no large number is truncated to a valid register. From
+-- 255 on all are taken as 255, which is out of bounds.
 abbrev pub register : ℕ → ℕ
 register r = min r 255
 
@@ -148,7 +162,7 @@ config_of w blocks live object shared = record {
   shared = shared;
 }
 
--- a heap that has done nothing yet
+-- a heap before its first command
 pub record Fresh (c : Config) (h : Control) : Type 0 where
   pub can : CanOpen c
   pub config : h.config ≡ c
@@ -164,7 +178,7 @@ IsOpened None c h = ⊥
 IsOpened (Some w) c None = ⊥
 IsOpened (Some w) c (Some h) = Fresh (c w) h
 
--- why nothing is opened: the handle is open, there is no such version, or the heap's own cause
+-- why no heap is opened: the handle is open, there is no such version, or the heap's own cause
 abbrev pub IsNotOpened : Option Control → Option Width → (Width → Config) → OpenRefusal → Type 0
 IsNotOpened (Some h) w c opening.Open = Unit {0}
 IsNotOpened None None c opening.Version = Unit {0}
@@ -177,6 +191,7 @@ BecameOpen None w c None new = IsOpened w c new
 BecameOpen (Some h) w c None new = ⊥
 BecameOpen old w c (Some e) new = IsNotOpened old w c e × (new ≡ old)
 
+-- its status: a different number for each cause
 abbrev pub open_status : Option OpenRefusal → ℕ
 open_status None = 0
 open_status (Some (opening.Heap faults.OutOfBounds)) = 2
@@ -187,13 +202,26 @@ open_status (Some (opening.Heap faults.NoRate)) = 7
 open_status (Some (opening.Heap faults.NoMemory)) = 8
 open_status (Some (opening.Heap faults.NotOneThread)) = 9
 
+-- the cause with such a status
+abbrev pub open_refusal_in : ℕ → Option OpenRefusal
+open_refusal_in s =
+    if s == 2 then Some (opening.Heap faults.OutOfBounds)
+    else if s == 4 then Some opening.Open
+    else if s == 5 then Some opening.Version
+    else if s == 6 then Some (opening.Heap faults.LiveTooSmall)
+    else if s == 7 then Some (opening.Heap faults.NoRate)
+    else if s == 8 then Some (opening.Heap faults.NoMemory)
+    else if s == 9 then Some (opening.Heap faults.NotOneThread)
+    else None
+
+-- a call of open: the heap of the handle before and after, and the status
 pub record Opened (w : Option Width) (c : Width → Config) (old new : Option Control) (status : ℕ)
     : Type 0 where
   pub refusal : Option OpenRefusal
   pub became : BecameOpen old w c refusal new
   pub status_is : status ≡ open_status refusal
 
--- ---- what is left
+-- ---- counts: what is left of the life, and how many commands it was asked
 
 abbrev pub counts_of : Option Control → Counts
 counts_of None = record { units = 0; objects = 0; asked = 0 }

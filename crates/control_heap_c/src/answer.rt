@@ -1,4 +1,4 @@
-//! What a command answers, in numbers.
+//! Replies and refusals as numbers.
 
 ghost use Rattle.std.specs.Prelude.{◌≡◌, min, Result};
 ghost use Rattle.never_heap.specs.declared.Reply.{Reply};
@@ -8,7 +8,7 @@ use block_store::{Name, Value};
 use control_heap::Refused;
 use never_heap::Reply;
 
-/// What a command answered: what kind of reply, and its numbers, or 0 where it has none.
+/// A reply: its kind and its numbers. A number that the kind does not use is 0.
 #[repr(C)]
 #[derive(Clone, Copy, Debug, PartialEq, Eq)]
 pub struct Answer {
@@ -19,7 +19,7 @@ pub struct Answer {
     pub value: u64,
 }
 
-/// Why a command was not asked.
+/// Why a command was refused.
 #[derive(Clone, Copy, Debug, PartialEq, Eq)]
 pub enum Refusal {
     /// The handle has no heap.
@@ -58,7 +58,7 @@ fn named(kind: u32, name: Name) -> Answer
     }
 }
 
-/// A reply in numbers.
+/// A reply as numbers.
 pub fn written(reply: Reply) -> Answer
     ensures { result ≡ written reply }
 {
@@ -79,7 +79,7 @@ pub fn written(reply: Reply) -> Answer
     }
 }
 
-/// Writes the reply that a command had, and tells whether it was asked.
+/// Writes the reply of a command, if there is one, and returns the status.
 pub fn tell(outcome: Result<Reply, Refusal>, out: &mut Answer) -> u32
     ensures status { result ≡ status_of outcome }
     ensures answer { out.new ≡ told outcome out.old }
@@ -95,7 +95,7 @@ pub fn tell(outcome: Result<Reply, Refusal>, out: &mut Answer) -> u32
     }
 }
 
-/// A register of this number, or 255, which no heap has, where the number is larger.
+/// The register of this number, or 255, which no heap has, if the number is larger.
 pub fn register(r: u32) -> u8
     ensures { result ≡ register r }
 {

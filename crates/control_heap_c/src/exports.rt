@@ -1,5 +1,5 @@
-//! The calls that a program in C makes. Each takes a handle, which is open or not, and tells by a
-//! number what became of it; a call that is refused changes nothing.
+//! The calls for a program in C. Each takes a handle, open or closed, and a command also the struct
+//! for its reply. A call that is refused changes nothing, and its status gives the cause.
 
 ghost use Rattle.std.specs.Prelude.{◌≡◌, is_some, None, if◌then◌else◌};
 ghost use Rattle.never_heap.specs.declared.Command.TheVariants as commands;
@@ -10,7 +10,7 @@ use crate::handle::{Handle, ask, close, counts_at, open, open_told};
 use never_heap::Command;
 use std::alloc::Global;
 
-/// Opens a heap in a handle that has none. The version is 1 or 2.
+/// Opens a heap in a closed handle. The version is 1 or 2.
 #[unsafe(no_mangle)]
 pub extern "C" fn rtheap_raw_open(
     alloc: Global,
@@ -27,7 +27,7 @@ pub extern "C" fn rtheap_raw_open(
     open_told(open(alloc, handle, version, blocks, live, object, shared))
 }
 
-/// Closes a handle, and frees its heap: 0, or 1 where it was closed.
+/// Closes a handle and frees its heap. Returns 0, or 1 if it was closed.
 #[unsafe(no_mangle)]
 pub extern "C" fn rtheap_raw_close(alloc: Global, handle: &mut Handle) -> u32
     ensures closed { handle.new.link.heap ≡ None }
@@ -36,7 +36,7 @@ pub extern "C" fn rtheap_raw_close(alloc: Global, handle: &mut Handle) -> u32
     if close(alloc, handle) { 0 } else { 1 }
 }
 
-/// How many units the commands of a heap may still owe; 0 where the handle is closed.
+/// The units of collection that are left of the heap's life; 0 if the handle is closed.
 #[unsafe(no_mangle)]
 pub extern "C" fn rtheap_raw_units_left(alloc: Global, handle: &mut Handle) -> u64
     ensures told { result ≡ (counts_of handle.old.link.heap).units }
@@ -45,7 +45,7 @@ pub extern "C" fn rtheap_raw_units_left(alloc: Global, handle: &mut Handle) -> u
     counts_at(alloc, handle).units
 }
 
-/// How many commands that make an object it may still be asked; 0 where the handle is closed.
+/// The allocations that are left of the heap's life; 0 if the handle is closed.
 #[unsafe(no_mangle)]
 pub extern "C" fn rtheap_raw_objects_left(alloc: Global, handle: &mut Handle) -> u64
     ensures told { result ≡ (counts_of handle.old.link.heap).objects }
@@ -54,7 +54,7 @@ pub extern "C" fn rtheap_raw_objects_left(alloc: Global, handle: &mut Handle) ->
     counts_at(alloc, handle).objects
 }
 
-/// How many commands it was asked; 0 where the handle is closed.
+/// The number of commands so far; 0 if the handle is closed.
 #[unsafe(no_mangle)]
 pub extern "C" fn rtheap_raw_asked(alloc: Global, handle: &mut Handle) -> u64
     ensures told { result ≡ (counts_of handle.old.link.heap).asked }
@@ -63,7 +63,7 @@ pub extern "C" fn rtheap_raw_asked(alloc: Global, handle: &mut Handle) -> u64
     counts_at(alloc, handle).asked
 }
 
-/// Makes a record of nil fields, to which register `d` then refers.
+/// Makes register `d` refer to a new record, whose fields are nil.
 #[unsafe(no_mangle)]
 pub extern "C" fn rtheap_raw_new(
     alloc: Global,
@@ -72,8 +72,8 @@ pub extern "C" fn rtheap_raw_new(
     fields: u32,
     out: &mut Answer,
 ) -> u32
-    ensures { Called (commands.New (register d) fields) handle.old.link.heap handle.new.link.heap out.old out.new
-        result }
+    ensures { Called (commands.New (register d) fields) handle.old.link.heap
+        handle.new.link.heap out.old out.new result }
 {
     let command = Command::New {
         d: register(d),
@@ -83,7 +83,7 @@ pub extern "C" fn rtheap_raw_new(
     tell(outcome, out)
 }
 
-/// Makes an array of nil elements, to which register `d` then refers.
+/// Makes register `d` refer to a new array, whose elements are nil.
 #[unsafe(no_mangle)]
 pub extern "C" fn rtheap_raw_arr(
     alloc: Global,
@@ -92,8 +92,8 @@ pub extern "C" fn rtheap_raw_arr(
     elements: u32,
     out: &mut Answer,
 ) -> u32
-    ensures { Called (commands.Arr (register d) elements) handle.old.link.heap handle.new.link.heap out.old out.new
-        result }
+    ensures { Called (commands.Arr (register d) elements) handle.old.link.heap
+        handle.new.link.heap out.old out.new result }
 {
     let command = Command::Arr {
         d: register(d),
@@ -103,7 +103,7 @@ pub extern "C" fn rtheap_raw_arr(
     tell(outcome, out)
 }
 
-/// Register `d` becomes this number.
+/// Sets register `d` to a number.
 #[unsafe(no_mangle)]
 pub extern "C" fn rtheap_raw_set(
     alloc: Global,
@@ -112,8 +112,8 @@ pub extern "C" fn rtheap_raw_set(
     value: u64,
     out: &mut Answer,
 ) -> u32
-    ensures { Called (commands.Set (register d) value) handle.old.link.heap handle.new.link.heap out.old out.new
-        result }
+    ensures { Called (commands.Set (register d) value) handle.old.link.heap
+        handle.new.link.heap out.old out.new result }
 {
     let command = Command::Set {
         d: register(d),
@@ -123,7 +123,7 @@ pub extern "C" fn rtheap_raw_set(
     tell(outcome, out)
 }
 
-/// Register `d` becomes nil.
+/// Sets register `d` to nil.
 #[unsafe(no_mangle)]
 pub extern "C" fn rtheap_raw_nil(
     alloc: Global,
@@ -131,15 +131,15 @@ pub extern "C" fn rtheap_raw_nil(
     d: u32,
     out: &mut Answer,
 ) -> u32
-    ensures { Called (commands.Nil (register d)) handle.old.link.heap handle.new.link.heap out.old out.new
-        result }
+    ensures { Called (commands.Nil (register d)) handle.old.link.heap
+        handle.new.link.heap out.old out.new result }
 {
     let command = Command::Nil { d: register(d) };
     let outcome = ask(alloc, handle, command);
     tell(outcome, out)
 }
 
-/// Register `d` becomes what register `s` holds.
+/// Copies register `s` to register `d`.
 #[unsafe(no_mangle)]
 pub extern "C" fn rtheap_raw_mov(
     alloc: Global,
@@ -148,8 +148,8 @@ pub extern "C" fn rtheap_raw_mov(
     s: u32,
     out: &mut Answer,
 ) -> u32
-    ensures { Called (commands.Mov (register d) (register s)) handle.old.link.heap handle.new.link.heap out.old out.new
-        result }
+    ensures { Called (commands.Mov (register d) (register s)) handle.old.link.heap
+        handle.new.link.heap out.old out.new result }
 {
     let command = Command::Mov {
         d: register(d),
@@ -159,7 +159,7 @@ pub extern "C" fn rtheap_raw_mov(
     tell(outcome, out)
 }
 
-/// Register `d` becomes field `i` of the object in register `s`.
+/// Copies field `i` of the object in register `s` to register `d`.
 #[unsafe(no_mangle)]
 pub extern "C" fn rtheap_raw_get(
     alloc: Global,
@@ -169,8 +169,8 @@ pub extern "C" fn rtheap_raw_get(
     i: u64,
     out: &mut Answer,
 ) -> u32
-    ensures { Called (commands.Get (register d) (register s) i) handle.old.link.heap handle.new.link.heap out.old out.new
-        result }
+    ensures { Called (commands.Get (register d) (register s) i) handle.old.link.heap
+        handle.new.link.heap out.old out.new result }
 {
     let command = Command::Get {
         d: register(d),
@@ -181,7 +181,7 @@ pub extern "C" fn rtheap_raw_get(
     tell(outcome, out)
 }
 
-/// Field `i` of the object in register `s` becomes what register `v` holds.
+/// Copies register `v` to field `i` of the object in register `s`.
 #[unsafe(no_mangle)]
 pub extern "C" fn rtheap_raw_put(
     alloc: Global,
@@ -191,8 +191,8 @@ pub extern "C" fn rtheap_raw_put(
     v: u32,
     out: &mut Answer,
 ) -> u32
-    ensures { Called (commands.Put (register s) i (register v)) handle.old.link.heap handle.new.link.heap out.old out.new
-        result }
+    ensures { Called (commands.Put (register s) i (register v)) handle.old.link.heap
+        handle.new.link.heap out.old out.new result }
 {
     let command = Command::Put {
         s: register(s),
@@ -203,7 +203,7 @@ pub extern "C" fn rtheap_raw_put(
     tell(outcome, out)
 }
 
-/// How many fields or elements the object in register `s` has.
+/// Counts the fields or elements of the object in register `s`.
 #[unsafe(no_mangle)]
 pub extern "C" fn rtheap_raw_len(
     alloc: Global,
@@ -211,15 +211,15 @@ pub extern "C" fn rtheap_raw_len(
     s: u32,
     out: &mut Answer,
 ) -> u32
-    ensures { Called (commands.Len (register s)) handle.old.link.heap handle.new.link.heap out.old out.new
-        result }
+    ensures { Called (commands.Len (register s)) handle.old.link.heap
+        handle.new.link.heap out.old out.new result }
 {
     let command = Command::Len { s: register(s) };
     let outcome = ask(alloc, handle, command);
     tell(outcome, out)
 }
 
-/// Whether registers `a` and `b` hold the same.
+/// Compares registers `a` and `b`.
 #[unsafe(no_mangle)]
 pub extern "C" fn rtheap_raw_same(
     alloc: Global,
@@ -228,8 +228,8 @@ pub extern "C" fn rtheap_raw_same(
     b: u32,
     out: &mut Answer,
 ) -> u32
-    ensures { Called (commands.Same (register a) (register b)) handle.old.link.heap handle.new.link.heap out.old out.new
-        result }
+    ensures { Called (commands.Same (register a) (register b)) handle.old.link.heap
+        handle.new.link.heap out.old out.new result }
 {
     let command = Command::Same {
         a: register(a),
@@ -239,7 +239,7 @@ pub extern "C" fn rtheap_raw_same(
     tell(outcome, out)
 }
 
-/// Shows register `s`.
+/// Reads register `s`.
 #[unsafe(no_mangle)]
 pub extern "C" fn rtheap_raw_say(
     alloc: Global,
@@ -247,15 +247,15 @@ pub extern "C" fn rtheap_raw_say(
     s: u32,
     out: &mut Answer,
 ) -> u32
-    ensures { Called (commands.Say (register s)) handle.old.link.heap handle.new.link.heap out.old out.new
-        result }
+    ensures { Called (commands.Say (register s)) handle.old.link.heap
+        handle.new.link.heap out.old out.new result }
 {
     let command = Command::Say { s: register(s) };
     let outcome = ask(alloc, handle, command);
     tell(outcome, out)
 }
 
-/// Field `i` of the object in register `s` and register `v` exchange their values.
+/// Exchanges field `i` of the object in register `s` with register `v`.
 #[unsafe(no_mangle)]
 pub extern "C" fn rtheap_raw_swap(
     alloc: Global,
@@ -265,8 +265,8 @@ pub extern "C" fn rtheap_raw_swap(
     v: u32,
     out: &mut Answer,
 ) -> u32
-    ensures { Called (commands.Swap (register s) i (register v)) handle.old.link.heap handle.new.link.heap out.old out.new
-        result }
+    ensures { Called (commands.Swap (register s) i (register v)) handle.old.link.heap
+        handle.new.link.heap out.old out.new result }
 {
     let command = Command::Swap {
         s: register(s),
@@ -277,7 +277,7 @@ pub extern "C" fn rtheap_raw_swap(
     tell(outcome, out)
 }
 
-/// Where field `i` of the object in register `s` and register `a` hold the same, the field becomes what register `v` holds.
+/// If field `i` of the object in register `s` equals register `a`, copies register `v` to it.
 #[unsafe(no_mangle)]
 pub extern "C" fn rtheap_raw_cas(
     alloc: Global,
@@ -288,8 +288,8 @@ pub extern "C" fn rtheap_raw_cas(
     v: u32,
     out: &mut Answer,
 ) -> u32
-    ensures { Called (commands.Cas (register s) i (register a) (register v)) handle.old.link.heap handle.new.link.heap out.old out.new
-        result }
+    ensures { Called (commands.Cas (register s) i (register a) (register v)) handle.old.link.heap
+        handle.new.link.heap out.old out.new result }
 {
     let command = Command::Cas {
         s: register(s),
@@ -301,7 +301,7 @@ pub extern "C" fn rtheap_raw_cas(
     tell(outcome, out)
 }
 
-/// Makes this many units of marking or sweeping.
+/// Does this many units of marking or sweeping.
 #[unsafe(no_mangle)]
 pub extern "C" fn rtheap_raw_idle(
     alloc: Global,
@@ -309,8 +309,8 @@ pub extern "C" fn rtheap_raw_idle(
     units: u64,
     out: &mut Answer,
 ) -> u32
-    ensures { Called (commands.Idle units) handle.old.link.heap handle.new.link.heap out.old out.new
-        result }
+    ensures { Called (commands.Idle units) handle.old.link.heap
+        handle.new.link.heap out.old out.new result }
 {
     let command = Command::Idle { units };
     let outcome = ask(alloc, handle, command);

@@ -1,4 +1,4 @@
-//! A handle of C's, with the heap that it stands for.
+//! The handle that C keeps, and the heap that it owns.
 
 ghost use Rattle.std.specs.Prelude.{◌≡◌, eqb, is_some, Some, None, MatchOption, IfOk, IfErr};
 ghost use Rattle.control_heap.specs.Refusals.{IsOpenFault};
@@ -13,10 +13,10 @@ use never_heap::{Command, Reply};
 use std::alloc::Global;
 use std::mem::replace;
 
-// What a handle that is open begins with. Any other number there is that of a closed one.
+// An open handle begins with this number, and a closed one with any other.
 const OPEN: u64 = 7_238_540_126_943_155_201;
 
-/// What C has of a heap: a number that tells whether it is open, and the heap's pointer.
+/// What C keeps of a heap: a mark that says whether the handle is open, and the pointer.
 #[repr(C)]
 #[derive(Drop)]
 pub struct Handle {
@@ -25,10 +25,10 @@ pub struct Handle {
     ghost told: { eqb mark open_mark ≡ is_some link.heap },
 }
 
-/// Why no heap is opened.
+/// Why no heap was opened.
 #[derive(Clone, Copy, Debug, PartialEq, Eq)]
 pub enum OpenRefusal {
-    /// The handle has a heap.
+    /// The handle already has a heap.
     Open,
     /// There is no such version.
     Version,
@@ -57,7 +57,7 @@ impl Handle {
         }
     }
 
-    // The heap, where there is one.
+    // The heap, if there is one.
     fn into_heap(self) -> Option<Box<ControlHeap>>
         ensures { MatchOption result (self.link.heap ≡ None) (λ b. self.link.heap ≡ Some b.value) }
     {
@@ -73,8 +73,8 @@ impl Handle {
 ///
 /// # Errors
 ///
-/// `Closed` where the handle has no heap, and else as of `ControlHeap::ask`; then nothing has
-/// changed.
+/// `Closed` if the handle has no heap, and otherwise those of `ControlHeap::ask`. Nothing has
+/// changed then.
 pub fn ask(alloc: Global, handle: &mut Handle, command: Command) -> Result<Reply, Refusal>
     ensures { Became handle.old.link.heap command result handle.new.link.heap }
 {
@@ -99,12 +99,12 @@ fn ask_box(heap: Box<ControlHeap>, command: Command) -> (Box<ControlHeap>, Resul
     }
 }
 
-/// Opens a heap in a handle that has none.
+/// Opens a heap in a closed handle.
 ///
 /// # Errors
 ///
-/// The first of these that is so: `Open` where the handle has a heap; `Version` where the version
-/// is neither 1 nor 2; and as of `ControlHeap::open`. Then nothing has changed.
+/// The first of these that applies: `Open` if the handle has a heap; `Version` if the version is
+/// neither 1 nor 2; and those of `ControlHeap::open`. Nothing has changed then.
 pub fn open(
     alloc: Global,
     handle: &mut Handle,
@@ -145,7 +145,7 @@ pub fn open(
     }
 }
 
-/// The number of what became of an opening.
+/// The status of an opening.
 pub fn open_told(refusal: Option<OpenRefusal>) -> u32
     ensures { result ≡ open_status refusal }
 {
@@ -174,7 +174,7 @@ fn width_of(version: u32) -> Option<Width>
     None
 }
 
-// The opening heap, boxed.
+// A new heap in a box.
 fn opened(alloc: Global, config: Config) -> Result<Box<ControlHeap>, OpenFault>
     ensures fresh { IfOk result (λ b. Fresh config b.value) }
     ensures refused { IfErr result (IsOpenFault config) }
@@ -186,7 +186,7 @@ fn opened(alloc: Global, config: Config) -> Result<Box<ControlHeap>, OpenFault>
     }
 }
 
-/// Lets go of the heap of a handle. Answers whether there was one.
+/// Drops the heap of a handle. Returns whether there was one.
 pub fn close(alloc: Global, handle: &mut Handle) -> bool
     ensures told { result ≡ is_some handle.old.link.heap }
     ensures closed { handle.new.link.heap ≡ None }
@@ -200,7 +200,7 @@ pub fn close(alloc: Global, handle: &mut Handle) -> bool
     }
 }
 
-/// What is left of the life of the heap of a handle, and how many commands it was asked.
+/// What is left of a heap's life, and how many commands it was asked.
 #[derive(Clone, Copy, Debug, PartialEq, Eq)]
 pub struct Counts {
     pub units: u64,
@@ -208,7 +208,7 @@ pub struct Counts {
     pub asked: u64,
 }
 
-/// Those of a heap; 0 where there is none.
+/// The counts of the heap of a handle; 0 if it has none.
 pub fn counts_at(alloc: Global, handle: &mut Handle) -> Counts
     ensures told { result ≡ counts_of handle.old.link.heap }
     ensures unchanged { handle.new.link.heap ≡ handle.old.link.heap }

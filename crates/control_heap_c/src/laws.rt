@@ -1,30 +1,59 @@
 //! What the numbers of a call say: each law is the contract of a function that does nothing.
 
-ghost use Rattle.std.specs.Prelude.{◌≡◌, ℕ, suc, List, Option, Some, None, Err};
+ghost use Rattle.std.specs.Prelude.{◌≡◌, ◌≤◌, ◌<◌, ℕ, suc, List, Option, Some, None, Err};
+ghost use Rattle.block_store.specs.declared.Config.{Config};
+ghost use Rattle.block_store.specs.declared.Width.{Width};
+ghost use Rattle.block_store.specs.declared.TheConstants.{REGISTERS};
 ghost use Rattle.never_heap.specs.declared.Command.{Command};
 ghost use Rattle.never_heap.specs.declared.Reply.{Reply};
 ghost use Rattle.control_heap.specs.Controls.{Control, AllAnswered};
 ghost use Rattle.control_heap_c.specs.declared.answer.Answer.{Answer};
 ghost use Rattle.control_heap_c.specs.declared.answer.Refusal.{Refusal};
-ghost use Rattle.control_heap_c.specs.Outcomes.{Called, IsAnswered, AllCalled, refusal_in, reply_in, status_of, written};
+ghost use Rattle.control_heap_c.specs.declared.handle.OpenRefusal.{OpenRefusal};
+ghost use Rattle.control_heap_c.specs.Outcomes.{Called, IsAnswered, IsNotAsked, IsNotOpened, IsOpened, AllCalled, Opened, config_of, open_refusal_in, open_status, refusal_in, register, reply_in, status_of, written};
 
 use crate::handle::Handle;
 
-/// A reply can be read off what is written of it, and a refusal off its status, which is not 0.
+/// A reply can be read from the numbers that are written for it. A refusal of a command or of an
+/// opening can be read from its status, which is not 0.
 pub fn numbers_read_back()
     ensures replies { (a : Reply) → reply_in (written a) ≡ Some a }
     ensures refusals { (e : Refusal) → refusal_in (status_of (Err e)) ≡ Some e }
     ensures none { refusal_in 0 ≡ None }
+    ensures openings { (e : OpenRefusal) → open_refusal_in (open_status (Some e)) ≡ Some e }
+    ensures no_opening { open_refusal_in 0 ≡ None }
 {}
 
-/// A call of status 0 was answered, by the reply that it wrote; a call of any other status changed
-/// nothing.
+/// A call of status 0 was answered, by the reply that it wrote. For a call of any other status the
+/// status gives the cause, and nothing has changed.
 pub fn statuses_tell()
     ensures answered { (k : Command) (old new : Option Control) (before after : Answer)
         → Called k old new before after 0
         → (a : Reply) × (after ≡ written a) × IsAnswered old k a new }
     ensures refused { (k : Command) (old new : Option Control) (before after : Answer) (s : ℕ)
-        → Called k old new before after (suc s) → (new ≡ old) × (after ≡ before) }
+        → Called k old new before after (suc s)
+        → (e : Refusal) × (refusal_in (suc s) ≡ Some e) × IsNotAsked old k e × (new ≡ old)
+        × (after ≡ before) }
+{}
+
+/// An opening of status 0 opened a heap in a closed handle. For one of any other status the status
+/// gives the cause, and nothing has changed. Status 9 does not occur.
+pub fn openings_tell()
+    ensures opened { (w : Option Width) (c : Width → Config) (old new : Option Control)
+        → Opened w c old new 0 → (old ≡ None) × IsOpened w c new }
+    ensures refused { (w : Option Width) (c : Width → Config) (old new : Option Control) (s : ℕ)
+        → Opened w c old new (suc s)
+        → (e : OpenRefusal) × (open_refusal_in (suc s) ≡ Some e) × IsNotOpened old w c e
+        × (new ≡ old) }
+    ensures one_thread { (w : Option Width) (blocks live object shared : ℕ)
+        (old new : Option Control)
+        → ¬ Opened w (λ x. config_of x blocks live object shared) old new 9 }
+{}
+
+/// A register is passed on as it is, and one that no heap has remains one that no heap has.
+pub fn registers_are_not_truncated()
+    ensures kept { (r : ℕ) → r < REGISTERS → register r ≡ r }
+    ensures beyond { (r : ℕ) → REGISTERS ≤ r → REGISTERS ≤ register r }
 {}
 
 /// Calls of status 0 one after the other are requests of the heap one after the other: by

@@ -1,4 +1,4 @@
-//! A boxed heap as its pointer, which crosses to C, or none.
+//! The pointer of a boxed heap, in a form that C can keep.
 
 ghost use Rattle.std.specs.Prelude.{◌≡◌, Option, Some, None};
 ghost use Rattle.control_heap.specs.Controls.{Control};
@@ -12,7 +12,7 @@ use std::alloc::Global;
 use std::marker::Model;
 use std::ptr::null_mut;
 
-/// The pointer of a boxed heap, which it owns, or a pointer that owns nothing.
+/// A pointer that owns a boxed heap, or a pointer that owns nothing.
 #[repr(C)]
 #[derive(Drop)]
 pub struct Link {
@@ -26,7 +26,7 @@ impl Model for Link {
 }
 
 impl Link {
-    /// A link to no heap.
+    /// A link that owns nothing.
     pub fn none(alloc: Global) -> Link
         ensures { result.heap ≡ None }
     {
@@ -34,14 +34,14 @@ impl Link {
         Link { at, alloc }
     }
 
-    /// The link to a heap.
+    /// A link that owns this heap.
     pub fn of(heap: Box<ControlHeap>) -> Link
         ensures { result.heap ≡ Some heap.value }
     {
         Link::of_parts(Parts::of(heap))
     }
 
-    /// The heap of a link that has one.
+    /// The heap of a link that owns one.
     pub fn into_heap(self) -> Box<ControlHeap>
         requires { (c : Control) × (self.heap ≡ Some c) }
         ensures { self.heap ≡ Some result.value }
