@@ -2,9 +2,11 @@
 looked up as if nothing were bound. What it stands for has to be kept, unless a binder of that name
 stands in the same definition."""
 import re
+from functools import lru_cache
 
 from files import NUMBER, PLAIN, TOP, antt_file, fail, split_at
-from reading import BUILT_IN, Reader, cites_of
+from reading import BUILT_IN, Reader, cites_of, fields_before, impls_by_default, is_kit
+from text import RustType
 
 
 def bound_in(kind, words):
@@ -31,7 +33,7 @@ def bound_in(kind, words):
 
 def is_constructor(reader, name):
     got = reader.look(name)
-    return bool(got) and (got[0] == "kit" or bool(got[1]))
+    return bool(got) and (is_kit(got) or bool(got[1]))
 
 
 def is_label(words, k):
@@ -39,39 +41,71 @@ def is_label(words, k):
 
 
 def stands_for(reader, word):
-    """What a word stands for where nothing is bound: a definition, 'kit', or None."""
+    """What a word stands for where nothing is bound: a definition, or 'kit'."""
     got = reader.look_from(word) if re.match(r"[^\W\d«]", word) else reader.look(word)
-    return got and got[0]
+    if not got:
+        fail(f"{reader.where}: {word} stands for nothing")
+    return "kit" if is_kit(got) else got[0]
 
 
 def named_by(it, part, is_read):
     """The definitions that a part names, by this look."""
-    reader = Reader(getattr(it, "scope", it.file), it, getattr(it, "generics", None))
     left_out = {id(word) for word in cites_of(it, part).take(is_read)[1]}
-    found, bound = set(), {"result", "self", "Self", *it.fields, *getattr(it, "names", ())}
-    for each in [None, part]:
-        for kind, words in it.words[each]:
-            if kind == "clause of a trait":
-                bound |= set(words[0])
-                words = words[1]
-            bound |= bound_in(kind, words)
-    if it.params:
-        bound |= bound_in("params", it.params.words[None][0][1])
-    bound = {name for name in bound if not is_constructor(reader, name)}
-    for kind, words in it.words[part]:
-        words = words[1] if kind == "clause of a trait" else words
-        for k, word in enumerate(words):
-            if is_label(words, k) or id(word) in left_out or is_plain_mark(word):
-                continue
+    found = {got for word, got in names_of(it, part) if id(word) not in left_out}
+    found |= {it.params} if it.params else set()
+    return {got for got in found if got != "kit" and got is not it}
+
+
+@lru_cache(maxsize=None)
+def names_of(it, part):
+    """The words of a part that are names, with what each stands for."""
+    reader, found = Reader(it), []
+    for said in it.words[part]:
+        is_rust = said.kind in ("rust", "default")
+        kinds = said.words if is_rust else [said.params.get(w.split(".")[0]) for w in said.words]
+        names = [name for kind in kinds for name in names_in(kind, is_rust)]
+        found += [(name, stands_for(reader, name)) for name in names if not is_parameter(it, name)]
+        if said.kind == "default":
+            found += [(said.words[0], impl) for impl in impls_by_default(it.scope, *said.words)]
+        if is_rust:
+            continue
+        bound = {name for name in bound_around(it, part, said) if not is_constructor(reader, name)}
+        for k, word in enumerate(said.words):
             head = word.split(".")[0]
-            if head in bound or word.rstrip(".") in bound:
-                continue
-            got = stands_for(reader, reader.generics.get(head, word))
-            if not got:
-                fail(f"{it.name}: {word} stands for nothing")
-            if got != "kit" and got is not it:
-                found.add(got)
-    return found | ({it.params} if it.params else set())
+            if not (is_label(said.words, k) or is_plain_mark(word) or head in bound
+                    or word.rstrip(".") in bound):
+                names = names_at(it, head) if head in it.generics else [word]
+                found += [(word, stands_for(reader, name)) for name in names]
+    return found
+
+
+def names_in(kind, is_name):
+    """The names in a type of src/; what is no such type may be a name itself."""
+    if isinstance(kind, RustType):
+        return kind.names()
+    return [kind] if is_name else []
+
+
+def names_at(it, parameter):
+    """The traits that bound a type parameter."""
+    return [name for bound in it.generics[parameter] for name in bound.names()]
+
+
+def is_parameter(it, name):
+    return name.split("::")[0] in ("Self", *it.generics)
+
+
+def bound_around(it, part, said):
+    """Each name that is bound in some words or around them."""
+    bound = {*it.names, *said.params, *bound_in(said.kind, said.words)}
+    if it.form == "record" and part:
+        bound |= {*fields_before(it, part)}
+    if said is not it.words[None][0]:
+        heads = [head for head in it.words[None] if head.kind == "head"]
+        bound |= {name for head in heads for name in bound_in("head", head.words)}
+    if it.params:
+        bound |= bound_in("head", it.params.words[None][0].words)
+    return bound
 
 
 def is_plain_mark(word):
@@ -83,9 +117,9 @@ def is_plain_mark(word):
 def fields_named_by(it, part):
     """The other fields of its record that a field names."""
     named = set()
-    for kind, words in it.words[part]:
-        own = set(it.fields) - bound_in(kind, words)
-        named |= {word.split(".")[0] for word in words} & own
+    for said in it.words[part]:
+        own = set(fields_before(it, part)) - bound_in(said.kind, said.words)
+        named |= {word.split(".")[0] for word in said.words} & own
     return named
 
 

@@ -2,8 +2,8 @@
 import sys
 from functools import lru_cache
 
-from files import NUMBER, TOP, fail, split_at
-from reading import KIT_FIELDS, Reader, cites_of
+from files import NUMBER, fail, split_at
+from reading import KIT_FIELDS, Reader, cites_of, is_kit, signature_of
 
 # ---- what is cited
 
@@ -60,14 +60,17 @@ class Belief:
         return it.form == "record" and self.choice(it) is not None
 
     def follow(self):
+        """Keeps what is cited until nothing is new. Only what is put into fields may cite more when
+        other fields are read, so all else is followed once."""
         self.grown = True
+        self.members, self.kit, followed = {}, set(), set()
         while self.grown:
             self.grown = False
-            self.members = {}
-            self.kit = set()
-            for it in list(self.kept):
-                for part in list(self.kept[it]):
+            for it, part in [(it, part) for it, parts in self.kept.items() for part in parts]:
+                if (it, part) not in followed:
                     self.follow_part(it, part)
+                    if not cites_of(it, part).labels:
+                        followed.add((it, part))
             for it in [it for it in self.kept if self.is_partial(it)]:
                 for kind in (None, it):
                     for field in self.members.get(kind, ()):
@@ -76,9 +79,9 @@ class Belief:
 
     def follow_part(self, it, part):
         cites = self.cites(it, part)
-        for crate, word in cites.kit:
-            if (TOP / "crates" / crate).is_dir():
-                fail(f"{it.name} names {word}, which is of proofs/")
+        for crate, word in cites.lemmas:
+            fail(f"{it.file.crate}/{it.file.short()}: {it.name} names {word}, which is of proofs/ "
+                 f"of {crate}: a reader would have to read a proof")
         self.kit |= cites.kit
         for kind, field in cites.members:
             self.members.setdefault(kind, set()).add(field)
@@ -98,9 +101,10 @@ class Belief:
         lines = it.lines(parts)
         for part in parts:
             others = cites_of(it, part).take(self.is_read)[1]
-            words = [word for _, words in it.words.get(part, ()) for word in words]
+            words = [word for said in it.words.get(part, ()) for word in said.words]
             for line in {word.line for word in others} - {None}:
-                if sum(w.line == line for w in words) == sum(w.line == line for w in others):
+                on_line = [w for w in words if getattr(w, "line", None) == line]
+                if len(on_line) == sum(w.line == line for w in others):
                     lines.discard(line)
         return lines
 
@@ -157,7 +161,7 @@ def is_case_of(it, part, left_out):
     """Whether the part is a clause for one of these constructors."""
     if part is None:
         return False
-    words = split_at(it.words[part][0][1], "=")[0]
+    words = split_at(it.words[part][0].words, "=")[0]
     return any("-" + word.split(".")[-1] in left_out for word in words)
 
 
@@ -177,16 +181,16 @@ def is_data_type(it, words):
     last = [word for word in split_at(words, "→")[-1] if word != "("]
     if last[0] in DATA:
         return True
-    got = Reader(it.file, it).look(last[0])
-    if not got or got[0] == "kit":
+    got = Reader(it).look(last[0])
+    if not got or is_kit(got):
         return False
     if got[0].form == "function":
         return is_alias_of_data(got[0])
-    return got[0].form in ("type", "model", "data") or is_data(got[0])
+    return got[0].form in ("type", "alias", "model", "data") or is_data(got[0])
 
 
 def is_alias_of_data(it):
     cases = [part for part in it.parts if part]
-    if [*it.words[None][0][1]] != ["Type", "0"] or len(cases) != 1:
+    if [*signature_of(it)] != ["Type", "0"] or len(cases) != 1:
         return False
-    return is_data_type(it, it.words[cases[0]][0][1][2:])
+    return is_data_type(it, it.words[cases[0]][0].words[2:])

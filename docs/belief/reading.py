@@ -1,22 +1,34 @@
 """What a definition cites: its words, and what each name stands for there."""
 import re
 from functools import lru_cache
+from typing import NamedTuple
 
-from files import (NUMBER, PLAIN, TOP, Antt, Definition, Rust, antt_file, fail, impl_from,
-                   pieces_of_operator, rust_definition, rust_items, split_at, words_of)
+from files import (NUMBER, PLAIN, TOP, Antt, Definition, antt_file, fail, is_own, kit_crates,
+                   pieces_of_operator, split_at)
+from rust import (Rust, implementation_in, impls_named, rust_definition, rust_items)
+from text import RustType
 
 # words of the language itself
 BUILT_IN = set("→ × ⊥ ¬ Unit tt absurd Type record let in as : = λ do ← _ where | {0}".split())
-# what a clause reads off a value of the kit: what a reference points to, the elements of a list
-KIT_FIELDS = set("now old new entry exit items".split())
+# the states of what a reference points to
+STATES = set("now old new entry exit".split())
+# what a clause reads off a value of the kit: such a state, the elements of a list
+KIT_FIELDS = STATES | {"items"}
+# what std brings into each file of src/
+PRELUDE = set("""Option Some None Result Ok Err Vec String Box Drop Clone Copy Send Sync Sized Fn
+    FnMut FnOnce Iterator IntoIterator From Into HostRuntime""".split())
 
 # ---- names
 
 
+@lru_cache(maxsize=None)
 def resolve_in(path, name):
-    """The name in a module: ('kit', word), or (definition, constructor or None)."""
+    """The name in a module: a definition and a constructor or None, or 'kit' or 'proofs' and the
+    crate with the word."""
+    if path[0] != "Rattle":
+        return "kit", (path[0], name)
     crate, inside = path[1], path[2:]
-    if not (TOP / "crates" / crate).is_dir():
+    if not is_own(crate):
         return "kit", (crate, name)
     if inside[:2] == ("specs", "declared"):
         return resolve_declared(crate, inside[2:], name)
@@ -24,8 +36,8 @@ def resolve_in(path, name):
         if inside[-1] == "TheImpl":
             return implementation_named(crate, inside[-2]), None
         return resolve_declared(crate, inside[2:], inside[-1])
-    if inside[0] == "proofs":  # a lemma that a proof in specs/ takes
-        return "kit", (crate, name)
+    if inside[0] == "proofs":
+        return "proofs", (crate, name)
     home = TOP.joinpath("crates", crate, *inside)
     if not home.with_suffix(".antt").exists():
         return antt_file(home.parent.with_suffix(".antt")).definitions[home.name], name
@@ -50,28 +62,75 @@ def resolve_declared(crate, inside, name):
         return rust_definition(crate, "const", name), None
     if inside[-1] == "TheVariants":
         return rust_definition(crate, "type", inside[-2], tuple(inside[:-2])), name
+    if ("alias", name) in rust_items(crate):
+        return rust_definition(crate, "alias", name, tuple(inside[:-1])), None
     return rust_definition(crate, "type", name, tuple(inside[:-1])), None
 
 
-STD_TYPES = set("""Option Vec String Box Result Some None Ok Err Global Self Ordering
-    AtomicU64 Arc PhantomData""".split())
+def implementation_named(crate, name):
+    found = impls_named(crate, name)
+    if len(found) != 1:
+        fail(f"{crate}: {len(found)} impls {name}")
+    return implementation_in((crate,), *found[0])
+
+
+def is_kit(got):
+    """Whether a name stands for no definition that can be listed."""
+    return got[0] in ("kit", "proofs")
 
 
 def resolve_rust(file, name):
-    """A name of Rust, as a file of src/ sees it."""
-    crate = file.uses.get(name, "crate")
-    if crate in ("std", "core") or name in STD_TYPES and name not in file.uses:
-        return "kit", ("std", name)
-    crate = file.crate if crate in ("crate", "self", "super") else crate
-    if not (TOP / "crates" / crate).is_dir():
-        return "kit", (crate, name)
-    for form in ("type", "const", "trait"):
-        if (form, name) in rust_items(crate):
-            return rust_definition(crate, form, name), None
+    """A name of Rust or a path, as a file of src/ sees it."""
+    is_macro = name.endswith("!")
+    head, *rest = name.rstrip("!").split("::")
+    path = [*file.uses.get(head, (head,)), *rest]
+    if len(path) == 1:
+        return resolve_bare(file, head, is_macro)
+    if path[0] in file.children:
+        path.insert(0, "self")
+    crate = file.crate if is_inside(file, path[0]) else path[0]
+    if is_own(crate):
+        return (declared(crate, path[-1], tuple(path[1:-1]), is_macro)
+                or declared(crate, path[-2], tuple(path[1:-2]), is_macro))
+    return ("kit", (crate, path[-1])) if crate in kit_crates() else None
+
+
+def is_inside(file, head):
+    """Whether a path that begins so stays in the crate of the file."""
+    return head in ("crate", "self", "super") or ("type", head) in rust_items(file.crate)
+
+
+def resolve_bare(file, name, is_macro):
+    """A name that no `use` line brings: that of the file or its crate, or one of std's prelude."""
+    own = declared(file.crate, name, (), is_macro, file)
+    if not own and (is_macro or name in PRELUDE):
+        return "kit", ("std", name + "!" * is_macro)
+    return own or declared(file.crate, name, (), is_macro)
+
+
+def declared(crate, name, module, is_macro, file=None):
+    """An item of this name; where a file is given, one that is declared in it."""
+    for form in ("macro",) if is_macro else ("type", "alias", "const", "trait"):
+        found = rust_items(crate).get((form, name), [])
+        if any(file in (None, of) for of, _ in found):
+            return rust_definition(crate, form, name,
+                                   file.path.with_suffix("").parts if file else module), None
     return None
 
 
 # ---- reading
+
+
+class KitType(NamedTuple):
+    """A type of the kit, of which no field is known."""
+    crate: str
+    name: str
+    fields = {}
+
+
+def kit_type(got):
+    """The type of the kit that a name stands for. Those of std have the fields of KIT_FIELDS."""
+    return KitType(*got[1]) if got and got[0] == "kit" and got[1][0] != "std" else None
 
 
 class Cites:
@@ -82,25 +141,28 @@ class Cites:
         self.definitions = {}  # definition -> whether it stands only where it is promised
         self.members = set()  # (definition or None, field)
         self.kit = set()
+        self.lemmas = set()  # names of proofs/
         self.labels = []  # (definition or None, field, what is put there, its words)
 
     def take(self, is_read):
         """These with what is put into fields that are read; and the words of the others."""
         whole, others = Cites(), []
-        whole.definitions.update(self.definitions)
-        whole.members |= self.members
-        whole.kit |= self.kit
+        whole.add(self)
         for kind, field, cites, words in self.labels:
             if not is_read(kind, field):
                 others += words
                 continue
             inner, more = cites.take(is_read)
             others += more
-            for it, promised in inner.definitions.items():
-                whole.definitions[it] = whole.definitions.get(it, True) and promised
-            whole.members |= inner.members
-            whole.kit |= inner.kit
+            whole.add(inner)
         return whole, others
+
+    def add(self, other):
+        for it, promised in other.definitions.items():
+            self.definitions[it] = self.definitions.get(it, True) and promised
+        self.members |= other.members
+        self.kit |= other.kit
+        self.lemmas |= other.lemmas
 
 
 class Frame:
@@ -108,17 +170,17 @@ class Frame:
 
     def __init__(self, kind, cites=None, record=None):
         self.kind, self.cites, self.record = kind, cites, record
-        self.names, self.lets, self.head, self.count, self.binds = {}, [], None, 0, None
+        self.names, self.head, self.count, self.binds = {}, None, 0, None
 
 
 class Reader:
     """Goes through the words of a term, and keeps which names are bound where."""
 
-    def __init__(self, file, own, generics=None):
-        self.file, self.own, self.generics = file, own, generics or {}
+    def __init__(self, it):
+        self.file, self.own, self.generics = it.scope, it, it.generics
         self.cites = Cites()
         self.frames = [Frame("top")]
-        self.where = ""
+        self.where = f"{it.file.crate}/{it.file.short()}, {it.name}"
 
     # names
 
@@ -153,7 +215,10 @@ class Reader:
     def cite(self, got, promised=True):
         if got[0] == "kit":
             self.cites.kit.add(got[1])
+        elif got[0] == "proofs":
+            self.cites.lemmas.add(got[1])
         else:
+            promised = promised and not self.premise
             it = got[0]
             self.cites.definitions[it] = self.cites.definitions.get(it, True) and promised
 
@@ -164,36 +229,47 @@ class Reader:
 
     def type_head(self, words):
         """The definition at the head of a type, if there is one."""
+        if isinstance(words, RustType):
+            return self.type_named(words)
         words = [word for word in words if word != "("]
         if not words or not re.match(r"[^\W\d«]", words[0]) or "→" in words or "×" in words:
             return None
         return self.as_type(None if self.bound(words[0]) else self.look_from(words[0]))
 
+    def type_named(self, kind):
+        """The same of a type as src/ writes it."""
+        names = [name for name in kind.names() if name not in self.generics]
+        return self.as_type(resolve_rust(self.file, names[0])) if len(names) == 1 else None
+
     def as_type(self, got):
-        if not got or got[0] == "kit":
-            return None
+        if not got or is_kit(got):
+            return kit_type(got)
         if got[0].form == "function":
             return meaning_of(got[0])
+        if got[0].form == "alias":
+            return Reader(got[0]).type_named(got[0].kind)
         return value_of_model(got[0]) if got[0].form in ("record", "type", "model") else None
 
     def fields_of(self, kind, fields):
         """Goes along fields from a value of this type, or of an unknown one."""
         for field in fields:
-            if kind is None or field not in kind.fields:
-                self.cites.members.add((None, field))
-                kind = None
-            else:
+            if kind and field in kind.fields:
                 self.cites.members.add((kind, field))
                 kind = kind_of_field(kind, field)
+            elif isinstance(kind, KitType):
+                if field not in STATES and not NUMBER.match(field):
+                    self.cites.kit.add((kind.crate, f"{kind.name}.{field}"))
+                kind = None
+            elif not kind or field not in STATES:
+                self.cites.members.add((None, field))
+                kind = None
         return kind
 
     def result_of(self, got):
         """The type of what a function gives."""
-        if not got or got[0] == "kit" or got[0].form != "function" or got[1]:
+        if not got or is_kit(got) or got[0].form != "function" or got[1]:
             return None
-        it = got[0]
-        last = split_at(it.words[None][0][1], "→")[-1]
-        return Reader(it.file, it).type_head(last)
+        return Reader(got[0]).type_head(split_at(signature_of(got[0]), "→")[-1])
 
     # binders
 
@@ -244,7 +320,13 @@ class Reader:
     # terms
 
     def term(self, words):
-        """Reads the words of a term in the frame that is open."""
+        """Reads a term. What it binds is bound in it alone."""
+        self.frames.append(Frame("term"))
+        self.open_term(words)
+        self.frames.pop()
+
+    def open_term(self, words):
+        """Reads words whose names are bound in what follows too."""
         depth, k = len(self.frames), 0
         while k < len(words):
             k = self.step(words, k)
@@ -264,19 +346,16 @@ class Reader:
             self.unknown("elim")
         if word == "let":
             return self.let(words, k)
-        if word == "in" and frame.lets:
-            for name, kind in frame.lets.pop():
+        if word == "in" and frame.kind == "let":
+            self.frames.pop()
+            for name, kind in frame.binds:
                 self.bind(name, kind)
             return k + 1
         if following == "←":
             self.bind(word)
             return k + 2
         if word in ";,":
-            frame.count = 0 if word == ";" else 2
-            frame.head = None
-            if word == ";" and frame.kind == "fields":
-                self.cites = frame.cites
-            return k + 1
+            return self.next_part(word, k)
         if frame.kind == "fields" and frame.count == 0 and following == "=":
             return self.label(words, k)
         if frame.kind == "implicit" and following == "=":
@@ -284,6 +363,15 @@ class Reader:
             return k + 2
         frame.count += 1
         self.name(words, k)
+        return k + 1
+
+    def next_part(self, mark, k):
+        """Behind a comma or a semicolon what stood before it binds nothing."""
+        frame = self.frames[-1]
+        frame.count = 0 if mark == ";" else 2
+        frame.head, frame.names = None, {}
+        if mark == ";" and frame.kind == "fields":
+            self.cites = frame.cites
         return k + 1
 
     def label(self, words, k):
@@ -302,19 +390,22 @@ class Reader:
         return k + 2
 
     def let(self, words, k):
+        """Opens a frame for what is put into names, which are bound behind its `in`."""
         k += 1
         if words[k] == "(":
             end = self.closing(words, k)
-            names = [(w, None) for w in words[k + 1:end] if PLAIN.match(w)]
+            names = [w for w in words[k + 1:end] if PLAIN.match(w)]
         else:
-            end, names = k, [(words[k], None)]
-        self.frames[-1].lets.append(names)
+            end, names = k, [words[k]]
+        kind = None
         k = end + 1
         if words[k] == ":":
             equals = words.index("=", k)
             self.term(words[k + 1:equals])
-            names[:] = [(n, self.type_head(words[k + 1:equals])) for n, _ in names]
+            kind = self.type_head(words[k + 1:equals])
             k = equals
+        self.frames.append(Frame("let"))
+        self.frames[-1].binds = [(name, kind) for name in names]
         return k + 1
 
     def open(self, words, k):
@@ -332,6 +423,7 @@ class Reader:
             return colon + 1
         return k + 1
 
+    premise = False  # whether what is read is assumed, and not promised
     record_waits = False  # whether the next brace has fields, and of which record, if that is known
     record_kind = expected = None
     in_head = False
@@ -363,7 +455,8 @@ class Reader:
         word = words[k]
         if word == "record":
             self.record_waits = True
-            self.record_kind = self.expected if k == 0 or words[k - 1] == "=" else None
+            is_expected = isinstance(self.expected, Definition) and (k == 0 or words[k - 1] == "=")
+            self.record_kind = self.expected if is_expected else None
         if word[0] == '"' or word in BUILT_IN or NUMBER.match(word) or word == ".":
             return
         if word == "do":
@@ -382,8 +475,9 @@ class Reader:
                 self.cites.members.add((self.own, head))
             self.fields_of(kind, fields)
             return
-        if head in self.generics and fields:
-            self.generic(head, fields)
+        if head in self.generics:
+            if fields:
+                self.generic(head, fields)
             return
         if head in self.file.modules and fields:
             got = resolve_in(self.file.modules[head], fields[0])
@@ -394,26 +488,31 @@ class Reader:
             self.unknown(word)
         if frame.count == 1:
             frame.head = got
-        if fields and got[0] != "kit" and fields[0] in got[0].makers:
+        if fields and not is_kit(got) and fields[0] in got[0].makers:
             fields = fields[1:]
         self.cite(got, self.promised_at(words, k))
-        self.fields_of(self.result_of(got), fields)
+        self.fields_of(KitType(*got[1]) if got[0] == "kit" else self.result_of(got), fields)
 
     def generic(self, head, fields):
         """A ghost member of a bound, as `S.left` under `S: Source`."""
-        for bound in self.generics[head].split(" + "):
-            got = resolve_rust(self.file, bound)
-            if got and got[0] != "kit" and fields[0] in got[0].fields:
+        bounds = [resolve_rust(self.file, name) for bound in self.generics[head]
+                  for name in bound.names()]
+        for got in bounds:
+            own = None if not got or is_kit(got) else trait_with(got[0], fields[0])
+            if own:
                 self.cite(got)
+                self.cite((own, None))
                 return
-        self.unknown(f"{head}.{fields[0]}")
+        kits = [got for got in bounds if got and is_kit(got)]
+        self.cite(kits[0] if kits else self.unknown(f"{head}.{fields[0]}"))
 
     def implementation(self, word):
         kind, trait = re.match(r"⟦<(\w+).* as (\w+)>⟧", word).groups()
         got = self.look(kind)
-        self.cite(resolve_rust(self.file, trait) or resolve_rust(got[0].file, trait)
-                  or self.unknown(word))
-        self.cite((implementation(got[0], trait), None))
+        of = resolve_rust(self.file, trait) or resolve_rust(got[0].file, trait)
+        self.cite(of or self.unknown(word))
+        if not is_kit(of):
+            self.cite((implementation(got[0], of[0]), None))
 
     # patterns
 
@@ -447,15 +546,8 @@ class Reader:
             self.pattern(words, [])
             return
         self.cite(maker)
-        types = maker[0].makers.get(maker[1], []) if maker[0] != "kit" else []
-        inside = Reader(maker[0].file, maker[0]) if types else None
-        self.pattern(words[1:], [inside.argument(t) for t in types])
-
-    def argument(self, words):
-        if isinstance(self.file, Rust):
-            named = [w for w in words if w[0].isupper()]
-            return self.as_type(resolve_rust(self.file, named[0])) if len(named) == 1 else None
-        return self.type_head(words)
+        types = [] if is_kit(maker) else maker[0].makers.get(maker[1], [])
+        self.pattern(words[1:], [Reader(maker[0]).type_head(kind) for kind in types])
 
     def constructor(self, word):
         """A constructor, if the word is one."""
@@ -465,7 +557,7 @@ class Reader:
         if fields and head in self.file.modules:
             return resolve_in(self.file.modules[head], fields[0])
         got = self.look(head)
-        return got if got and (got[0] == "kit" or got[1]) else None
+        return got if got and (is_kit(got) or got[1]) else None
 
     def one(self, word, kind):
         """A pattern of one word; 1 where it stands for an argument."""
@@ -486,113 +578,131 @@ class Reader:
         """A clause of a function: its patterns, and its body."""
         sides = split_at(words, "=")
         left, right = sides[0], words[len(sides[0]) + 1:]
-        kinds = [self.type_head(part) for part in split_at(self.own.words[None][0][1], "→")]
+        signature = signature_of(self.own)
+        kinds = [self.type_head(part) for part in split_at(signature, "→")]
         self.frames.append(Frame("clause"))
         if "◌" in self.own.name:
             self.pattern([w for w in left if w not in pieces_of_operator(self.own.name)], kinds)
         else:
-            self.pattern(left[1:], [] if "{" in self.own.words[None][0][1][:1] else kinds)
+            self.pattern(left[1:], [] if "{" in signature[:1] else kinds)
         self.expected = self.result_of((self.own, None))
         self.term(right)
         self.frames.pop()
 
-    def read(self, kind, words):
-        if kind == "clause":
-            self.clause(words)
-        elif kind == "rust":
-            for word in words:
-                got = resolve_rust(self.file, word)
-                self.cite(got or self.unknown(word))
-        elif kind == "clause of a trait":
-            names, words = words
-            self.frames.append(Frame("clause"))
-            for name in names + list(self.own.fields):
-                self.bind(name)
-            self.term(words)
-            self.frames.pop()
+    def contract(self, said):
+        """A term over parameters, of which the types are cited that it names."""
+        self.frames.append(Frame("contract"))
+        named = {word.split(".")[0] for word in said.words}
+        for name, kind in said.params.items():
+            self.bind(name, self.type_head(kind))
+            if name in named and isinstance(kind, RustType):
+                self.rust(kind.names())
+        self.term(said.words)
+        self.frames.pop()
+
+    def rust(self, names):
+        """Names of src/, of which those of type parameters stand for nothing."""
+        for name in names:
+            if name.split("::")[0] not in ("Self", *self.generics):
+                self.cite(resolve_rust(self.file, name) or self.unknown(name))
+
+    def read(self, said):
+        self.premise = said.premise
+        if said.kind == "head":
+            self.open_term(said.words)
+        elif said.kind == "clause":
+            self.clause(said.words)
+        elif said.kind == "contract":
+            self.contract(said)
+        elif said.kind == "rust":
+            self.rust(said.words)
+        elif said.kind == "default":
+            for it in impls_by_default(self.file, *said.words):
+                self.cite((it, None))
         else:
-            self.term(words)
+            self.term(said.words)
+
+
+def signature_of(it):
+    return it.words[None][0].words
+
+
+def trait_with(trait, member):
+    """The trait that has this ghost member: this one or one below it."""
+    if member in trait.fields:
+        return trait
+    for bound in trait.supers:
+        got = resolve_rust(trait.scope, bound.names()[0])
+        found = None if not got or is_kit(got) else trait_with(got[0], member)
+        if found:
+            return found
+    return None
 
 
 def value_of_model(it):
     """What clauses see in place of a type."""
     if it.form != "model":
         return it
-    got = Reader(it.scope, it).look(it.value)
-    return got[0] if got and got[0] != "kit" else None
+    got = Reader(it).look(it.value)
+    return got[0] if got and not is_kit(got) else None
 
 
 @lru_cache(maxsize=None)
 def meaning_of(it):
     """The type that a function of one clause names, as an abbreviation of it."""
     cases = [part for part in it.parts if part]
-    if len(cases) != 1 or [*split_at(it.words[None][0][1], "→")[-1]] != ["Type", "0"]:
+    if len(cases) != 1 or [*split_at(signature_of(it), "→")[-1]] != ["Type", "0"]:
         return None
-    return Reader(it.file, it).type_head(split_at(it.words[cases[0]][0][1], "=")[1])
+    return Reader(it).type_head(split_at(it.words[cases[0]][0].words, "=")[1])
 
 
 @lru_cache(maxsize=None)
 def kind_of_field(it, field):
-    reader = Reader(it.file, it)
-    return reader.argument(it.fields[field])
+    return Reader(it).type_head(it.fields[field])
+
+
+def impls_by_default(file, kind, bound):
+    """The impls of a bound and its supertraits for the type that a parameter is by default."""
+    of, trait = (resolve_rust(file, name.names()[0]) for name in (kind, bound))
+    queue = [trait]
+    while queue:
+        trait = queue.pop()
+        if trait and not is_kit(trait):
+            yield implementation(of[0], trait[0])
+            queue += [resolve_rust(trait[0].scope, below.names()[0]) for below in trait[0].supers]
 
 
 def implementation(kind, trait):
     """The ghost members that a type has for a trait."""
-    return implementation_in(kind.file.crate, kind.name, trait)
-
-
-def implementation_named(crate, name):
-    """Those of an impl by the name that the check gives it: that of the type, then of the trait."""
-    found = [(kind, form[5:]) for form, kind in rust_items(crate)
-             if form.startswith("impl ") and kind + form[5:] == name]
-    if len(found) != 1:
-        fail(f"{crate}: {len(found)} impls {name}")
-    return implementation_in(crate, *found[0])
-
-
-@lru_cache(maxsize=None)
-def implementation_in(crate, kind, trait):
-    found = rust_items(crate).get((f"impl {trait}", kind), [])
-    if len(found) != 1:
-        fail(f"{crate}: {len(found)} impls of {trait} for {kind}")
-    file, start = found[0]
-    scope, end = impl_from(file, start)
-    it = Definition(file, f"{trait} for {kind}", "impl")
-    ghosts = [n for n in range(start, end) if re.match(r"\s*ghost \w+ =", file.text[n])]
-    it.scope = scope
-    it.parts[None] = {start, *ghosts}
-    it.words[None] = [("rust", [trait]),
-                      *(("term", words_of(file.text[n].split("=", 1)[1].strip("{} ;")))
-                        for n in ghosts)]
-    return it
+    crates = tuple(dict.fromkeys((kind.file.crate, trait.file.crate)))
+    return implementation_in(crates, kind.name, trait.name)
 
 
 @lru_cache(maxsize=None)
 def cites_of(it, part):
     """What a part of a definition cites."""
-    reader = Reader(getattr(it, "scope", it.file), it, getattr(it, "generics", None))
-    reader.where = f"{it.file.crate}/{it.file.short()}, {it.name}"
-    if it.form == "trait":
-        for name in ["Self", *it.fields]:
-            reader.bind(name)
-    if it.form in ("call", "model"):
-        for name in it.names:
-            reader.bind(name)
-    if it.form == "call":
-        reader.bind("result", reader.argument(it.result) if it.result else None)
+    reader = Reader(it)
+    for name in it.names:
+        reader.bind(name)
     if it.params:
-        reader.term(it.params.words[None][0][1])
+        reader.open_term(it.params.words[None][0].words)
         reader.cite((it.params, None))
     if it.form == "record":
         reader.in_head = True
-        reader.term(it.words[None][0][1])
+        reader.read(it.words[None][0])
         reader.in_head = False
         if part is None:
             return reader.cites
         reader.cites = Cites()
-        for field in it.fields:
+        for field in fields_before(it, part):
             reader.frames[0].names[field] = (kind_of_field(it, field), True)
-    for kind, words in it.words[part]:
-        reader.read(kind, words)
+    for said in it.words[part]:
+        reader.read(said)
     return reader.cites
+
+
+def fields_before(it, part):
+    """The fields of a record that the type of this one may name."""
+    fields = [*it.fields]
+    return [field for field in fields[:fields.index(part)]
+            if it.fields[field] is not it.fields[part]]

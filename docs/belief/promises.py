@@ -1,0 +1,105 @@
+"""The promises that docs/TRUST.md has tables for."""
+from typing import NamedTuple
+
+
+class Promise(NamedTuple):
+    """A promise: its name, its head, what it says, its clauses, and what is read in part."""
+    name: str
+    head: str
+    said: str
+    clauses: list
+    chosen: dict = {}
+
+
+# What all promises on a printed history read.
+PRINTED = {
+    "IsCarriedOut": "headline run any_status",
+    "AsksFor": "-Plan -Make -Trial",
+    "Headline": "read ran text",
+    "IsReadWhole": "told ended",
+    "Jobs.IsJob": "lines",
+}
+
+PROMISES = [
+    Promise("history", "History of a run or a replay", """
+If the arguments ask for a run or a replay and the status is 0, there is one history: starts of
+cycles, and each command with its reply. Each reply is that of the heap that never frees, on the
+graph that the earlier commands left; only an allocation may be answered `full` instead. The history
+has each thread's commands in the order of its trace. If the source reveals its bytes, they are that
+job and were read to the end; if the sink does, the text of that history was appended.""",
+            ["rtheap_core::rtheap.done"],
+            {**PRINTED, "HasHistory": "is_run", "IsRun": "legal traces_whole"}),
+    Promise("work", "Exact work", """
+Each entry of that history has the units that its command owes: for an allocation of k blocks k
+times the job's rate, for `idle u` u, for any other command 0. One list of turns of the machine
+makes that history, and entry k of a thread has as many units as the thread has unit turns in the
+list while its log has k entries.""",
+            ["rtheap_core::rtheap.done"],
+            {**PRINTED, "HasHistory": "is_rate is_run same parts_logged",
+             "IsRun": "legal traces_whole right_work", "IsFinished": "each"}),
+    Promise("full", "Licensed `full`", """
+`full c` names the previous cycle, or cycle 1 in the first, and more blocks than the job's live
+limit were live when that cycle began. If no cycle began with more, no entry is `full`.""",
+            ["rtheap_core::rtheap.done", "rtheap_core::rtheap.never_full"],
+            {**PRINTED, "HasHistory": "is_run", "IsRun": "legal traces_whole licensed"}),
+    Promise("bound", "Bound of a lone thread", """
+If nobody is inside the heap, the gate is open and from then on one thread alone has turns, its
+command ends within the bound, and none of those turns waits. That holds for each command
+(`command_bound`), and for an allocation with the tighter bound too (`near_bound`).""",
+            ["heap_system::a_lone_thread_ends_its_command",
+             "heap_system::a_lone_allocation_ends_near_its_bound"]),
+    Promise("checker", "Order checker", """
+If the source reveals its bytes, `due` is 0 only if they are a job that has a rate, followed by the
+lines, in order, of a history of that job in which a cycle may start anywhere; and 9 only if a line
+of the order is the first that is wrong, or all are right and none has the totals. Without
+arguments, such bytes have that `due`, unless it is 5 or 7. The status is `due`, or 6.""",
+            ["rt_check::check"],
+            {"IsCarriedOut": "ended", "IsEnded": "done refused any_status caused fine",
+             "IsRefused": "refusal is_due cause", "IsAnswerTo": "-TooLong -BadLine",
+             "IsCause": "-Usage -ReadFault -OutOfMemory -TooLong",
+             "IsAnswerOf": "-LiveTooSmall -NoRate"}),
+    Promise("control", "Heap of one thread, as a library", """
+A command is answered within the bound of a lone thread, in turns and in operations on the memory; a
+refused one changes nothing. All requests have one legal history with exact work, in which each
+`full` is licensed. From any moment on, once more than 4m units were made on m blocks, no allocation
+is answered `full` if each cycle that began since that moment began within the live limit
+(`full_heaps_come_back`).""",
+            ["control_heap::ControlHeap::open", "control_heap::ControlHeap::ask",
+             "control_heap::ControlHeap::request", "control_heap::laws"]),
+    Promise("shared", "Heap of several threads, as a library", """
+Between any two steps the answers so far fit one legal history with exact work, in which each `full`
+is licensed; at `close` there is that of the whole life. The entry of a command comes after
+everything that its worker had seen and after every note that it had learned. If all workers are at
+rest, and one of them is then asked and alone has turns, its command ends within the bound of a lone
+thread.""",
+            ["shared_heap::SharedHeap::open", "shared_heap::SharedHeap::ask",
+             "shared_heap::SharedHeap::request", "shared_heap::SharedHeap::note",
+             "shared_heap::SharedHeap::learn", "shared_heap::SharedHeap::close",
+             "shared_heap::laws"]),
+    Promise("live_tags", "Table of tags, as a library", """
+Every operation is answered as on a plain table, in one order that keeps each worker's own order and
+that of notes.""",
+            ["live_tags::LiveTags::open", "live_tags::LiveTags::write",
+             "live_tags::LiveTags::clear", "live_tags::LiveTags::read",
+             "live_tags::LiveTags::note", "live_tags::LiveTags::learn",
+             "live_tags::LiveTags::close", "live_tags::laws"]),
+    Promise("from_c", "Calls from C", """
+Each command is answered as by `ControlHeap::ask`, with a number of its own for each status and each
+reply; a call with another status than 0 changes neither heap nor reply. What C owes in return is in
+the type of the handle: one that begins with the mark owns the heap that its pointer leads to.""",
+            ["control_heap_c::exports", "control_heap_c::laws"]),
+    Promise("tags", "Tags of a script", """
+The answers are those of a plain table on which the operations are done one after the other, in one
+order that keeps each thread's order in the script.""",
+            ["rt_tags::tags"]),
+    Promise("handles", "Handles of a script", """
+The outcomes are those of plain slots on which the operations are done one after the other, in one
+order that keeps each thread's order in the script. A handle is stale exactly if its make was
+answered `taken`, or it was dropped or evicted.""",
+            ["rt_handles::handles"]),
+    Promise("mail", "Numbers sent to a second heap", """
+The numbers that a thread's `say` commands answered on the first heap are taken in order and each
+once, and a line shows how many they are and the last of them, at most eight, as the second heap
+answers them.""",
+            ["rt_mail::mail"]),
+]
