@@ -5,7 +5,8 @@ import re
 from functools import lru_cache
 
 from files import NUMBER, PLAIN, TOP, antt_file, fail, split_at
-from reading import BUILT_IN, Reader, cites_of, fields_before, impls_by_default, is_kit
+from names import is_kit
+from reading import BUILT_IN, Reader, cites_of, fields_before, impls_by_default
 from text import RustType
 
 

@@ -4,7 +4,7 @@ import re
 from audit import audit
 from closure import Belief
 from files import TOP, antt_file, fail, is_own
-from reading import resolve_own
+from names import resolve_own
 from rust import call_definition, rust_items
 
 

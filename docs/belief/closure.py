@@ -3,7 +3,8 @@ import sys
 from functools import lru_cache
 
 from files import NUMBER, fail, split_at
-from reading import KIT_FIELDS, Reader, cites_of, is_kit, signature_of
+from names import is_kit
+from reading import KIT_FIELDS, Reader, cites_of, signature_of
 
 # ---- what is cited
 

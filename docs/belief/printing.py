@@ -44,14 +44,13 @@ def lines_of_words(text, first="", more="", width=100):
     """The words of a text in lines of at most so many bytes, the first of which begins with `first`
     and the others with `more`."""
     lines = [first]
-    begun = False
     for word in text.split():
-        longer = f"{lines[-1]} {word}" if begun else lines[-1] + word
-        if len(longer.encode()) <= width or not begun:
+        is_new = lines[-1] in (first, more)
+        longer = lines[-1] + word if is_new else f"{lines[-1]} {word}"
+        if len(longer.encode()) <= width or lines[-1] == more:
             lines[-1] = longer
         else:
             lines.append(more + word)
-        begun = True
     return lines
 
 
@@ -66,7 +65,7 @@ def table(heads, rows):
         front = "".join(f"| {cell} " for cell in cells)
         more = "| " * len(cells)
         said = lines_of_words(str(last).replace("|", "\\|"), front + "| ", more + "| ", 98)
-        lines += [line + " |" if last != "" else front + "| |" for line in said]
+        lines += [f"{line.rstrip()} |" for line in said]
     return lines
 
 

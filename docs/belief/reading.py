@@ -1,11 +1,11 @@
-"""What a definition cites: its words, and what each name stands for there."""
+"""What a definition cites: its words, and which names are bound among them."""
 import re
 from functools import lru_cache
 from typing import NamedTuple
 
-from files import (NUMBER, PLAIN, TOP, Antt, Definition, antt_file, fail, is_own, kit_crates,
-                   pieces_of_operator, split_at)
-from rust import (Rust, implementation_in, impls_named, rust_definition, rust_items)
+from files import NUMBER, PLAIN, Antt, Definition, fail, pieces_of_operator, split_at
+from names import is_kit, resolve_in, resolve_own, resolve_rust
+from rust import Rust, implementation_in
 from text import RustType
 
 # words of the language itself
@@ -14,111 +14,6 @@ BUILT_IN = set("→ × ⊥ ¬ Unit tt absurd Type record let in as : = λ do ←
 STATES = set("now old new entry exit".split())
 # what a clause reads off a value of the kit: such a state, the elements of a list
 KIT_FIELDS = STATES | {"items"}
-# what std brings into each file of src/
-PRELUDE = set("""Option Some None Result Ok Err Vec String Box Drop Clone Copy Send Sync Sized Fn
-    FnMut FnOnce Iterator IntoIterator From Into HostRuntime""".split())
-
-# ---- names
-
-
-@lru_cache(maxsize=None)
-def resolve_in(path, name):
-    """The name in a module: a definition and a constructor or None, or 'kit' or 'proofs' and the
-    crate with the word."""
-    if path[0] != "Rattle":
-        return "kit", (path[0], name)
-    crate, inside = path[1], path[2:]
-    if not is_own(crate):
-        return "kit", (crate, name)
-    if inside[:2] == ("specs", "declared"):
-        return resolve_declared(crate, inside[2:], name)
-    if inside[:2] == ("specs", "contracts"):  # what the check makes of a type or an impl
-        if inside[-1] == "TheImpl":
-            return implementation_named(crate, inside[-2]), None
-        return resolve_declared(crate, inside[2:], inside[-1])
-    if inside[0] == "proofs":
-        return "proofs", (crate, name)
-    home = TOP.joinpath("crates", crate, *inside)
-    if not home.with_suffix(".antt").exists():
-        return antt_file(home.parent.with_suffix(".antt")).definitions[home.name], name
-    file = antt_file(home.with_suffix(".antt"))
-    got = resolve_own(file, name)
-    if not got and name not in file.names:
-        fail(f"{file.path}: no {name}")
-    return got or resolve_in(*file.names[name])
-
-
-def resolve_own(file, name):
-    if name in file.definitions:
-        return file.definitions[name], None
-    for it in file.definitions.values():
-        if name in it.makers:
-            return it, name
-    return None
-
-
-def resolve_declared(crate, inside, name):
-    if inside[-1] == "TheConstants":
-        return rust_definition(crate, "const", name), None
-    if inside[-1] == "TheVariants":
-        return rust_definition(crate, "type", inside[-2], tuple(inside[:-2])), name
-    if ("alias", name) in rust_items(crate):
-        return rust_definition(crate, "alias", name, tuple(inside[:-1])), None
-    return rust_definition(crate, "type", name, tuple(inside[:-1])), None
-
-
-def implementation_named(crate, name):
-    found = impls_named(crate, name)
-    if len(found) != 1:
-        fail(f"{crate}: {len(found)} impls {name}")
-    return implementation_in((crate,), *found[0])
-
-
-def is_kit(got):
-    """Whether a name stands for no definition that can be listed."""
-    return got[0] in ("kit", "proofs")
-
-
-def resolve_rust(file, name):
-    """A name of Rust or a path, as a file of src/ sees it."""
-    is_macro = name.endswith("!")
-    head, *rest = name.rstrip("!").split("::")
-    path = [*file.uses.get(head, (head,)), *rest]
-    if len(path) == 1:
-        return resolve_bare(file, head, is_macro)
-    if path[0] in file.children:
-        path.insert(0, "self")
-    crate = file.crate if is_inside(file, path[0]) else path[0]
-    if is_own(crate):
-        return (declared(crate, path[-1], tuple(path[1:-1]), is_macro)
-                or declared(crate, path[-2], tuple(path[1:-2]), is_macro))
-    return ("kit", (crate, path[-1])) if crate in kit_crates() else None
-
-
-def is_inside(file, head):
-    """Whether a path that begins so stays in the crate of the file."""
-    return head in ("crate", "self", "super") or ("type", head) in rust_items(file.crate)
-
-
-def resolve_bare(file, name, is_macro):
-    """A name that no `use` line brings: that of the file or its crate, or one of std's prelude."""
-    own = declared(file.crate, name, (), is_macro, file)
-    if not own and (is_macro or name in PRELUDE):
-        return "kit", ("std", name + "!" * is_macro)
-    return own or declared(file.crate, name, (), is_macro)
-
-
-def declared(crate, name, module, is_macro, file=None):
-    """An item of this name; where a file is given, one that is declared in it."""
-    for form in ("macro",) if is_macro else ("type", "alias", "const", "trait"):
-        found = rust_items(crate).get((form, name), [])
-        if any(file in (None, of) for of, _ in found):
-            return rust_definition(crate, form, name,
-                                   file.path.with_suffix("").parts if file else module), None
-    return None
-
-
-# ---- reading
 
 
 class KitType(NamedTuple):
@@ -467,30 +362,33 @@ class Reader:
             return
         if word.startswith("."):
             return  # read where its bracket closed
-        frame = self.frames[-1]
         head, *fields = [word] if not re.match(r"[^\W\d«]", word) else word.split(".")
         if self.bound(head):
             kind, own = self.bound(head)
             if own:
                 self.cites.members.add((self.own, head))
             self.fields_of(kind, fields)
-            return
-        if head in self.generics:
+        elif head in self.generics:
             if fields:
                 self.generic(head, fields)
-            return
+        else:
+            self.free(head, fields, self.promised_at(words, k))
+
+    def free(self, head, fields, promised):
+        """A name that is not bound."""
+        frame = self.frames[-1]
         if head in self.file.modules and fields:
             got = resolve_in(self.file.modules[head], fields[0])
             fields = fields[1:]
         else:
             got = self.look(head)
         if not got:
-            self.unknown(word)
+            self.unknown(".".join([head, *fields]))
         if frame.count == 1:
             frame.head = got
         if fields and not is_kit(got) and fields[0] in got[0].makers:
             fields = fields[1:]
-        self.cite(got, self.promised_at(words, k))
+        self.cite(got, promised)
         self.fields_of(KitType(*got[1]) if got[0] == "kit" else self.result_of(got), fields)
 
     def generic(self, head, fields):

@@ -95,7 +95,8 @@ def module_of(file):
 def rust_item(form, name, file, start):
     it = Definition(file, name, form)
     end = file.block_from(start)
-    it.parts[None] = {*range(start, end + 1)} | file.comments_above(start)
+    lines = [n for n in range(start, end + 1) if not re.match(r"\s*ghost use ", file.text[n])]
+    it.parts[None] = {*lines} | file.comments_above(start)
     it.words[None] = []
     text = re.sub(r"#\[[^\]]*\]", "", file.code(start, end))
     at = text.index(name) + len(name)

@@ -108,8 +108,7 @@ def code_lines(file):
 def program_row(crate):
     """A program: its main file, the calls that it makes of this repository, and its streams."""
     file = rust_file(main_of(crate))
-    calls = sorted(f"{path[0]}::{name}" for name, path in file.uses.items()
-                   if is_own(path[0]) and ("fn", path[-1]) in rust_items(path[0]))
+    calls = sorted(calls_of(file))
     streams = []
     for word in STREAMS:
         at = [str(n + 1) for n, line in enumerate(file.text) if word in line]
@@ -117,6 +116,17 @@ def program_row(crate):
             streams.append(f"`{word.split('::')[0].strip('.(')}` {', '.join(at)}")
     return (f"`{crate}`", code_lines(file), "; ".join(streams) or "none",
             ", ".join(f"`{call}`" for call in calls))
+
+
+def calls_of(file):
+    """The functions of this repository that a file calls, but for those of streams."""
+    text = "\n".join(file.text)
+    for name, path in file.uses.items():
+        if is_own(path[0]) and ("fn", path[-1]) in rust_items(path[0]):
+            yield f"{path[0]}::{name}"
+        elif is_own(path[0]) and not name.startswith("Std"):
+            for method in set(re.findall(rf"\b{name}::([a-z]\w*)\(", text)):
+                yield f"{path[0]}::{name}::{method}"
 
 
 def stream_rows():
