@@ -77,8 +77,8 @@ thread.""",
              "shared_heap::SharedHeap::learn", "shared_heap::SharedHeap::close",
              "shared_heap::laws"]),
     Promise("live_tags", "Table of tags, as a library", """
-Every operation is answered as on a plain table, in one order that keeps each worker's own order and
-that of notes.""",
+Every operation is answered as on a plain table, in one order. It keeps each worker's own order, and
+an operation comes after all that its worker had learned of by notes.""",
             ["live_tags::LiveTags::open", "live_tags::LiveTags::write",
              "live_tags::LiveTags::clear", "live_tags::LiveTags::read",
              "live_tags::LiveTags::note", "live_tags::LiveTags::learn",

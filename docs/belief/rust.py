@@ -245,15 +245,18 @@ def impls_named(crate, name):
             if form.startswith("impl ") and kind + form[5:] == name]
 
 
-@lru_cache(maxsize=None)
 def implementation_in(crates, kind, trait):
     """The ghost members that a type has for a trait, by an impl in one of these crates."""
     found = [one for crate in crates for one in rust_items(crate).get((f"impl {trait}", kind), [])]
     if len(found) != 1:
         fail(f"{', '.join(crates)}: {len(found)} impls of {trait} for {kind}")
-    file, start = found[0]
+    return impl_item(*found[0])
+
+
+@lru_cache(maxsize=None)
+def impl_item(file, start):
     end = file.block_from(start)
-    generics, _, _ = impl_header(file, start)
+    generics, trait, kind = impl_header(file, start)
     it = Definition(file, f"{trait} for {kind}", "impl")
     it.scope = scope_of(file, start, end)
     it.generics, it.names = generics.bounds, ["Self"]
