@@ -1,5 +1,5 @@
 """The page docs/TRUST.md."""
-from clauses import belief_of, words_for
+from clauses import belief_of
 from printing import counted, place, shown, sum_of, table, words_by_crate, wrapped
 from promises import PROMISES
 from trusted import trusted
@@ -66,8 +66,7 @@ def short(row):
 
 
 def clauses_line(promise):
-    words = [one for word in promise.clauses for one in words_for(word)]
-    line = "Clauses: " + ", ".join(f"`{word}`" for word in words) + "."
+    line = "Clauses: " + ", ".join(f"`{word}`" for word in promise.clauses) + "."
     read = [f"`{name}` ({', '.join(fields.split())})" for name, fields in promise.chosen.items()
             if fields[0] != "-"]
     left = [f"`{name}` without {', '.join(f[1:] for f in fields.split())}"
