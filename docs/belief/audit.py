@@ -1,6 +1,6 @@
 """A second look by other means, so that no definition is missed: each word of what is kept is
-looked up as if nothing were bound. What it stands for has to be kept, unless a binder of that name
-stands in the same definition."""
+looked up as if nothing were bound. What it refers to has to be kept, unless the same definition has
+a binder of that name."""
 import re
 from functools import lru_cache
 
@@ -11,7 +11,7 @@ from text import RustType
 
 
 def bound_in(kind, words):
-    """Each name that some binder among these words may bind, wherever it stands."""
+    """Each name that some binder among these words may bind, wherever it is."""
     names = set()
     for k, word in enumerate(words):
         following = words[k + 1] if k + 1 < len(words) else ""
@@ -42,10 +42,10 @@ def is_label(words, k):
 
 
 def stands_for(reader, word):
-    """What a word stands for where nothing is bound: a definition, or 'kit'."""
+    """What a word refers to if nothing is bound: a definition, or 'kit'."""
     got = reader.look_from(word) if re.match(r"[^\W\d«]", word) else reader.look(word)
     if not got:
-        fail(f"{reader.where}: {word} stands for nothing")
+        fail(f"{reader.where}: {word} refers to nothing")
     return "kit" if is_kit(got) else got[0]
 
 
@@ -59,7 +59,7 @@ def named_by(it, part, is_read):
 
 @lru_cache(maxsize=None)
 def names_of(it, part):
-    """The words of a part that are names, with what each stands for."""
+    """The words of a part that are names, with what each refers to."""
     reader, found = Reader(it), []
     for said in it.words[part]:
         is_rust = said.kind in ("rust", "default")

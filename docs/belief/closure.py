@@ -1,4 +1,4 @@
-"""What some clauses cite, and what that cites, to the ground."""
+"""What some clauses cite, directly or through other definitions."""
 import sys
 from functools import lru_cache
 
@@ -14,7 +14,7 @@ class Belief:
 
     def __init__(self, clauses, chosen):
         self.chosen = {name: fields.split() for name, fields in chosen.items()}
-        self.met = {}  # a name of `chosen` -> the definition that it stands for
+        self.met = {}  # a name of `chosen` -> the definition that it refers to
         self.kept = {}  # definition -> list of parts
         self.starts = [it for it, _ in clauses]
         for it, parts in clauses:
@@ -110,7 +110,7 @@ class Belief:
         return lines
 
     def order(self):
-        """The definitions, each behind those that it cites, but for circles."""
+        """The definitions, each after those that it cites, except in cycles."""
         done, seen = [], set()
 
         def visit(it):

@@ -24,7 +24,7 @@ PLAIN = re.compile(r"^[^\W\d][\w'?-]*$|^_$")
 
 
 class Word(str):
-    """A word, and the line of its file that it stands in."""
+    """A word, and its line in the file."""
     line = None
 
 
@@ -48,7 +48,7 @@ def code_of(line, mark="--"):
 
 
 def split_at(words, mark):
-    """The parts between the marks that stand in no bracket."""
+    """The parts between the marks that are in no bracket."""
     parts, depth = [[]], 0
     for word in words:
         depth += (word in "([{") - (word in ")]}")
@@ -69,7 +69,8 @@ def pieces_of_operator(name):
 class Said(NamedTuple):
     """Some words of a definition. The kinds: `head` (its names are bound in what follows), `term`,
     `signature`, `clause` (of a function of specs/), `contract` (a term over `params`, which have
-    types of src/), `rust` (names of src/) and `default` (a type, and what it stands for)."""
+    types of src/), `rust` (names of src/) and `default` (the default of a type
+    parameter, and a bound of it)."""
     kind: str
     words: list
     params: dict = {}
@@ -158,7 +159,7 @@ class Antt(File):
         self.params = None
         self.last = None
         self.others = set()  # the lines that are of no definition: `use`, `mod` and `module`
-        self.pending = []  # an operator's infix line stands before its definition
+        self.pending = []  # an operator's infix line comes before its definition
         for first, last in self.chunks():
             self.chunk(first, last)
 
@@ -272,7 +273,7 @@ class Antt(File):
 
 
 def argument_types(words):
-    """The types of a constructor's arguments, in order, of what stands before its last arrow."""
+    """The types of a constructor's arguments, in order: what is before its last arrow."""
     types = []
     for part in split_at(words, "→")[:-1]:
         if part and part[0] in "({" and ":" in part:

@@ -1,4 +1,4 @@
-"""What a name stands for: a definition of specs/, an item of src/, or a word of the kit."""
+"""What a name refers to: a definition of specs/, an item of src/, or a word of the kit."""
 from functools import lru_cache
 
 from files import TOP, antt_file, fail, is_own, kit_crates
@@ -63,7 +63,7 @@ def implementation_named(crate, name):
 
 
 def is_kit(got):
-    """Whether a name stands for no definition that can be listed."""
+    """Whether a name refers to no definition that can be listed."""
     return got[0] in ("kit", "proofs")
 
 

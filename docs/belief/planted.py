@@ -61,7 +61,7 @@ def in_specs(name, text, **wanted):
 
 PLANTS = [
     # ---- what a call requires and promises
-    Plant("what a call requires, beside one clause of it", """
+    Plant("what a call requires, asked for one clause of it", """
 pub fn call(n: u64) -> u64
     requires { IsFirst n }
     ensures done { IsSecond result }
@@ -160,7 +160,7 @@ pub record IsOwn (x : ℕ) : Type 0 where
   pub low : x ≡ limit
   pub limit : x ≡ x
 """, found="limit"),
-    in_specs("a name that is bound where it stands", SPEC + """
+    in_specs("a name that is bound where it is used", SPEC + """
 abbrev pub IsOwn : ℕ → Type 0
 IsOwn x = (limit : ℕ) → limit ≡ x
 """, found="IsOwn", absent="limit"),

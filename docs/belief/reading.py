@@ -24,7 +24,7 @@ class KitType(NamedTuple):
 
 
 def kit_type(got):
-    """The type of the kit that a name stands for. Those of std have the fields of KIT_FIELDS."""
+    """The type of the kit that a name refers to. Those of std have the fields of KIT_FIELDS."""
     return KitType(*got[1]) if got and got[0] == "kit" and got[1][0] != "std" else None
 
 
@@ -33,7 +33,7 @@ class Cites:
     cited where something reads that field."""
 
     def __init__(self):
-        self.definitions = {}  # definition -> whether it stands only where it is promised
+        self.definitions = {}  # definition -> whether it is only cited where it is promised
         self.members = set()  # (definition or None, field)
         self.kit = set()
         self.lemmas = set()  # names of proofs/
@@ -86,7 +86,7 @@ class Reader:
         return None
 
     def look(self, name):
-        """What a name that is not bound stands for, or None."""
+        """What a name that is not bound refers to, or None."""
         name = name.strip("«»")
         got = resolve_own(self.file, name) if isinstance(self.file, Antt) else None
         if got:
@@ -101,7 +101,7 @@ class Reader:
         return None
 
     def look_from(self, word):
-        """The same for a name that may stand behind that of a module."""
+        """The same for a name that may follow that of a module."""
         head, _, rest = word.partition(".")
         if rest and head in self.file.modules:
             return resolve_in(self.file.modules[head], rest.split(".")[0])
@@ -189,7 +189,7 @@ class Reader:
         self.unknown(words[k])
 
     def lambda_at(self, words, k):
-        """Binds what stands between a λ and its dot, and returns where the body begins."""
+        """Binds what is between a λ and its dot, and returns where the body begins."""
         while True:
             word = words[k]
             if word == ".":
@@ -261,7 +261,7 @@ class Reader:
         return k + 1
 
     def next_part(self, mark, k):
-        """Behind a comma or a semicolon what stood before it binds nothing."""
+        """What is before a comma or a semicolon binds nothing after it."""
         frame = self.frames[-1]
         frame.count = 0 if mark == ";" else 2
         frame.head, frame.names = None, {}
@@ -285,7 +285,7 @@ class Reader:
         return k + 2
 
     def let(self, words, k):
-        """Opens a frame for what is put into names, which are bound behind its `in`."""
+        """Opens a frame for what is put into names, which are bound after its `in`."""
         k += 1
         if words[k] == "(":
             end = self.closing(words, k)
@@ -415,7 +415,7 @@ class Reader:
     # patterns
 
     def pattern(self, words, kinds):
-        """Binds the variables of patterns that stand side by side; `kinds` are their types."""
+        """Binds the variables of a list of patterns; `kinds` are their types."""
         k, n = 0, 0
         while k < len(words):
             word = words[k]
@@ -458,7 +458,7 @@ class Reader:
         return got if got and (is_kit(got) or got[1]) else None
 
     def one(self, word, kind):
-        """A pattern of one word; 1 where it stands for an argument."""
+        """A pattern of one word. Returns how many arguments it is: 0 or 1."""
         if NUMBER.match(word) or word in ("_", ",", ":"):
             return 1
         maker = self.constructor(word)
@@ -499,7 +499,7 @@ class Reader:
         self.frames.pop()
 
     def rust(self, names):
-        """Names of src/, of which those of type parameters stand for nothing."""
+        """Names of src/; those of type parameters cite nothing."""
         for name in names:
             if name.split("::")[0] not in ("Self", *self.generics):
                 self.cite(resolve_rust(self.file, name) or self.unknown(name))

@@ -152,7 +152,7 @@ def type_item(it, text, at, line):
 
 
 def body_of(text):
-    """What stands in the first brackets of a type or a variant."""
+    """What is in the first brackets of a type or a variant."""
     got = re.match(r"[^({=;]*?[({](.*)[)}]", text, re.S)
     return got[1] if got else ""
 
@@ -165,7 +165,7 @@ def members_in(text):
 
 
 def bounds_said(generics):
-    """The bounds of type parameters, and what they come to for types that stand for these."""
+    """The bounds of type parameters, and their impls for the types that these are by default."""
     names = [name for bounds in generics.bounds.values() for bound in bounds
              for name in bound.names()]
     said = [Said("rust", names, premise=True)]

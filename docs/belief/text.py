@@ -19,7 +19,7 @@ class RustType(str):
 
 
 def closing(text, at):
-    """Where the bracket closes that stands here."""
+    """Where the bracket at this place closes."""
     opens, closes, depth, n = text[at], CLOSING[text[at]], 0, at
     while n < len(text):
         if text[n] == '"':
@@ -34,7 +34,7 @@ def closing(text, at):
 
 
 def split_text(text, mark):
-    """The parts of a text between the marks that stand in no bracket."""
+    """The parts of a text between the marks that are in no bracket."""
     parts, depth, start = [], 0, 0
     for n, char in enumerate(text):
         depth += char in CLOSING
@@ -64,7 +64,7 @@ def paths_in(tree):
 
 
 class Generics(NamedTuple):
-    """The bounds of type parameters, and the types that stand for them where no other is named."""
+    """The bounds of type parameters, and the types that they are by default."""
     bounds: dict
     defaults: dict
 
@@ -83,7 +83,7 @@ def generics_in(text):
 
 
 def generics_from(text, at):
-    """The type parameters that may stand here, and where they end."""
+    """The type parameters at this place, if there are any, and where they end."""
     if at < len(text) and text[at] == "<":
         end = closing(text, at)
         return generics_in(text[at + 1:end]), end + 1
@@ -110,11 +110,11 @@ class Head(NamedTuple):
     params: dict
     result: RustType
     clauses: list
-    last: int  # the last line of the signature, behind which the clauses are
+    last: int  # the last line of the signature; the clauses follow
 
 
 def head_from(text, at, line):
-    """The head of a function, of what stands behind its name; the text begins at this line."""
+    """The head of a function from the end of its name on. The text begins at this line."""
     generics, at = generics_from(text, at)
     end = closing(text, at)
     params = params_in(text[at + 1:end])

@@ -1,4 +1,4 @@
-"""What must be believed beside definitions: the part of docs/TRUST.md that lists it."""
+"""What must be believed besides definitions: the part of docs/TRUST.md that lists it."""
 import os
 import re
 import subprocess
@@ -62,8 +62,8 @@ def check_kit(log):
 
 
 def keep_kit(log):
-    """Writes the kit and what a log says into the kept list, beside what it has of programs that
-    are not in the log."""
+    """Writes the kit and what a log says into the kept list, and keeps what it has of programs
+    that are not in the log."""
     _, kept = kept_kit()
     kept = {**kept, **axioms_in(log)}
     heads = [line for line in KIT.read_text().splitlines() if line[:1] == "#"]
@@ -173,7 +173,7 @@ def cites_proofs():
             yield f"`{file.crate}/{file.short()}`", ", ".join(named)
 
 
-TEXT = """## Beside definitions
+TEXT = """## Besides definitions
 
 **Kit.** `{kit}`, as `rt version` prints it: its logic, its prover, its two compilers, and the
 contracts of its standard library and of {libraries}. Some of its functions are not written in
