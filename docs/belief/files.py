@@ -69,8 +69,8 @@ def pieces_of_operator(name):
 class Said(NamedTuple):
     """Some words of a definition. The kinds: `head` (its names are bound in what follows), `term`,
     `signature`, `clause` (of a function of specs/), `contract` (a term over `params`, which have
-    types of src/), `rust` (names of src/) and `default` (the default of a type
-    parameter, and a bound of it)."""
+    types of src/), `rust` (names of src/) and `default` (the default of a type parameter, and a
+    bound of it)."""
     kind: str
     words: list
     params: dict = {}

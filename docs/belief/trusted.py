@@ -50,7 +50,7 @@ def present_kit():
 
 def check_kit(log):
     """Fails if the kit is not that of the kept list, or a log of `rt ci` has other axioms. Returns
-    of how many programs the log has them: a program that is kept from an earlier run is not in it."""
+    how many programs the log has: those that it keeps from an earlier run are not in it."""
     kit, kept = kept_kit()
     if present_kit() != kit:
         fail(f"{KIT}: the kit is {present_kit()}")
