@@ -1,5 +1,5 @@
-//! Times the requests of a heap that is asked, kind by kind, and a loop of 1 kHz. `bench/asked` runs
-//! it, with how many requests of a kind and how many ticks.
+//! Measures how long requests to a heap take, by kind, and how late a loop of 1 kHz runs.
+//! `bench/asked` runs it with two arguments: the requests of each kind, and the ticks.
 #![tactic(auto)]
 
 use block_store::{Config, Width};
@@ -11,7 +11,7 @@ use std::rt::Env;
 use std::time::{Duration, Instant};
 use trace_text::number_of;
 
-/// Version 2, at rate 7 or so with 1,024 of 4,096 blocks live.
+/// The heap, of blocks of eight words: at most 1,024 of its 4,096 blocks are live.
 const HEAP: Config = Config {
     width: Width::Eight,
     threads: 1,
@@ -52,13 +52,13 @@ fn run(rt: &HostRuntime) -> Option<()> {
     tell(rt, "tick", &mut late)
 }
 
-/// The number in a word of the program.
+/// The number that an argument spells.
 fn word(rt: &HostRuntime, place: usize) -> Option<u64> {
     let word = env::args(rt).ok()?.nth(place)?;
     number_of(word.as_bytes())
 }
 
-/// Makes a list of records, to which register 2 refers.
+/// Makes a list of records in register 2.
 fn fill(heap: &mut ControlHeap) -> Option<()> {
     for _ in 0..LIVE {
         for command in [
@@ -72,7 +72,7 @@ fn fill(heap: &mut ControlHeap) -> Option<()> {
     Some(())
 }
 
-/// How many nanoseconds each of some requests took.
+/// How long each of some requests took, in nanoseconds.
 fn times_of(
     rt: &HostRuntime,
     heap: &mut ControlHeap,
@@ -92,8 +92,9 @@ fn nanoseconds(time: Duration) -> u64 {
     u64::try_from(time.as_nanos()).unwrap_or(u64::MAX)
 }
 
-/// How late the work of each tick of a millisecond was done. A tick keeps a value in a record, and
-/// each fifth one makes the record anew, in a heap of its own.
+/// How late each tick's work was done, in nanoseconds after the tick, with one tick each
+/// millisecond. A tick stores a value in a record of a heap of its own; each fifth makes a new
+/// record.
 fn lateness(rt: &HostRuntime, ticks: u64) -> Option<Vec<u64>> {
     let mut heap = ControlHeap::open(rt.alloc(), HEAP).ok()?;
     fill(&mut heap)?;
@@ -115,7 +116,7 @@ fn lateness(rt: &HostRuntime, ticks: u64) -> Option<Vec<u64>> {
     Some(late)
 }
 
-/// Waits at the clock until so many nanoseconds are over.
+/// Reads the clock until so many nanoseconds have passed.
 fn await_time(rt: &HostRuntime, start: &Instant, due: u64) -> Option<()> {
     for _ in 0..u64::MAX {
         if nanoseconds(start.elapsed(rt).ok()?) >= due {
@@ -125,7 +126,7 @@ fn await_time(rt: &HostRuntime, start: &Instant, due: u64) -> Option<()> {
     None
 }
 
-/// Prints the median of times, what 999 of 1,000 are within, and the longest.
+/// Prints the median, the 99.9th percentile and the longest of some times.
 fn tell(rt: &HostRuntime, kind: &str, times: &mut Vec<u64>) -> Option<()> {
     times.sort_unstable();
     let count = times.len();

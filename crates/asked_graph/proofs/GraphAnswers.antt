@@ -9,7 +9,7 @@ use Rattle.never_heap.specs.declared.Reply.{Reply}
 use Rattle.never_heap.specs.Cycles.{before_start, graph_at}
 use Rattle.never_heap.specs.Graphs.{Graph, start_graph}
 use Rattle.never_heap.specs.Histories.{HistoryItem, Started, Did, is_full, after, replay, replay_from, IsAnswered, Legal, LegalFrom, part, starts_in}
-use Rattle.never_heap.specs.Licensed.{Licensed, NoFulls}
+use Rattle.never_heap.specs.Licensed.{Licensed, NoFulls, StartsSmall}
 use Rattle.never_heap.specs.Steps.{makes_object, step}
 use Rattle.never_heap.proofs.CycleGrowth.{graph_at_more}
 use Rattle.never_heap.proofs.HistoryGrowth.{starts_append}
@@ -50,11 +50,6 @@ legal_history c [] k a l = absurd a
 legal_history c (Started ∷ h) k a l = legal_behind (start_graph c) h k l
 legal_history c (Did e ∷ h) k a l = absurd a
 
-no_fulls_behind : (h k : List HistoryItem) → NoFulls (h ++ k) → NoFulls k
-no_fulls_behind [] k n = n
-no_fulls_behind (Started ∷ h) k n = no_fulls_behind h k n
-no_fulls_behind (Did e ∷ h) k n = no_fulls_behind h k n.1
-
 -- each cycle of a history that stays small began small
 small_start : (c : Config) (g : Graph) (h : List HistoryItem) (z : ℕ) → 1 ≤ z → z ≤ starts_in h
     → StaySmall c g h → IsSmall c (replay_from g (before_start z h))
@@ -64,6 +59,10 @@ small_start c g (Started ∷ h) z l m s = elim (cases_eq z 1) [
   | inr n ↦ rw (ne_eqb z 1 n) (small_start c g h (z - 1) (omega arith) (omega arith) s.1)
 ]
 small_start c g (Did e ∷ h) z l m s = small_start c (after g (Did e)) h z l m s.1
+
+pub starts_small : (c : Config) (h : List HistoryItem) → StaySmall c (start_graph c) h
+    → StartsSmall c h
+starts_small c h s z l m = small_start c (start_graph c) h z l m s
 
 -- the items before a start that comes behind a history
 before_behind : (h k : List HistoryItem) (y z : ℕ) → 1 ≤ z → y ≡ starts_in h + z
@@ -103,11 +102,6 @@ legal_begun c [] l = absurd l
 legal_begun c (Started ∷ h) l = omega arith
 legal_begun c (Did e ∷ h) l = absurd l
 
-no_fulls_append : (h k : List HistoryItem) → NoFulls h → NoFulls k → NoFulls (h ++ k)
-no_fulls_append [] k a b = b
-no_fulls_append (Started ∷ h) k a b = no_fulls_append h k a b
-no_fulls_append (Did e ∷ h) k a b = (a.0, no_fulls_append h k a.1 b)
-
 -- the opening, where its graph is small
 opened_few : (c : Config) → IsSmall c (start_graph c) → StartsSmallFrom c 1 (Started ∷ [])
 opened_few c small z low high =
@@ -127,8 +121,28 @@ opened_shows c (Ok h) same stands small =
         lately = subst (λ o. StartsSmallFrom h.config (max 1 (starts_in o - 1)) o) order
             (subst (λ d. StartsSmallFrom d 1 (Started ∷ [])) (sym same) (opened_few c small));
       };
-      none = subst NoFulls order tt;
+      small = subst (λ o. StaySmall h.config (start_graph h.config) o) order
+          (subst (λ d. StaySmall d (start_graph d) (Started ∷ [])) (sym same) (small, small));
     }
+
+-- a heap whose history stays small shows the graph that it leaves
+pub small_shown : (h : Control) (g : Graph) (r : Run) → Stands h r → replay h.config r.order ≡ g
+    → StaySmall h.config (start_graph h.config) r.order
+    → (s : HasMetNoFull h g) × (s.shows.run ≡ r)
+small_shown h g r stands graph small = (
+  record {
+    shows = record {
+      run = r;
+      stands = stands;
+      graph = graph;
+      now = subst (IsSmall h.config) graph (small_last h.config (start_graph h.config) r.order small);
+      lately = λ y low high.
+          starts_small h.config r.order small y (omega (arith, low)) high;
+    };
+    small = small;
+  },
+  refl,
+)
 
 -- ---- items of which one is an entry
 
@@ -330,13 +344,19 @@ module _ (laws_legal : (h : Control) (r : Run) → Stands h r → Legal h.config
       pub shown_next : (a ≡ (step g 0 k).1) × Shows new (step g 0 k).0
       shown_next = (sym s.reply ∙ answered ∙ ap (λ p. p.1) step_is, shown_then)
 
-      pub never_next : NoFulls r.order
+      stay : StaySmall c (start_graph c) r.order → StaySmall c (start_graph c) z.order
+      stay before =
+          subst (StaySmall c (start_graph c)) (sym s.order)
+          (small_append c (start_graph c) r.order s.items before
+          (subst (λ x. StaySmall c x s.items) (sym graph) (one.small now fits)))
+
+      pub never_next : StaySmall c (start_graph c) r.order
           → (a ≡ (step g 0 k).1) × HasMetNoFull new (step g 0 k).0
       never_next before = (
         shown_next.0,
         record {
           shows = shown_then;
-          none = subst NoFulls (sym s.order) (no_fulls_append r.order s.items before none);
+          small = subst (λ d. StaySmall d (start_graph d) z.order) (sym is) (stay before);
         },
       )
 
@@ -355,7 +375,7 @@ module _ (laws_legal : (h : Control) (r : Run) → Stands h r → Legal h.config
       let by = answered shows.run shows.stands in
       never_next k a new old.config is g shows.run
       (laws_legal old shows.run shows.stands) shows.graph by.0 by.1 by.2 shows.now shows.lately
-      next met.none
+      next met.small
 
   goes : (old new : Control) (k : Command) (a : Reply) → new.config ≡ old.config
       → HasAnswered old k a new → Goes old k a new

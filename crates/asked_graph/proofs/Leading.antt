@@ -1,14 +1,15 @@
 -- Commands that are left lead on by the next of them, and at the end they led to it.
-use Rattle.std.proofs.Common.{◌≡◌, ℕ, ◌+◌, ◌<◌, List, [], ◌∷◌, drop, length, get_or, inr, sym, ap, ◌∙◌, subst}
+use Rattle.std.proofs.Common.{◌≡◌, ℕ, ◌+◌, ◌<◌, List, [], ◌∷◌, drop, length, get_or, inr, refl, sym, ap, ◌∙◌, subst}
 use Rattle.std.proofs.lemmas.List.{drop_more}
-use Rattle.block_store.specs.declared.Config.{Config}
 use Rattle.never_heap.specs.declared.Command.{Command}
 use Rattle.never_heap.specs.declared.Reply.{Reply}
 use Rattle.never_heap.specs.Graphs.{Graph}
 use Rattle.never_heap.specs.Steps.{step}
-use Rattle.control_heap.specs.Controls.{Control}
+use Rattle.never_heap.specs.declared.Reply.TheVariants.{Stored}
+use Rattle.control_heap.specs.Controls.{Control, HasAnswered}
 use Rattle.control_heap.specs.declared.control.Refused.{Refused}
-use Rattle.asked_graph.specs.Asked.{HasDone, HasDoneAll, RefusesOne}
+use Rattle.control_heap.specs.WayBack.{AllDone}
+use Rattle.asked_graph.specs.Asked.{HasDone, HasDoneAll, HasReplied, RefusesOne, last_told}
 use Rattle.asked_graph.specs.Shown.{AllFollow, Follows, IsSmall, Leads, last_reply}
 
 module _ (R : Control → Graph → Type 0) (old now new : Control) (ks : List Command) where
@@ -45,3 +46,22 @@ pub refused_on : (old now new : Control) (ks : List Command) (i : ℕ) (d : Comm
     → (r : Refused) (z : Control) → RefusesOne new (drop (i + 1) ks) r z → RefusesOne old ks r z
 refused_on old now new ks i d low done before r z rest =
     before r z (subst (λ x. RefusesOne now x r z) (sym (drop_more ks i d low)) (inr (new, done, rest)))
+
+-- and of the replies
+pub replied_on : (old now new : Control) (ks : List Command) (reply a : Reply) (i : ℕ) (d : Command)
+    → i < length ks → HasDone now (get_or ks i d) new → HasAnswered now (get_or ks i d) a new
+    → ((z : Control) (ys : List Reply) → AllDone now (drop i ks) ys z
+    → (all : List Reply) × AllDone old ks all z × (last_told reply ys ≡ last_told Stored all))
+    → (z : Control) (ys : List Reply) → AllDone new (drop (i + 1) ks) ys z
+    → (all : List Reply) × AllDone old ks all z × (last_told a ys ≡ last_told Stored all)
+replied_on old now new ks reply a i d low done answered before z ys rest =
+    before z (a ∷ ys) (subst (λ x. AllDone now x (a ∷ ys) z) (sym (drop_more ks i d low))
+    (new, done.config, done.can.0, done.can.1, answered, rest))
+
+pub replied : (old now : Control) (ks : List Command) (reply : Reply) (rest : List Command)
+    → rest ≡ []
+    → ((z : Control) (ys : List Reply) → AllDone now rest ys z
+    → (all : List Reply) × AllDone old ks all z × (last_told reply ys ≡ last_told Stored all))
+    → HasReplied old ks reply now
+replied old now ks reply rest none before =
+    before now [] (subst (λ x. AllDone now x [] now) (sym none) refl)

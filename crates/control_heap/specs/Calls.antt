@@ -1,4 +1,4 @@
--- Calls of one command each: what they tell of its reply, and when each fault comes.
+-- Calls of one command each: what they return of its reply, and when each fault comes.
 use Rattle.std.specs.Prelude.{ℕ, ◌+◌, ◌≡◌, Bool, true, false, if◌then◌else◌, Result, Ok, Err, List, [], ◌∷◌, codes}
 use Rattle.never_heap.specs.declared.Command.{Command}
 use Rattle.never_heap.specs.declared.Command.TheVariants as commands
@@ -18,7 +18,7 @@ use Rattle.control_heap.specs.Refusals.{IsRefused}
 
 -- ---- which replies a command can have
 
--- whether the command looks at the object in a register, and at a field of it
+-- whether the command reads the object in a register, and whether it reads or writes a field
 abbrev pub has_base : List Operand → Bool
 has_base [] = false
 has_base (Register Base s ∷ os) = true
@@ -54,7 +54,7 @@ abbrev pub IsIdle : Reply → Type 0
 IsIdle replies.Idle = Unit {0}
 IsIdle _ = ⊥
 
--- what the command tells where nothing is in its way
+-- the kinds of reply of each command where it succeeds
 abbrev pub Says : Command → Reply → Type 0
 Says (commands.New d f) a = IsName a
 Says (commands.Arr d e) a = IsName a
@@ -70,8 +70,9 @@ Says (commands.Swap s i v) a = IsValue a
 Says (commands.Cas s i a v) r = IsTest r
 Says (commands.Idle u) a = IsIdle a
 
--- An allocation can be answered full; a command that looks at an object can find nil or a number in
--- its place, and one that looks at a field none of this index. Else it says what it is to tell.
+-- The replies that a command can have. An allocation can be answered full. A command on an object
+-- can find nil or a number in the register, and one on a field can find no field of its index.
+-- Any other reply is of the command's own kind.
 abbrev pub MayAnswer : Command → Reply → Type 0
 MayAnswer k (replies.Full c) = makes_object k ≡ true
 MayAnswer k replies.Null = has_base (operands k) ≡ true
@@ -79,9 +80,9 @@ MayAnswer k replies.Kind = has_base (operands k) ≡ true
 MayAnswer k replies.Range = has_field (operands k) ≡ true
 MayAnswer k a = Says k a
 
--- ---- what a call tells
+-- ---- what a call returns
 
--- the command was asked, as `ask` says, and had this reply
+-- the command was done, as by `ask`, and had this reply
 pub record HasAsked {M : Type 0} (acts : Acts M (Unit {0})) (old : ControlOf M) (k : Command)
     (a : Reply) (new : ControlOf M) : Type 0 where
   pub bounds : IsCommandInBounds old.config k
@@ -91,8 +92,8 @@ pub record HasAsked {M : Type 0} (acts : Acts M (Unit {0})) (old : ControlOf M) 
   pub answered : HasAnswered old k a new
   pub made : HasMade acts old k new
 
--- when each fault comes: the command was asked and had that reply, which it can have; or it was
--- refused for that cause, and nothing has changed
+-- when each fault comes: the command was done and had that reply, which it can have; or it was
+-- refused for that cause, and the heap is unchanged
 abbrev pub HasFault : {M : Type 0} → Acts M (Unit {0}) → ControlOf M → Command → ControlOf M → Fault
     → Type 0
 HasFault acts old k new (faults.Full c) =
@@ -106,13 +107,13 @@ HasFault acts old k new faults.Range =
 HasFault acts old k new faults.OutOfBounds = IsRefused old k refusals.OutOfBounds × (new ≡ old)
 HasFault acts old k new faults.NoLifeLeft = IsRefused old k refusals.NoLifeLeft × (new ≡ old)
 
--- What a call tells: the command was asked, and its reply is the one that says this; or a fault.
+-- The result of a call: the command was done, and its reply carries this value; or a fault.
 abbrev pub HasTold : {M T : Type 0} → (T → Reply) → Acts M (Unit {0}) → ControlOf M → Command
     → ControlOf M → Result T Fault → Type 0
 HasTold says acts old k new (Ok x) = HasAsked acts old k (says x) new
 HasTold says acts old k new (Err f) = HasFault acts old k new f
 
--- the replies that say nothing, or yes and no
+-- the replies that carry no value, and yes or no
 abbrev pub stored : Unit {0} → Reply
 stored none = replies.Stored
 
@@ -122,7 +123,7 @@ idled none = replies.Idle
 abbrev pub tested : Bool → Reply
 tested b = if b then replies.Yes else replies.No
 
--- a refusal as a fault, and an outcome in which replies that tell nothing are faults
+-- a refusal as a fault, and an outcome in which replies that carry no result are faults
 abbrev pub fault_of : Refused → Fault
 fault_of refusals.OutOfBounds = faults.OutOfBounds
 fault_of refusals.NoLifeLeft = faults.NoLifeLeft
@@ -135,7 +136,7 @@ outcome_of (Ok replies.Range) = Err faults.Range
 outcome_of (Ok a) = Ok a
 outcome_of (Err r) = Err (fault_of r)
 
--- ---- what is printed of a fault
+-- ---- the printed text of a fault
 
 abbrev pub fault_text : Fault → List ℕ
 fault_text (faults.Full c) =

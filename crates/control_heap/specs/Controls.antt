@@ -23,8 +23,9 @@ use Rattle.heap_system.specs.Locals.{LocalState, begun, is_done, local_got, op_w
 use Rattle.heap_system.specs.Machines.{Run, IsAfterTurns, answer, local_in, opened}
 use Rattle.control_heap.specs.Growth.{AllGo, run_grown}
 
--- The configuration, the memory and the words that it shows, and the thread, which keeps its last
--- command and its entry alone; how many commands it was asked, and how many of them make an object.
+-- The configuration; the memory and the words in it; the thread, whose trace and log hold its last
+-- command and that command's entry alone; how many commands the heap has done, and how many of them
+-- make an object.
 pub record ControlOf (M : Type 0) : Type 0 where
   pub config : Config
   pub memory : M
@@ -33,43 +34,43 @@ pub record ControlOf (M : Type 0) : Type 0 where
   pub count : ℕ
   pub objects : ℕ
 
--- one whose memory is a list of words
+-- a heap on plain words
 abbrev pub Control : Type 0
 Control = ControlOf (List ℕ)
 
--- a heap of this configuration can be opened, but for memory
+-- a heap of this configuration can be opened, unless memory runs out
 pub record CanOpen (c : Config) : Type 0 where
   pub bounds : IsInBounds c
   pub plan : IsAdmitted c
   pub single : c.threads ≡ 1
 
--- the commands that it was asked so far
+-- how many commands it has done
 abbrev pub asked : {M : Type 0} → ControlOf M → ℕ
 asked h = h.count
 
--- the units that were made for them
+-- how many units were made for them
 abbrev pub units : {M : Type 0} → ControlOf M → ℕ
 units h = h.thread.before + works h.thread.log
 
--- It may be asked one command more: not too many were asked, of those that make an object there
--- were fewer than a life has, and its units fit.
+-- What is left of its life is enough for a command: for one more command, for its object, and for
+-- its units.
 abbrev pub HasLeft : {M : Type 0} → ControlOf M → Command → Type 0
 HasLeft h k = (asked h < most_commands) × (h.objects + objects_of k ≤ most_objects)
     × ((rate : ℕ) → IsRate h.config rate
     → units h + units_owed h.config.width rate k ≤ most_units)
 
--- a thread with another trace and log, and none before them
+-- a thread with another trace and log, and with no units before these
 abbrev pub with_history : List Command → List Entry → LocalState → LocalState
 with_history trace log l = record l { before = 0; trace = trace; log = log }
 
--- a run of some job by turns that were all events
+-- a run in which each turn was an event
 pub record IsByEvents (c : Config) (r : Run) : Type 0 where
   pub after : IsAfterTurns c r
   pub events : AllGo c (opened c after.by_turns.first) after.turns
 
--- The heap stands for a run of a job of one thread: its words are those of the run, and its thread
--- is that of the run but for the trace and the log, of which it keeps nothing but how many there
--- are. The thread has done what it was asked, nobody is inside, and the gate is open.
+-- The heap stands for a run of one thread: its words are those of the run, and its thread is that
+-- of the run except for the trace and the log, of which the heap keeps the length and the sums. The
+-- thread has done all its commands, no thread is in a pass, and the gate is open.
 pub record Stands {M : Type 0} (h : ControlOf M) (r : Run) : Type 0 where
   pub single : h.config.threads ≡ 1
   pub run : IsByEvents h.config r
@@ -95,10 +96,9 @@ allocation_near c rate k =
     near_bound c.threads (payloads c.width) c.blocks (rate * blocks_of c.width k)
     (blocks_of c.width k)
 
--- Run z is run r with command k behind the trace, and this reply to it. The thread had at most so
--- many turns more as are the bound of a lone thread, and, for an allocation, the near bound;
--- none of them waited. The order of z is that of r with items behind it: starts, and the entry of k
--- with the reply, and no other.
+-- Run z is run r followed by command k with this reply. The thread had at most as many more turns
+-- as the bound of a lone thread and, for an allocation, the near bound allow; none of them waited.
+-- The order of z is that of r followed by cycle starts and the entry of k, and by no other entry.
 pub record Answers (c : Config) (k : Command) (a : Reply) (r z : Run) : Type 0 where
   pub turns : ℕ
   pub few : (rate : ℕ) → IsRate c rate → turns ≤ command_bound c rate k
@@ -113,15 +113,15 @@ pub record Answers (c : Config) (k : Command) (a : Reply) (r z : Run) : Type 0 w
   pub command : entry.command ≡ k
   pub reply : entry.reply ≡ a
 
--- after a command the heap stands for such a run, whichever run it stood for
+-- whichever run the heap stood for, after the command it stands for such a run
 abbrev pub HasAnswered : {M : Type 0} → ControlOf M → Command → Reply → ControlOf M → Type 0
 HasAnswered old k reply new =
     (r : Run) → Stands old r → (z : Run) × Stands new z × Answers old.config k reply r z
 
--- A memory made the operations of a command and no other, so many as these words, of which each one
--- read the next: each is the one that the thread wants there by its row. They lead from the memory
--- before to that after, and from the thread that begins the command to the one that has done it.
--- They are no more than the bound of a lone thread, and, for an allocation, the near bound.
+-- A memory made the operations of a command and no others. Each read one of these words, and is the
+-- operation that the thread's row names next. They lead from the memory before to the memory after,
+-- and from the thread that begins the command to the one that has done it. There are at most as
+-- many as the bound of a lone thread and, for an allocation, the near bound allow.
 pub record HasMade {M : Type 0} (acts : Acts M (Unit {0})) (old : ControlOf M) (k : Command)
     (new : ControlOf M) : Type 0 where
   pub words : List ℕ
@@ -130,7 +130,7 @@ pub record HasMade {M : Type 0} (acts : Acts M (Unit {0})) (old : ControlOf M) (
   pub near : (rate : ℕ) → IsRate old.config rate → 0 < blocks_of old.config.width k
       → length words ≤ allocation_near old.config rate k
 
--- a heap was asked these commands one after the other, was answered so, and is then z
+-- a heap did these commands one after the other, with these replies, and is then z
 abbrev pub AllAnswered : {M : Type 0} → ControlOf M → List Command → List Reply → ControlOf M
     → Type 0
 AllAnswered h [] [] z = h ≡ z
@@ -138,8 +138,9 @@ AllAnswered {M} h (k ∷ ks) (a ∷ ys) z =
     (n : ControlOf M) × (n.config ≡ h.config) × HasAnswered h k a n × AllAnswered n ks ys z
 AllAnswered h _ _ z = ⊥
 
--- run q is r with these commands asked and answered so: one history with r's in front
-pub record HasHistory {M : Type 0} (z : ControlOf M) (ks : List Command) (ys : List Reply) (r : Run) : Type 0 where
+-- the heap stands for a run whose history is that of r followed by these commands and replies
+pub record HasHistory {M : Type 0} (z : ControlOf M) (ks : List Command) (ys : List Reply)
+    (r : Run) : Type 0 where
   pub run : Run
   pub stands : Stands z run
   pub items : List HistoryItem
@@ -176,8 +177,8 @@ pub record Served (m z : Machine) : Type 0 where
   pub after : z ≡ moved_times events m
   pub done : is_done z.thread ≡ true
 
--- A memory made the events that it takes and no other operation, and what it shows went as the words
--- of a machine do.
+-- a memory made as many events as it takes and no other operation, and its words changed as those
+-- of a machine do
 pub record ServedBy {M : Type 0} (acts : Acts M (Unit {0})) (shows : M → List ℕ) (m : M)
     (l : LocalState) (n : M) (k : LocalState) : Type 0 where
   pub words : List ℕ
@@ -186,11 +187,11 @@ pub record ServedBy {M : Type 0} (acts : Acts M (Unit {0})) (shows : M → List 
       (record { words = shows n; thread = k })
   pub counted : served.events ≡ length words
 
--- a heap that was given a command
+-- a heap whose thread begins a command
 abbrev pub given_to : {M : Type 0} → ControlOf M → Command → Machine
 given_to h k = record { words = h.words; thread = begun k h.thread }
 
--- a heap that has a command in hand
+-- such a heap, where the command is in bounds and the life has room for it
 pub record HasBegun (M : Type 0) (m : Machine) : Type 0 where
   pub heap : ControlOf M
   pub command : Command

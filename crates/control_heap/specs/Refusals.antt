@@ -1,4 +1,4 @@
--- Why no heap is opened, and why a command is not asked.
+-- Why a heap could not be opened, and why a command is refused.
 use Rattle.std.specs.Prelude.{◌≡◌, ◌≢◌}
 use Rattle.block_store.specs.declared.Config.{Config}
 use Rattle.block_store.specs.Configs.{IsInBounds}
@@ -12,8 +12,8 @@ use Rattle.control_heap.specs.declared.control.Refused.{Refused}
 use Rattle.control_heap.specs.declared.control.Refused.TheVariants as refusals
 use Rattle.control_heap.specs.Controls.{ControlOf, CanOpen, HasLeft}
 
--- when each fault comes: one at most fits a configuration, and none but the last where it can be
--- opened
+-- the cause of each fault. At most one fits a configuration, and only the last fits one that can be
+-- opened.
 abbrev pub IsOpenFault : Config → OpenFault → Type 0
 IsOpenFault c OutOfBounds = ¬ IsInBounds c
 IsOpenFault c NotOneThread = IsInBounds c × (c.threads ≢ 1)
@@ -21,7 +21,7 @@ IsOpenFault c LiveTooSmall = IsInBounds c × (c.threads ≡ 1) × IsRefusal c pl
 IsOpenFault c NoRate = IsInBounds c × (c.threads ≡ 1) × IsRefusal c plans.NoRate
 IsOpenFault c NoMemory = CanOpen c
 
--- and each refusal of a command
+-- the cause of each refusal of a command
 abbrev pub IsRefused : {M : Type 0} → ControlOf M → Command → Refused → Type 0
 IsRefused h k refusals.OutOfBounds = ¬ IsCommandInBounds h.config k
 IsRefused h k refusals.NoLifeLeft = IsCommandInBounds h.config k × ¬ HasLeft h k

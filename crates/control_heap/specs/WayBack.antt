@@ -1,4 +1,4 @@
--- The way back from full: what holds from a moment on behind which few blocks are live.
+-- How a heap that was full recovers: what holds once few blocks are live.
 use Rattle.std.specs.Prelude.{ℕ, ◌+◌, ◌*◌, ◌<◌, ◌≤◌, ◌≡◌, ◌++◌, false, List, [], ◌∷◌, map}
 use Rattle.block_store.specs.declared.Config.{Config}
 use Rattle.never_heap.specs.declared.Command.{Command}
@@ -11,7 +11,7 @@ use Rattle.never_heap.specs.LiveBlocks.{live_blocks}
 use Rattle.heap_system.specs.Machines.{Run}
 use Rattle.control_heap.specs.Controls.{ControlOf, Stands, HasAnswered, HasLeft, entries_in, units}
 
--- of a history, each cycle from the n-th on began with no more than L live blocks
+-- each cycle of a history from the n-th on began with at most L live blocks
 abbrev pub StartsSmallFrom : Config → ℕ → List HistoryItem → Type 0
 StartsSmallFrom c n h =
     (z : ℕ) → n ≤ z → z ≤ starts_in h → live_blocks c.width (graph_at c h z) ≤ c.live
@@ -21,7 +21,8 @@ abbrev pub NoneFull : List Reply → Type 0
 NoneFull [] = Unit {0}
 NoneFull (a ∷ ys) = (is_full a ≡ false) × NoneFull ys
 
--- a heap did these commands one after the other, was answered so, and is then z
+-- a heap did these commands one after the other, with these replies, and is then z; each was in
+-- bounds, and the life had room for it
 abbrev pub AllDone : {M : Type 0} → ControlOf M → List Command → List Reply → ControlOf M → Type 0
 AllDone h [] [] z = h ≡ z
 AllDone {M} h (k ∷ ks) (a ∷ ys) z =
@@ -29,16 +30,16 @@ AllDone {M} h (k ∷ ks) (a ∷ ys) z =
     × HasAnswered h k a n × AllDone n ks ys z
 AllDone h _ _ z = ⊥
 
--- The items behind an order have these commands and replies.
+-- the entries among these items have these commands and replies
 pub record AreOf (ks : List Command) (ys : List Reply) (items : List HistoryItem) : Type 0 where
   pub commands : map (λ (e : Entry). e.command) (entries_in items) ≡ ks
   pub replies : map (λ (e : Entry). e.reply) (entries_in items) ≡ ys
 
--- A heap that stood for run r did the first commands, was y then, and did the others, and is z: one
--- history with r's in front. The units of the first are at most two a block of the heap for each
--- start among them and one more; and where they are more than four a block, and each cycle that
--- began behind r began with no more than L live blocks, none of the others was answered full. So
--- it is also where two cycles began among the first.
+-- A heap h that stood for run r did the commands `ks` and was then y, and did the commands `others`
+-- and is then z: one history, which begins with that of r. The first commands made at most 2m units
+-- for each start among them and 2m more, m being the blocks of the heap (`pace`). Where two cycles
+-- began among them (`two_cycles`), or they made more than 4m units (`back`), and each cycle that
+-- began after r began with at most L live blocks, none of the others was answered full.
 pub record HasWayBack {M : Type 0} (h y z : ControlOf M) (ks : List Command) (ys : List Reply)
     (others : List Command) (told : List Reply) (r : Run) : Type 0 where
   pub run : Run

@@ -1,4 +1,5 @@
-//! One call for each command.
+//! One call for each command. Registers are 0 to 15, numbers are below 2^62, and an `idle` makes at
+//! most 131,070 units; what is out of range is refused as `OutOfBounds`.
 
 ghost use Rattle.std.specs.Prelude.{◌≡◌, IfOk};
 ghost use Rattle.never_heap.specs.declared.Command.TheVariants as commands;
@@ -9,7 +10,7 @@ use crate::{ControlHeap, Fault, Refused, Store};
 use block_store::{Name, Value};
 use never_heap::{Command, Reply};
 
-// The outcome of a command, in which the replies that tell nothing are faults.
+// Turns replies that carry no result (`Full`, `Null`, `Kind`, `Range`) and refusals into faults.
 fn outcome_of(asked: Result<Reply, Refused>) -> Result<Reply, Fault>
     ensures { result ≡ outcome_of asked }
 {
@@ -70,7 +71,7 @@ fn test_in(reply: Reply) -> bool
     }
 }
 
-// A reply that tells nothing more than that something is done.
+// Drops a reply that carries no value.
 fn stored_in(reply: Reply)
     requires { IsStored reply }
     ensures { reply ≡ replies.Stored }
@@ -86,7 +87,7 @@ fn idle_in(reply: Reply)
 }
 
 impl<M: Store> ControlHeap<M> {
-    // Asks a command.
+    // Does a command.
     fn call(&mut self, command: Command) -> Result<Reply, Fault>
         ensures config { self.new.config ≡ self.old.config }
         ensures told { HasTold (λ a. a) M.acts self.old command self.new result }
@@ -95,11 +96,11 @@ impl<M: Store> ControlHeap<M> {
         outcome_of(self.ask(command))
     }
 
-    /// Makes a record of nil fields, to which register `d` then refers, and tells its name.
+    /// Makes a record whose fields are nil, lets register `d` refer to it, and returns its name.
     ///
     /// # Errors
     ///
-    /// `Full` where there is no room for it; `OutOfBounds` and `NoLifeLeft` as of `ask`.
+    /// `Full` where too few blocks are free; `OutOfBounds` and `NoLifeLeft` as for `ask`.
     pub fn record(&mut self, d: u8, fields: u32) -> Result<Name, Fault>
         ensures config { self.new.config ≡ self.old.config }
         ensures told { HasTold replies.New M.acts self.old (commands.New d fields) self.new result }
@@ -108,11 +109,11 @@ impl<M: Store> ControlHeap<M> {
         Ok(name_in(reply))
     }
 
-    /// Makes an array of nil elements, to which register `d` then refers, and tells its name.
+    /// Makes an array whose elements are nil, lets register `d` refer to it, and returns its name.
     ///
     /// # Errors
     ///
-    /// `Full` where there is no room for it; `OutOfBounds` and `NoLifeLeft` as of `ask`.
+    /// `Full` where too few blocks are free; `OutOfBounds` and `NoLifeLeft` as for `ask`.
     pub fn array(&mut self, d: u8, elements: u32) -> Result<Name, Fault>
         ensures config { self.new.config ≡ self.old.config }
         ensures told { HasTold replies.New M.acts self.old (commands.Arr d elements) self.new
@@ -122,12 +123,12 @@ impl<M: Store> ControlHeap<M> {
         Ok(name_in(reply))
     }
 
-    /// Register `d` becomes field `i` of the object in register `s`, and that is told.
+    /// Loads field `i` of the object in register `s` into register `d`, and returns it.
     ///
     /// # Errors
     ///
-    /// `Null`, `Kind` and `Range` where there is no such field; `OutOfBounds` and `NoLifeLeft` as
-    /// of `ask`.
+    /// `Null` where register `s` is nil, `Kind` where it holds a number, `Range` where its object
+    /// has no field `i`; `OutOfBounds` and `NoLifeLeft` as for `ask`.
     pub fn get(&mut self, d: u8, s: u8, i: u64) -> Result<Value, Fault>
         ensures config { self.new.config ≡ self.old.config }
         ensures told { HasTold replies.Val M.acts self.old (commands.Get d s i) self.new result }
@@ -136,12 +137,12 @@ impl<M: Store> ControlHeap<M> {
         Ok(value_in(reply))
     }
 
-    /// Field `i` of the object in register `s` becomes what register `v` holds.
+    /// Stores the value of register `v` in field `i` of the object in register `s`.
     ///
     /// # Errors
     ///
-    /// `Null`, `Kind` and `Range` where there is no such field; `OutOfBounds` and `NoLifeLeft` as
-    /// of `ask`.
+    /// `Null` where register `s` is nil, `Kind` where it holds a number, `Range` where its object
+    /// has no field `i`; `OutOfBounds` and `NoLifeLeft` as for `ask`.
     pub fn put(&mut self, s: u8, i: u64, v: u8) -> Result<(), Fault>
         ensures config { self.new.config ≡ self.old.config }
         ensures told { HasTold stored M.acts self.old (commands.Put s i v) self.new result }
@@ -151,13 +152,13 @@ impl<M: Store> ControlHeap<M> {
         Ok(())
     }
 
-    /// Field `i` of the object in register `s` and register `v` exchange their values. It tells
-    /// what the field held before.
+    /// Exchanges field `i` of the object in register `s` with register `v`, and returns the field's
+    /// old value. Only for blocks of eight words.
     ///
     /// # Errors
     ///
-    /// `Null`, `Kind` and `Range` where there is no such field; `OutOfBounds` and `NoLifeLeft` as
-    /// of `ask`.
+    /// `Null` where register `s` is nil, `Kind` where it holds a number, `Range` where its object
+    /// has no field `i`; `OutOfBounds` and `NoLifeLeft` as for `ask`.
     pub fn swap(&mut self, s: u8, i: u64, v: u8) -> Result<Value, Fault>
         ensures config { self.new.config ≡ self.old.config }
         ensures told { HasTold replies.Val M.acts self.old (commands.Swap s i v) self.new result }
@@ -166,13 +167,14 @@ impl<M: Store> ControlHeap<M> {
         Ok(value_in(reply))
     }
 
-    /// Where field `i` of the object in register `s` and register `a` hold the same, the field
-    /// becomes what register `v` holds. It tells whether that is so.
+    /// Compares field `i` of the object in register `s` with register `a`. Where they are equal, it
+    /// stores the value of register `v` in the field and returns `true`; otherwise it returns
+    /// `false`. Only for blocks of eight words.
     ///
     /// # Errors
     ///
-    /// `Null`, `Kind` and `Range` where there is no such field; `OutOfBounds` and `NoLifeLeft` as
-    /// of `ask`.
+    /// `Null` where register `s` is nil, `Kind` where it holds a number, `Range` where its object
+    /// has no field `i`; `OutOfBounds` and `NoLifeLeft` as for `ask`.
     pub fn cas(&mut self, s: u8, i: u64, a: u8, v: u8) -> Result<bool, Fault>
         ensures config { self.new.config ≡ self.old.config }
         ensures told { HasTold tested M.acts self.old (commands.Cas s i a v) self.new result }
@@ -181,11 +183,11 @@ impl<M: Store> ControlHeap<M> {
         Ok(test_in(reply))
     }
 
-    /// Register `d` becomes this number.
+    /// Sets register `d` to a number.
     ///
     /// # Errors
     ///
-    /// `OutOfBounds` and `NoLifeLeft` as of `ask`.
+    /// `OutOfBounds` and `NoLifeLeft` as for `ask`.
     pub fn set(&mut self, d: u8, value: u64) -> Result<(), Fault>
         ensures config { self.new.config ≡ self.old.config }
         ensures told { HasTold stored M.acts self.old (commands.Set d value) self.new result }
@@ -195,11 +197,11 @@ impl<M: Store> ControlHeap<M> {
         Ok(())
     }
 
-    /// Register `d` becomes nil.
+    /// Sets register `d` to nil.
     ///
     /// # Errors
     ///
-    /// `OutOfBounds` and `NoLifeLeft` as of `ask`.
+    /// `OutOfBounds` and `NoLifeLeft` as for `ask`.
     pub fn nil(&mut self, d: u8) -> Result<(), Fault>
         ensures config { self.new.config ≡ self.old.config }
         ensures told { HasTold stored M.acts self.old (commands.Nil d) self.new result }
@@ -209,11 +211,11 @@ impl<M: Store> ControlHeap<M> {
         Ok(())
     }
 
-    /// Register `d` becomes what register `s` holds.
+    /// Copies register `s` to register `d`.
     ///
     /// # Errors
     ///
-    /// `OutOfBounds` and `NoLifeLeft` as of `ask`.
+    /// `OutOfBounds` and `NoLifeLeft` as for `ask`.
     pub fn mov(&mut self, d: u8, s: u8) -> Result<(), Fault>
         ensures config { self.new.config ≡ self.old.config }
         ensures told { HasTold stored M.acts self.old (commands.Mov d s) self.new result }
@@ -223,11 +225,12 @@ impl<M: Store> ControlHeap<M> {
         Ok(())
     }
 
-    /// How many fields or elements the object in register `s` has.
+    /// The number of fields or elements of the object in register `s`.
     ///
     /// # Errors
     ///
-    /// `Null` and `Kind` where there is no object; `OutOfBounds` and `NoLifeLeft` as of `ask`.
+    /// `Null` where register `s` is nil, `Kind` where it holds a number; `OutOfBounds` and
+    /// `NoLifeLeft` as for `ask`.
     pub fn len(&mut self, s: u8) -> Result<u64, Fault>
         ensures config { self.new.config ≡ self.old.config }
         ensures told { HasTold replies.Len M.acts self.old (commands.Len s) self.new result }
@@ -240,7 +243,7 @@ impl<M: Store> ControlHeap<M> {
     ///
     /// # Errors
     ///
-    /// `OutOfBounds` and `NoLifeLeft` as of `ask`.
+    /// `OutOfBounds` and `NoLifeLeft` as for `ask`.
     pub fn same(&mut self, a: u8, b: u8) -> Result<bool, Fault>
         ensures config { self.new.config ≡ self.old.config }
         ensures told { HasTold tested M.acts self.old (commands.Same a b) self.new result }
@@ -249,11 +252,11 @@ impl<M: Store> ControlHeap<M> {
         Ok(test_in(reply))
     }
 
-    /// What register `s` holds.
+    /// The value of register `s`.
     ///
     /// # Errors
     ///
-    /// `OutOfBounds` and `NoLifeLeft` as of `ask`.
+    /// `OutOfBounds` and `NoLifeLeft` as for `ask`.
     pub fn say(&mut self, s: u8) -> Result<Value, Fault>
         ensures config { self.new.config ≡ self.old.config }
         ensures told { HasTold replies.Val M.acts self.old (commands.Say s) self.new result }
@@ -262,11 +265,11 @@ impl<M: Store> ControlHeap<M> {
         Ok(value_in(reply))
     }
 
-    /// Makes this many units of marking or sweeping.
+    /// Makes `units` units of marking or sweeping. Only for blocks of eight words.
     ///
     /// # Errors
     ///
-    /// `OutOfBounds` and `NoLifeLeft` as of `ask`.
+    /// `OutOfBounds` and `NoLifeLeft` as for `ask`.
     pub fn idle(&mut self, units: u64) -> Result<(), Fault>
         ensures config { self.new.config ≡ self.old.config }
         ensures told { HasTold idled M.acts self.old (commands.Idle units) self.new result }

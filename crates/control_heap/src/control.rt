@@ -1,4 +1,4 @@
-//! The heap of one thread, and a command from its asking to its reply.
+//! A heap for one thread: opening it, doing commands on it, and reading its state.
 
 ghost use Rattle.std.specs.Prelude.{ℕ, ◌≡◌, ◌≤◌, ◌+◌, ◌-◌, ◌∷◌, ◌↔◌, [], length, true, IsTrue, IfOk, IfErr, OnOk, OnErr};
 ghost use Rattle.block_store.specs.Configs.{IsInBounds};
@@ -29,52 +29,51 @@ use rate_plan::{PlanFault, plan};
 use std::alloc::Global;
 use std::marker::Model;
 
-// How many commands can be counted.
+// The most commands of a life.
 const MOST_COMMANDS: u64 = 1 << 60;
 
-// How many units all commands of a life may owe, and how many of them may make an object.
+// The most units of a life, and the most of its commands that make an object.
 const MOST_UNITS: u64 = 1 << 45;
 
 const MOST_OBJECTS: u64 = (1 << 43) - 1;
 
-/// Why no heap of a configuration is opened.
+/// Why a heap could not be opened.
 #[derive(Clone, Copy, Debug, PartialEq, Eq)]
 pub enum OpenFault {
-    /// A number of the configuration is out of its range. This is looked at first.
+    /// A number of the configuration is out of range. This is checked first.
     OutOfBounds,
-    /// The configuration has more threads than one.
+    /// The configuration does not have exactly one thread.
     NotOneThread,
     /// The registers and the shared array take more blocks than the live limit.
     LiveTooSmall,
-    /// The live limit leaves too little of the heap: no number of units a block is enough.
+    /// The live limit leaves too few of the blocks: no rate is high enough.
     NoRate,
-    /// There is no room for the words of the heap, or for the blocks that are held while an object
-    /// is built.
+    /// Memory ran out.
     NoMemory,
 }
 
-/// Why a command is not asked.
+/// Why a command is refused. The heap is then unchanged.
 #[derive(Clone, Copy, Debug, PartialEq, Eq)]
 pub enum Refused {
-    /// A register, number, index, length or number of units of the command is out of its range on
-    /// this heap, or the command is none of its version. This is looked at first.
+    /// A register, number, index, length or count of units is out of range on this heap, or the
+    /// heap's version lacks the command. This is checked first.
     OutOfBounds,
-    /// The life of the heap has no room for the command: for its units, for its object, or for one
-    /// command more.
+    /// What is left of the heap's life is too little for the command: for its units, for its
+    /// object, or for one more command.
     NoLifeLeft,
 }
 
-/// A heap of one thread between two commands, on a memory of its own: on words, where no other is
-/// named.
+/// A heap for one thread, which does one command at a time. Its words are in a memory of type `M`,
+/// by default plain `Words`.
 ///
-/// It lives for 2^45 units and 2^43 - 1 commands that make an object, be they answered new or full,
-/// and for 2^60 commands in all.
+/// Its life is limited to 2^45 units of marking and sweeping, 2^43 - 1 commands that make an object
+/// (also those answered `Full`), and 2^60 commands in all.
 #[derive(Drop)]
 pub struct ControlHeap<M: Store = Words> {
     config: Config,
     memory: M,
     thread: Local,
-    // How many commands it was asked.
+    // How many commands it has done.
     count: u64,
     // How many of them make an object.
     objects: u64,
@@ -105,7 +104,7 @@ impl<M: Store> Model for ControlHeap<M> {
     }) r };
 }
 
-// Whether a command makes an object, as a number.
+// 1 for a command that makes an object, and 0 for any other.
 fn objects_of(command: Command) -> u64
     ensures { result ≡ objects_of command }
 {
@@ -115,7 +114,7 @@ fn objects_of(command: Command) -> u64
     }
 }
 
-// Makes the thread's events until it has done the command that it has in hand.
+// Makes the thread's events until its command is done.
 fn serve<M: Store>(memory: &mut M, thread: &mut Local)
     requires { HasBegun M (record { words = M.shows memory.old; thread = thread.old }) }
     ensures { ServedBy M.acts M.shows memory.old thread.old memory.new thread.new }
@@ -130,12 +129,12 @@ fn serve<M: Store>(memory: &mut M, thread: &mut Local)
 }
 
 impl<M: Store> ControlHeap<M> {
-    /// The opening heap of a configuration, on a memory that has the opening words.
+    /// Makes the opening heap of a configuration on a memory that holds the opening words.
     ///
     /// # Errors
     ///
-    /// `OutOfMemory` where there is no room for the thread's command, or for the blocks that are
-    /// held while an object is built.
+    /// `OutOfMemory` where there is no memory for the thread's command, or for the list of blocks
+    /// that it holds while it builds an object.
     pub fn on(alloc: Global, c: Config, memory: M) -> Result<ControlHeap<M>, OutOfMemory>
         requires can { CanOpen c }
         requires count { length (M.shows memory) ≡ words_count (extent c) }
@@ -158,7 +157,7 @@ impl<M: Store> ControlHeap<M> {
     }
 }
 
-// The opening heap of a configuration of one thread that has a rate.
+// The opening heap, on plain words, of a configuration that can be opened.
 fn opened(alloc: Global, c: Config) -> Result<ControlHeap, OutOfMemory>
     requires { CanOpen c }
     ensures config { IfOk result (λ h. h.config ≡ c) }
@@ -170,14 +169,14 @@ fn opened(alloc: Global, c: Config) -> Result<ControlHeap, OutOfMemory>
 }
 
 impl ControlHeap {
-    /// The opening heap of a configuration. It stands for a run in which nothing was asked yet.
-    /// What it does from then on takes no memory.
+    /// Opens a heap on plain words. It stands for a run in which no command is done yet. No later
+    /// call allocates memory, which no clause states.
     ///
     /// # Errors
     ///
-    /// The first of these that is so: `OutOfBounds` where a number of the configuration is out of
-    /// its range; `NotOneThread` where it has more threads than one; `LiveTooSmall` and `NoRate` as
-    /// of `rate_plan::plan`; and `NoMemory` where memory was refused.
+    /// The first that applies: `OutOfBounds` where a number of the configuration is out of range;
+    /// `NotOneThread` where it does not have exactly one thread; `LiveTooSmall` and `NoRate` as for
+    /// `rate_plan::plan`; `NoMemory` where memory runs out.
     pub fn open(alloc: Global, c: Config) -> Result<ControlHeap, OpenFault>
         ensures can { OnOk result (CanOpen c) }
         ensures config { IfOk result (λ h. h.config ≡ c) }
@@ -201,14 +200,14 @@ impl ControlHeap {
         }
     }
 
-    /// The present cycle of the collector, from 1: how many have begun. It reads one word.
+    /// The number of the present collection cycle, from 1. Reads one word.
     pub fn cycle(&self) -> u64
         ensures { (r : Run) → Stands self.now r → result ≡ starts_in r.order }
     {
         cycle_in(&self.config, &self.memory)
     }
 
-    /// How many blocks are Free. It reads one word.
+    /// How many blocks are free. Reads one word.
     pub fn free_blocks(&self) -> u64
         ensures { result ≡ count_free (extent self.now.config)
             (λ x. heap_of (extent self.now.config) self.now.words (ColourOf x)) }
@@ -216,8 +215,8 @@ impl ControlHeap {
         free_in(&self.config, &self.memory)
     }
 
-    /// How many blocks are not Free. No more are live, and what nothing reaches is among them until
-    /// a sweep comes by.
+    /// How many blocks are not free. The live blocks are at most so many; the others are garbage
+    /// that no sweep has freed yet. Reads one word.
     pub fn blocks_in_use(&self) -> u64
         ensures live { (r : Run) → Stands self.now r
             → live_blocks self.now.config.width (replay self.now.config r.order) ≤ result }
@@ -236,42 +235,42 @@ impl<M: Store> ControlHeap<M> {
         &self.config
     }
 
-    /// Its memory.
+    /// The memory.
     pub fn memory(&self) -> &M
         ensures { result.now ≡ self.now.memory }
     {
         &self.memory
     }
 
-    /// How many commands it was asked.
+    /// How many commands it has done, at most 2^60.
     pub fn asked(&self) -> u64
         ensures { result ≡ asked self.now }
     {
         self.count
     }
 
-    /// How many units its commands may still owe.
+    /// How many units are left of its life, at most 2^45.
     pub fn units_left(&self) -> u64
         ensures { result ≡ most_units - units self.now }
     {
         MOST_UNITS - self.thread.units_done()
     }
 
-    /// How many commands that make an object it may still be asked.
+    /// How many commands that make an object are left of its life, at most 2^43 - 1.
     pub fn objects_left(&self) -> u64
         ensures { result ≡ most_objects - self.now.objects }
     {
         MOST_OBJECTS.saturating_sub(self.objects)
     }
 
-    /// The units of marking or sweeping that it makes for each block of an allocation.
+    /// The rate: the units of marking or sweeping that an allocation makes for each of its blocks.
     pub fn rate(&self) -> u64
         ensures { IsRate self.now.config result }
     {
         self.thread.owes(&Command::New { d: 0, fields: 0 })
     }
 
-    /// The most operations on its memory that a command takes, which is in bounds.
+    /// The most operations on the memory that a command takes. The command is in bounds.
     pub fn most_operations(&self, command: &Command) -> u64
         requires { IsCommandInBounds self.now.config command.now }
         ensures { (rate : ℕ) → IsRate self.now.config rate
@@ -288,8 +287,8 @@ impl<M: Store> ControlHeap<M> {
         }
     }
 
-    /// Whether its life has room for one command more, which is in bounds: for the units that it
-    /// owes, for the object that it makes, and for the command.
+    /// Whether what is left of the life is enough for a command: for its units, for its object, and
+    /// for one more command. The command is in bounds.
     pub fn has_left(&self, command: &Command) -> bool
         requires { IsCommandInBounds self.now.config command.now }
         ensures { IsTrue result ↔ HasLeft self.now command.now }
@@ -300,9 +299,9 @@ impl<M: Store> ControlHeap<M> {
         few && objects && units
     }
 
-    /// Does a command, and answers its reply. The command is in bounds, and its life has room for
-    /// it. Whichever run the heap stood for, it now stands for that run with this command and this
-    /// reply behind it. Of its memory it makes the operations that the command takes, and no other.
+    /// Does a command and returns its reply. The command is in bounds, and the life has room for
+    /// it. Whichever run the heap stood for, it then stands for that run followed by this command
+    /// with this reply. It makes the operations on the memory that the command takes, no others.
     pub fn request(&mut self, command: Command) -> Reply
         requires bounds { IsCommandInBounds self.old.config command }
         requires left { HasLeft self.old command }
@@ -320,12 +319,12 @@ impl<M: Store> ControlHeap<M> {
         self.thread.log()[0].reply
     }
 
-    /// Does a command as `request` does, of which nothing is known before.
+    /// Does any command as `request` does, or refuses it.
     ///
     /// # Errors
     ///
     /// `OutOfBounds` exactly where the command is not in bounds, and `NoLifeLeft` exactly where it
-    /// is and its life has no room for it. Then nothing has changed.
+    /// is in bounds and the life has no room for it. The heap is then unchanged.
     pub fn ask(&mut self, command: Command) -> Result<Reply, Refused>
         ensures config { self.new.config ≡ self.old.config }
         ensures can { OnOk result

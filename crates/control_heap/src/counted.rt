@@ -1,4 +1,4 @@
-//! The words of a heap with a count of what is done on them.
+//! The words of a heap with a count of the operations made on them.
 
 ghost use Rattle.std.specs.Prelude.{◌≡◌, IfSome, ◌≤◌, ℕ};
 ghost use Rattle.rate_plan.specs.Rates.{IsRate};
@@ -8,8 +8,8 @@ use crate::{ControlHeap, Store};
 use heap_machine::{Memory, Op, Words};
 use never_heap::Command;
 
-/// The words of a heap, and how many operations were made on them: a heap on it does what one on
-/// words does, and tells how many operations that took.
+/// The words of a heap, and the number of operations made on them, which stays at 2^64 - 1 once it
+/// is reached.
 #[derive(Drop)]
 pub struct Counted {
     words: Words,
@@ -17,7 +17,7 @@ pub struct Counted {
 }
 
 impl Counted {
-    /// Words on which nothing was done yet.
+    /// Words with a count of 0.
     pub fn new(words: Words) -> Counted
         ensures words { result.words ≡ words }
         ensures none { result.made ≡ 0 }
@@ -25,7 +25,7 @@ impl Counted {
         Counted { words, made: 0 }
     }
 
-    /// How many operations were made.
+    /// The number of operations made so far.
     pub fn made(&self) -> u64
         ensures { result ≡ self.now.made }
     {
@@ -37,7 +37,7 @@ impl Memory for Counted {
     ghost use Rattle.std.specs.Prelude.{◌≡◌, ◌+◌, ◌-◌, ◌^◌, min};
     ghost use Rattle.heap_machine.specs.Operations.{MayAct, HasActed};
 
-    // They are one thread's alone.
+    // One thread alone has them.
     type Shared = ();
 
     ghost may = { λ m none op. MayAct m.words op };
@@ -61,8 +61,8 @@ impl Store for Counted {
     ghost keeps = { λ m op w after acted. acted.0 };
 }
 
-/// Asks a command, and tells how many operations it took: no more than its bound. `None` where it
-/// is refused.
+/// Does a command and returns how many operations it took, or `None` where it is refused. Proved is
+/// only that a number is within the command's bound.
 pub fn operations_of(heap: &mut ControlHeap<Counted>, command: Command) -> Option<u64>
     ensures { IfSome result (λ n. (rate : ℕ) → IsRate heap.old.config rate
         → n ≤ command_bound heap.old.config rate command) }

@@ -1,4 +1,4 @@
-//! Why a call has nothing to tell.
+//! Why a call has no result.
 
 ghost use Rattle.std.specs.Prelude.{◌≡◌};
 ghost use Rattle.control_heap.specs.Calls.{fault_of, fault_text};
@@ -7,27 +7,27 @@ use crate::Refused;
 use std::error::Error;
 use std::fmt;
 
-/// Why a call of one command has nothing to tell. Printed, each fault says what to do.
+/// Why a call of one command has no result. Its printed text also says what to do.
 #[derive(Clone, Copy, Debug, PartialEq, Eq)]
 pub enum Fault {
-    /// The heap had too few blocks for the object, since at the start of this cycle more were live
-    /// than its limit. Let go of objects: two cycles later there is room again.
+    /// Too few blocks were free for the object: at the start of this cycle more blocks were live
+    /// than the limit. Drop references to objects; two cycles later there is room again.
     Full(u64),
-    /// The register is nil, and refers to no object.
+    /// The register is nil.
     Null,
-    /// The register holds a number, and refers to no object.
+    /// The register holds a number.
     Kind,
-    /// The object has no such field.
+    /// The object has no field of this index.
     Range,
-    /// A register, number, index, length or number of units is out of its range on this heap, or
-    /// the command is none of its version. It is not asked.
+    /// A register, number, index, length or count of units is out of range on this heap, or the
+    /// heap's version lacks the command. The heap is unchanged.
     OutOfBounds,
-    /// The life of the heap has no room for the command. It is not asked.
+    /// What is left of the heap's life is too little for the command. The heap is unchanged.
     NoLifeLeft,
 }
 
 impl Fault {
-    /// The fault as it is printed, and what to do.
+    /// The printed text: what is wrong, and what to do.
     pub fn text(self) -> &'static str
         ensures { result.now ≡ fault_text self }
     {

@@ -1,4 +1,4 @@
-//! What the words of a heap and the numbers of a configuration tell.
+//! What is read from the words of a heap, and the near bound as a number.
 
 ghost use Rattle.std.specs.Prelude.{◌≡◌, ◌≤◌, ◌+◌, ◌-◌, ◌*◌, ◌/◌, ◌^◌, ℕ, length};
 ghost use Rattle.block_store.specs.Configs.{IsInBounds};
@@ -10,7 +10,7 @@ ghost use Rattle.block_store.specs.Widths.{payloads};
 use block_store::{Config, Places, Width, read_phase};
 use heap_machine::Words;
 
-/// The cycle that the phase word says.
+/// The cycle number in the phase word.
 pub fn cycle_in(c: &Config, words: &Words) -> u64
     requires bounds { IsInBounds c.now }
     requires there { length words.now ≡ words_count (extent c.now) }
@@ -19,7 +19,7 @@ pub fn cycle_in(c: &Config, words: &Words) -> u64
     read_phase(words.word(Places::new(c).phase())).cycle
 }
 
-/// The free count.
+/// The free count: how many blocks are free.
 pub fn free_in(c: &Config, words: &Words) -> u64
     requires bounds { IsInBounds c.now }
     requires there { length words.now ≡ words_count (extent c.now) }
@@ -28,7 +28,8 @@ pub fn free_in(c: &Config, words: &Words) -> u64
     words.word(Places::new(c).free_count())
 }
 
-/// The near bound of an allocation on one thread, that owes so many units and takes so many blocks.
+/// The near bound of an allocation on one thread: `units` that it owes, `taken` blocks that it
+/// takes, on a heap of `blocks` blocks.
 pub fn allocation_operations(width: Width, blocks: u32, units: u64, taken: u32) -> u64
     requires some { 1 ≤ blocks }
     requires units { units ≤ 2 ^ 45 }

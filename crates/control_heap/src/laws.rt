@@ -1,4 +1,4 @@
-//! What the runs say for which a heap stands: each law is the contract of a function that does
+//! Laws about the runs for which a heap stands. Each is the contract of a function that does
 //! nothing.
 
 ghost use Rattle.std.specs.Prelude.{◌≡◌, ◌<◌, ◌≤◌, ℕ, List};
@@ -17,10 +17,10 @@ ghost use Rattle.control_heap.specs.Gauges.{most_operations};
 ghost use Rattle.control_heap.specs.WayBack.{AllDone, HasWayBack};
 
 /// Of each run for which a heap stands: its order is a legal history of the heap that never frees
-/// (`legal`), in which each entry has the work that its command owes (`right`), and those works are
-/// the units that the heap has counted (`units`). Each `full` is licensed (`licensed`), so that
-/// where each cycle began with at most as many live blocks as the limit, no command was answered
-/// full (`never`).
+/// (`legal`). Each entry has the work that its command owes (`right`), and the works add up to the
+/// units that the heap has counted (`units`). Each `Full` is licensed (`licensed`): so where every
+/// cycle began with at most as many live blocks as the limit, no command was answered `Full`
+/// (`never`).
 pub fn histories_are_right()
     ensures legal { (h : Control) (r : Run) → Stands h r → Legal h.config r.order }
     ensures right { (h : Control) (r : Run) → Stands h r → (rate : ℕ) → IsRate h.config rate
@@ -31,26 +31,26 @@ pub fn histories_are_right()
         → NoFulls r.order }
 {}
 
-/// Whatever run a heap stands for, the requests that it answers one after the other have one
-/// history behind that of the run, which has their commands and replies in their order.
+/// Requests that a heap answers one after the other have one history. For each run for which the
+/// heap stood at first, the history of that run continues with their commands and replies, in
+/// order.
 pub fn requests_have_one_history()
     ensures { (h z : Control) (ks : List Command) (a : List Reply) (r : Run)
         → Stands h r → AllAnswered h ks a z → HasHistory z ks a r }
 {}
 
-/// The way back from full. Of a heap on m blocks that does commands from some moment on: they make
-/// at most 2m units for each cycle that begins meanwhile, and 2m more (`pace`). So once they made
-/// more than 4m units, two cycles have begun; and then, where each cycle that began since that
-/// moment began with no more live blocks than the limit, whatever there was before, no allocation
-/// is answered full (`back`, `two_cycles`).
+/// A heap that was full recovers. From any moment on, the commands on a heap of m blocks make at
+/// most 2m units for each cycle that begins meanwhile, and 2m more (`pace`). So after more than 4m
+/// units two cycles have begun. Where each cycle that began since that moment began with no more
+/// live blocks than the limit, no later allocation is answered `Full` (`back`, `two_cycles`).
 pub fn full_heaps_come_back()
     ensures { (h y z : Control) (ks : List Command) (a : List Reply) (js : List Command)
         (b : List Reply) (r : Run)
         → Stands h r → AllDone h ks a y → AllDone y js b z → HasWayBack h y z ks a js b r }
 {}
 
-/// No command takes more operations than are told of it: a number that is within both bounds of
-/// `HasMade` is within `most_operations`.
+/// No command takes more operations than `most_operations` returns: a number within both bounds of
+/// `HasMade` is at most that.
 pub fn commands_take_what_is_told()
     ensures { (c : Config) (rate : ℕ) (k : Command) (n : ℕ) → n ≤ command_bound c rate k
         → (0 < blocks_of c.width k → n ≤ allocation_near c rate k)

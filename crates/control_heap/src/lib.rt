@@ -1,4 +1,4 @@
-//! A heap for one thread, which is asked one command at a time.
+//! A garbage-collected heap for one thread, which does one command at a time.
 #![tactic(auto)]
 
 mod calls;

@@ -1,21 +1,21 @@
-//! Where the words of a heap of one thread are.
+//! The memory of a heap for one thread.
 
 use heap_machine::{Memory, Words};
 
-/// A memory that has the words of a heap for itself. It may do more at an operation than to change
-/// a word, as to count it; it has no other call.
+/// A memory that one heap has for itself. Its only call makes one operation on the words; it may
+/// also do more, such as count the operation.
 pub trait Store: Memory<Shared = ()> + Drop {
     ghost use Rattle.std.specs.Prelude.{ℕ, List};
     ghost use Rattle.heap_machine.specs.declared.op.Op.{Op};
     ghost use Rattle.heap_machine.specs.Operations.{MayAct, HasActed};
 
-    // The words that it has.
+    // The words in it.
     ghost shows: { Self → List ℕ };
 
-    // An operation that these words allow may be made.
+    // It may make each operation that the words allow.
     ghost allows: { (m : Self) (op : Op) → MayAct (shows m) op → Self.may m tt op };
 
-    // And it is made on these words.
+    // It makes the operation on the words.
     ghost keeps: { (m : Self) (op : Op) (w : ℕ) (n : Self) → Self.acts m tt op w n
         → HasActed (shows m) op w (shows n) };
 }

@@ -1,4 +1,4 @@
-//! Drawn requests against the heap that never frees, the end of a life, and each refusal.
+//! Random requests compared with the heap that never frees, the end of a life, and each refusal.
 
 ghost use Rattle.std.specs.Prelude.{◌≡◌, ◌<◌, ◌≤◌, ◌+◌, length, OnOk};
 ghost use Rattle.never_heap.specs.Graphs.{count_of};
@@ -12,10 +12,10 @@ use rand_pcg::Lcg64Xsh32;
 use rate_plan::plan;
 use std::alloc::Global;
 
-// How many commands are drawn for each width.
+// How many random commands are made for each width.
 const REQUESTS: u32 = 10_000;
 
-// How many registers a drawn command may name.
+// How many registers a random command may name.
 const REGISTERS: u32 = 12;
 
 // One thread on 64 blocks.
@@ -46,7 +46,7 @@ fn register(draws: &mut Lcg64Xsh32) -> u8 {
     (draws.next_word() % REGISTERS) as u8
 }
 
-// Any command, also one that is not in bounds; about a quarter of them make an object.
+// A random command, which may be out of bounds. About a quarter of them make an object.
 fn drawn_command(draws: &mut Lcg64Xsh32) -> Command {
     let kind = draws.next_word() % 21;
     let d = register(draws);
@@ -75,9 +75,8 @@ fn drawn_command(draws: &mut Lcg64Xsh32) -> Command {
     }
 }
 
-// Asks a command. Whether it is answered as the heap that never frees answers it, or is an
-// allocation that is answered full, which changes nothing there; or it is refused, and is out of
-// bounds.
+// Does a command and returns whether the outcome is right: the reply of the heap that never frees;
+// `Full` for an allocation, which changes nothing there; or a refusal of a command out of bounds.
 fn agrees_on(
     heap: &mut ControlHeap,
     graph: &mut Graph,
@@ -95,7 +94,7 @@ fn agrees_on(
     }
 }
 
-// Whether all drawn commands are answered so.
+// Whether the outcome of each random command is right.
 fn agrees(alloc: Global, width: Width, key: u64) -> Result<bool, OutOfMemory> {
     let c = narrow(width);
     if !c.in_bounds() || c.threads != 1 {
@@ -124,10 +123,10 @@ fn each_reply_is_that_of_the_heap_that_never_frees(rt: HostRuntime) -> Result<()
     Ok(())
 }
 
-// How many objects one heap makes in a test: 76 times as many as a job of a text may.
+// How many objects one heap makes in a test, 76 times as many as the largest job of a text.
 const OBJECTS: u64 = 10_000_000;
 
-// The registers and the shared array take six blocks, and a block is paid for with 7 units.
+// The registers and the shared array take six blocks, and the rate is 7.
 #[test]
 fn a_heap_makes_ten_million_objects(rt: HostRuntime) {
     let mut heap = ControlHeap::open(rt.alloc(), small(Width::Four)).expect(&rt, "it opens");
@@ -241,8 +240,8 @@ fn as_many_operations_are_made_as_the_rows_of_a_command_are(rt: HostRuntime) {
     assert_eq!(rt; most, 107);
 }
 
-// Keeps reading number `count` as a record in the shared array, to which register 0 refers, and in
-// the list of alarms behind the first 40 places where it is one.
+// Keeps reading number `count` as a record in the shared array (register 0), and, where it is an
+// alarm, in the list of alarms from element 40 on.
 fn keep(heap: &mut ControlHeap, count: u64, reading: u32, alarm: bool) -> Result<(), Fault> {
     let from = if alarm { 1 } else { 5 };
     let _name = heap.record(1, 1)?;
@@ -252,7 +251,7 @@ fn keep(heap: &mut ControlHeap, count: u64, reading: u32, alarm: bool) -> Result
     heap.put(0, 40 + count % 40, from)
 }
 
-// What a loop does then.
+// What a loop does after a reading.
 #[derive(Clone, Copy, Debug, PartialEq, Eq)]
 enum Next {
     Reading,
@@ -319,8 +318,8 @@ fn a_list_that_grows_without_end_is_full(rt: HostRuntime) {
     assert!(rt; full.is_some());
 }
 
-// Makes a list of records in register 1 until one is full, and tells the cycle; `None` where each of
-// many has room.
+// Makes a list of records in register 1 until one is answered `Full`, and returns the cycle; `None`
+// where there is room for 1,000.
 fn loop_until_full(heap: &mut ControlHeap, made: &mut u32) -> Option<u64> {
     for count in 0..1000 {
         *made = count;
@@ -362,8 +361,8 @@ fn most_of(heap: &ControlHeap, command: &Command) -> u64 {
     }
 }
 
-// Behind a full, what the list held is let go, and after four units for each block and one more
-// there is room again.
+// After a `Full` the list is dropped, and after four units for each block and one more unit there
+// is room again.
 #[test]
 fn a_full_heap_comes_back(rt: HostRuntime) {
     let mut heap = ControlHeap::open(rt.alloc(), small(Width::Eight)).expect(&rt, "it opens");

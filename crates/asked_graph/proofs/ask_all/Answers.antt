@@ -1,7 +1,7 @@
-use Rattle.std.proofs.Common.{◌∙◌, ◌≡◌, ◌<◌, [], drop, length, arith}
+use Rattle.std.proofs.Common.{◌∙◌, ◌<◌, drop, length, arith}
 use Rattle.std.proofs.lemmas.List.{drop_all}
 use Rattle.asked_graph.specs.Shown.{HasMetNoFull, Shows}
-use Rattle.asked_graph.proofs.Leading.{done_on, leads_on, led, refused_on}
+use Rattle.asked_graph.proofs.Leading.{done_on, leads_on, led, refused_on, replied, replied_on}
 use Rattle.asked_graph.proofs.ask_all.Goals as goal
 
 pub loop-command-preserved : goal.loop-command-preserved
@@ -12,6 +12,7 @@ loop-command-preserved c =
       config = is.config ∙ before.config;
       leads = leads_on Shows c.args.heap.now c.loop-command.heap c.ask.new.heap c.args.commands.now before.config c.loop-command.reply c.in_ok-reply.reply c.loop-command.command-index _ low is.shown before.leads;
       never = leads_on HasMetNoFull c.args.heap.now c.loop-command.heap c.ask.new.heap c.args.commands.now before.config c.loop-command.reply c.in_ok-reply.reply c.loop-command.command-index _ low is.never before.never;
+      replied = replied_on c.args.heap.now c.loop-command.heap c.ask.new.heap c.args.commands.now c.loop-command.reply c.in_ok-reply.reply c.loop-command.command-index _ low is.done is.answered before.replied;
       done = done_on c.args.heap.now c.loop-command.heap c.ask.new.heap c.args.commands.now c.loop-command.command-index _ low is.done before.done;
       refused = refused_on c.args.heap.now c.loop-command.heap c.ask.new.heap c.args.commands.now c.loop-command.command-index _ low is.done before.refused;
     }
@@ -19,3 +20,7 @@ loop-command-preserved c =
 pub returns-clause-never : goal.returns-clause-never
 returns-clause-never c =
     led HasMetNoFull c.args.heap.now c.loop-command.heap c.args.commands.now c.loop-command.reply (drop c.loop-command.command-index c.args.commands.now) (drop_all c.loop-command.command-index c.args.commands.now (omega (arith, c.loop-command-test.false))) c.loop-command.invariant.never
+
+pub returns-clause-replied : goal.returns-clause-replied
+returns-clause-replied c =
+    replied c.args.heap.now c.loop-command.heap c.args.commands.now c.loop-command.reply (drop c.loop-command.command-index c.args.commands.now) (drop_all c.loop-command.command-index c.args.commands.now (omega (arith, c.loop-command-test.false))) c.loop-command.invariant.replied
