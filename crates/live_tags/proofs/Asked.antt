@@ -1,4 +1,4 @@
--- Commands that are asked one behind the other.
+-- Commands that are executed one after the other.
 use Rattle.std.proofs.Common.{◌≡◌, ℕ, ◌+◌, ◌<◌, ◌≤◌, inl, inr, refl, arith, subst, sym, ap, ◌∙◌, append_assoc, List, [], ◌∷◌, ◌++◌, length, map, get_or, take, drop}
 use Rattle.std.specs.List.{AllByRecursion}
 use Rattle.std.proofs.lemmas.Bool.{cases_eq}
@@ -88,7 +88,7 @@ begun_more first old new k a b is = record {
   sound = is.sound;
 }
 
--- where the loop stands: i commands were asked, and there is room for the others
+-- the loop's invariant: i commands were executed, and the lifetime allows the others
 pub record IsAt (first : WorkerState) (ks : List Command) (i : ℕ) (p : Reply × Reply)
     (now : WorkerState) : Type 0 where
   pub none : i ≡ 0 → now ≡ first

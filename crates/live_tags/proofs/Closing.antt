@@ -1,4 +1,4 @@
--- At the end the table was kept.
+-- A closed table has a linearization.
 use Rattle.std.proofs.Common.{◌≡◌, ℕ, zero, suc, ◌+◌, ◌<◌, ◌≤◌, inl, inr, refl, arith, subst, sym, ap, ◌∙◌, List, [], ◌++◌, length, map, get_or}
 use Rattle.std.specs.Prelude.{flat_map, slice_index_or}
 use Rattle.std.proofs.lemmas.Bool.{cases_lt}
@@ -35,7 +35,7 @@ parts_count t (suc n) h = ap suc (parts_count (t + 1) n h)
 abbrev commands_in : List Entry → List Command
 commands_in es = map (λ (e : Entry). e.command) es
 
--- the operations that a part is
+-- the operations of a part
 abbrev script_of : List Entry → List Operation
 script_of es = operations_of (commands_in es)
 
@@ -152,7 +152,7 @@ module _ (c : Config) (ws : List WorkerState) (cycles : ℕ) (tags : IsTagHeap c
     starts = one.starts;
   }
 
--- the workers within are those of the heap
+-- the workers of the table are those of the heap
 pub each_once : (t : HeapState) (ws : List WorkerState) → AreEachOnce t (map tag_worker ws)
     → heaps.AreEachOnce t ws
 each_once t ws are = record {
@@ -180,7 +180,7 @@ same_config t ws are j d low =
     (sym (get_or_map tag_worker ws j (tag_worker d) d low))
     ∙ own.1
 
--- What one worker did behind all that another had seen stands behind what that one had done.
+-- What one worker did after all that another had seen comes after what that one had done.
 pub stands_behind : (c : Config) (ws : List TagWorkerState) (cycles : ℕ)
     (is : HaveOneTable c ws cycles) (old new a : TagWorkerState) (op : Operation) (tag : Tag)
     (did : HasDone old op tag new) → HasSeenAll a → IsStartOf a.worker.seen did.start

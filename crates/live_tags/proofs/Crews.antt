@@ -13,7 +13,7 @@ same_then a b d f g = same_on a.worker b.worker d.worker f g
 pub of_same : (t : HeapState) (a b : TagWorkerState) → IsOf t a → IsSameWorker a b → IsOf t b
 of_same t a b is same = (same.heap ∙ is.0, same.config ∙ is.1)
 
--- workers in order are all, each once
+-- workers in thread order are all workers, each once
 pub in_order_each : (t : HeapState) (ws : List TagWorkerState) → AreInOrder t ws → AreEachOnce t ws
 in_order_each t ws s = record {
   count = s.count;

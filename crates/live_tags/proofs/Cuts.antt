@@ -1,4 +1,4 @@
--- A first part of a history is a first part of the order: that of what is decided in it.
+-- A prefix of a history decides a prefix of the order.
 use Rattle.std.proofs.Common.{◌≡◌, ◌≢◌, ℕ, zero, suc, ◌+◌, ◌==◌, inl, inr, Bool, true, false, Option, Some, None, cond, List, [], ◌∷◌, ◌++◌, length, map, take, drop, get_or, slice_index_or, eq-eqb, ne_eqb, sym, refl, ap, ◌∙◌, append_assoc, arith}
 use Rattle.std.specs.Prelude.{flat_map}
 use Rattle.std.proofs.lemmas.Bool.{cases_eq}
@@ -21,7 +21,7 @@ use Rattle.live_tags.proofs.Decoded.{decoded, rows_more}
 
 -- ---- lists
 
--- what is mapped to two lists is two lists
+-- a list whose image is two appended lists is two appended lists
 record IsSplit {A B : Type 0} (f : A → B) (xs : List A) (front back : List B) : Type 0 where
   first : List A
   later : List A
@@ -102,7 +102,7 @@ drop_one zero xs = refl
 drop_one (suc n) [] = refl
 drop_one (suc n) (x ∷ xs) = drop_one n xs
 
--- what the next row of thread t decides, and then those behind it
+-- what the next row of thread t decides, and then those after it
 next_ops : (u t : ℕ) (rows : List Row) (n : ℕ) → t ≡ u
     → ops_of u (decided_next decides t rows) ++ ops_in decides (take n (drop 1 rows))
     ≡ ops_in decides (take (suc n) rows)
@@ -246,7 +246,7 @@ module _ (scripts : List (List Operation)) (h : List HistoryItem) (order : List 
       (deciding ∙ ap (λ x. behind scripts [] x) begins.1
       ∙ split_behind scripts [] start begins.0)
 
-  -- what thread u had done where it had this log, and its log is how its part of the start begins
+  -- what thread u had done when it had this log, where its log is a prefix of its part of the start
   done_in : (u : ℕ) (done : List Operation) (log : List Entry) (rest : List Entry)
       → part u start ≡ log ++ rest
       → map (λ (e : Entry). e.command) log ≡ commands_of done

@@ -1,4 +1,4 @@
--- The commands of operations tell the operations, and one operation more its answer.
+-- The commands of operations determine the operations, and their replies the answers.
 use Rattle.std.proofs.Common.{◌≡◌, ℕ, Bool, refl, arith, sym, ap, ◌∙◌, append_assoc, List, [], ◌∷◌, ◌++◌, length, map}
 use Rattle.std.specs.Prelude.{flat_map}
 use Rattle.std.proofs.lemmas.List.{map-append}

@@ -1,4 +1,4 @@
--- An operation is its commands: what it needs, and what comes of it.
+-- The commands of an operation: what they need, and their outcome.
 use Rattle.std.proofs.Common.{◌≡◌, ℕ, ◌+◌, ◌<◌, ◌≤◌, refl, arith, subst, sym, ap, ◌∙◌, List, [], ◌∷◌, ◌++◌, length, get_or}
 use Rattle.std.specs.Prelude.{flat_map}
 use Rattle.std.specs.List.{AllByRecursion}
@@ -20,7 +20,7 @@ use Rattle.live_tags.specs.Life.{HasBegun, HasRoomFor, HasRun}
 use Rattle.live_tags.specs.Live.{HasDone, HasSeenAll, IsTagHeap, IsTagWorker, commands_of, replies, tag_worker}
 use Rattle.live_tags.proofs.Decoded.{decoded, commands_more, inside_more, answers_more, told_by_two}
 
--- the commands of an operation in range are in their bounds
+-- the commands of an operation in range are in bounds
 module _ (n tags blocks : ℕ) (few_tags : tags ≤ 1024) where
   fits_there : (op : Operation) → IsOperationInRange tags op
       → AllByRecursion (IsCommandInBounds (tag_config n tags blocks)) (commands_of (op ∷ []))
@@ -71,7 +71,7 @@ fits c op is few range =
     subst (λ (x : Config). AllByRecursion (IsCommandInBounds x) (commands_of (op ∷ []))) (sym is)
     (fits_there c.threads c.shared c.blocks few op range)
 
--- there is room for all commands of an operation where there is for the first and for so many
+-- a lifetime that allows the first command of an operation, and so many commands, allows all of them
 pub some_commands : (op : Operation) → 0 < length (commands_of (op ∷ []))
 some_commands (Write i v q) = omega arith
 some_commands (Clear i) = omega arith
@@ -125,7 +125,7 @@ first_room l (Read i) d room = (
   ),
 )
 
--- what comes of it
+-- the outcome
 module _ (old new : WorkerState) (op : Operation) (two : Reply × Reply) (is : IsTagWorker old)
     (run : HasRun old (commands_of (op ∷ [])) two new) where
   abbrev ops : List Operation

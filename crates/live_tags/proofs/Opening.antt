@@ -1,4 +1,4 @@
--- The heap of a table can be opened, and its workers did nothing yet.
+-- The heap of a table can be opened, and its workers have done no operation.
 use Rattle.std.proofs.Common.{◌≡◌, ℕ, zero, suc, ◌<◌, refl, arith, subst, sym, ap, ◌∙◌, List, [], ◌∷◌, ◌++◌, length, map, get_or}
 use Rattle.std.specs.List.{AllByRecursion}
 use Rattle.std.proofs.lemmas.List.{length-map}

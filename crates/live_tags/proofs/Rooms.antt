@@ -1,4 +1,4 @@
--- A life that has room for several commands has room for the first, and then for the others.
+-- A lifetime that allows several commands allows the first, and then the others.
 use Rattle.std.proofs.Common.{◌≡◌, ℕ, ◌+◌, ◌≤◌, Bool, true, false, arith, subst, sym, ap, ◌∙◌, List, [], ◌∷◌, ◌++◌, length}
 use Rattle.std.proofs.lemmas.List.{length_push}
 use Rattle.block_store.specs.declared.Config.{Config}

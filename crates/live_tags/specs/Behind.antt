@@ -1,11 +1,11 @@
--- Where operations stand in the order of a table, by what workers had seen.
+-- The place of operations in the order of a table, by what workers had seen.
 use Rattle.std.specs.Prelude.{ℕ, ◌≡◌, ◌++◌, List, map}
 use Rattle.operations.specs.Linearizations.{Call, calls_of}
 use Rattle.tag_table.specs.declared.operation.Operation.{Operation}
 use Rattle.tag_table.specs.Tables.{Tag}
 
--- The order has a first part with all these operations of thread u, of which thread t has just those
--- in it. So what t did behind those stands behind all that u did up to these.
+-- A prefix of the order has at least these operations of thread u, and exactly those of thread t.
+-- So what t did after those comes after all that u had done with these.
 pub record StandsBehind (order : List (Call Operation Tag)) (u : ℕ) (these : List Operation)
     (t : ℕ) (those : List Operation) : Type 0 where
   pub first : List (Call Operation Tag)

@@ -1,16 +1,17 @@
--- The operations that commands are, read off the commands alone.
+-- The operations that a list of commands does, read off the commands alone.
 use Rattle.std.specs.Prelude.{ℕ, ◌==◌, Bool, true, false, if◌then◌else◌, List, [], ◌∷◌}
 use Rattle.never_heap.specs.declared.Command.{Command}
 use Rattle.never_heap.specs.declared.Command.TheVariants as commands
 use Rattle.tag_table.specs.declared.operation.Operation.{Operation}
 use Rattle.tag_table.specs.declared.operation.Operation.TheVariants.{Write, Clear, Read}
 
--- an exchange with the record that was made of the last two numbers, or with nil
+-- an exchange of a place with a record of these two numbers, or with nil
 abbrev pub exchanged : Bool → ℕ → ℕ → ℕ → Operation
 exchanged true i v q = Write i v q
 exchanged false i v q = Clear i
 
--- The operations of commands: whether a record or nil came last, and the last two numbers.
+-- The operations of commands, given whether the last object was a record, and the last two numbers
+-- that were set.
 abbrev pub operations_from : Bool → ℕ → ℕ → List Command → List Operation
 operations_from made v q [] = []
 operations_from made v q (commands.New d f ∷ ks) = operations_from true v q ks

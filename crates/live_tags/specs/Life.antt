@@ -1,4 +1,4 @@
--- What is left of a worker's life for several commands, and what it has after them.
+-- What a worker's lifetime allows of several commands, and what the worker is after them.
 use Rattle.std.specs.Prelude.{ℕ, ◌+◌, ◌≤◌, ◌≡◌, ◌++◌, List, [], ◌∷◌, length, map}
 use Rattle.rate_plan.specs.Rates.{IsRate}
 use Rattle.never_heap.specs.declared.Command.{Command}
@@ -12,19 +12,19 @@ use Rattle.never_heap.specs.Histories.{HistoryItem, part}
 use Rattle.shared_heap.specs.Shared.{IsStartOf}
 use Rattle.shared_heap.specs.Workers.{AllStart, HasSeenIts, IsSame, WorkerState}
 
--- the life of a thread has room for all of these commands
+-- the lifetime of a thread allows all of these commands
 pub record HasRoomFor (l : LocalState) (ks : List Command) : Type 0 where
   pub commands : length l.trace + length ks ≤ most_commands
   pub objects : sum_after objects_of 0 l.trace + sum_after objects_of 0 ks ≤ most_objects
   pub units : (rate : ℕ) → IsRate l.config rate
       → works l.log + sum_after (units_owed l.config.width rate) 0 ks ≤ most_units
 
--- the last two of these replies, behind two others
+-- the last two of two replies followed by these
 abbrev pub last_two : Reply → Reply → List Reply → Reply × Reply
 last_two a b [] = (a, b)
 last_two a b (r ∷ rs) = last_two b r rs
 
--- the same worker, which was asked these commands more; the last two replies are these
+-- the same worker, which has executed these commands more; the last two replies are these
 pub record HasRun (old : WorkerState) (ks : List Command) (p : Reply × Reply)
     (new : WorkerState) : Type 0 where
   pub same : IsSame old new
@@ -34,9 +34,8 @@ pub record HasRun (old : WorkerState) (ks : List Command) (p : Reply × Reply)
   pub commands : map (λ (e : Entry). e.command) entries ≡ ks
   pub two : p ≡ last_two replies.Null replies.Null (map (λ (e : Entry). e.reply) entries)
 
--- When it was asked the first of them there was a history, which begins with all that it had seen
--- and with all that it was told that others had seen, and in which it did nothing more. What it has
--- seen now begins with that.
+-- What the worker had seen before these commands, and each note that it had learned, is a prefix
+-- of a history `start`, in which it did nothing more. That is a prefix of what it has seen now.
 pub record HasBegun (old new : WorkerState) : Type 0 where
   pub start : List HistoryItem
   pub before : IsStartOf old.seen start

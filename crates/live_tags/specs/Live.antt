@@ -1,4 +1,4 @@
--- A table of tags that threads use while they run, and its workers, as contracts see them.
+-- A table of tags that running threads share, and its workers, as contracts see them.
 use Rattle.std.specs.Prelude.{ℕ, ◌<◌, ◌≤◌, ◌≡◌, ◌++◌, ◌*◌, List, [], ◌∷◌, length, map, flat_map, slice_index_or}
 use Rattle.block_store.specs.declared.Config.{Config}
 use Rattle.rate_plan.specs.Rates.{IsRate}
@@ -20,14 +20,14 @@ use Rattle.live_tags.specs.declared.table.OpenFault.TheVariants as faults
 use Rattle.live_tags.specs.Decoding.{operations_of}
 use Rattle.live_tags.specs.Life.{HasRoomFor}
 
--- A worker of a table: its worker of the heap, the operations that it did, and what each of them
--- was answered. In memory it has its last command alone.
+-- A worker of a table: its worker of the heap, the operations that it did, and their answers. In
+-- memory it has only its last command.
 pub record TagWorkerState : Type 0 where
   pub worker : WorkerState
   pub done : List Operation
   pub answers : List Tag
 
--- which thread of the table it is
+-- the thread of a worker
 abbrev pub thread_of : TagWorkerState → ℕ
 thread_of w = w.worker.thread.thread
 
@@ -46,14 +46,15 @@ replies es = map (λ (e : Entry). e.reply) es
 abbrev pub IsTagHeap : Config → Type 0
 IsTagHeap c = c ≡ tag_config c.threads c.shared c.blocks
 
--- a worker of the heap was asked the commands of operations on places of the table, and no others
+-- a worker of the heap has executed the commands of operations on places of the table, and no
+-- others
 pub record IsTagWorker (w : WorkerState) : Type 0 where
   pub heap : IsTagHeap w.thread.config
   pub asked : w.thread.trace ≡ commands_of (operations_of w.thread.trace)
   pub inside : AreInTable w.thread.config.shared (operations_of w.thread.trace)
   pub long : length w.thread.log ≡ length w.thread.trace
 
--- and so it is seen
+-- the value of a worker in contracts
 abbrev pub tag_worker : WorkerState → TagWorkerState
 tag_worker w = record {
   worker = w;
@@ -70,7 +71,7 @@ opened_config threads tags =
 abbrev pub IsOf : HeapState → TagWorkerState → Type 0
 IsOf t w = (w.worker.heap ≡ t.id) × (w.worker.thread.config ≡ t.config)
 
--- the same worker, which was told that this much was seen
+-- the same worker, which has learned a note of this history
 abbrev pub has_learned : TagWorkerState → List HistoryItem → TagWorkerState
 has_learned w seen = record {
   worker = record w.worker { notes = w.worker.notes ++ seen ∷ [] };
@@ -78,7 +79,7 @@ has_learned w seen = record {
   answers = w.answers;
 }
 
--- the workers are all of this table's, in the order of their threads
+-- these are all workers of this table, in thread order
 pub record AreInOrder (t : HeapState) (ws : List TagWorkerState) : Type 0 where
   pub count : length ws ≡ t.config.threads
   pub each : (i : ℕ) (d : TagWorkerState) → i < length ws
@@ -89,18 +90,18 @@ abbrev pub HasWorker : ℕ → List TagWorkerState → Type 0
 HasWorker t ws = (i : ℕ) × (i < length ws)
     × ((d : TagWorkerState) → thread_of (slice_index_or ws i d) ≡ t)
 
--- the workers are all of this table's, each once, in any order
+-- these are all workers of this table, each once, in any order
 pub record AreEachOnce (t : HeapState) (ws : List TagWorkerState) : Type 0 where
   pub count : length ws ≡ t.config.threads
   pub own : (i : ℕ) (d : TagWorkerState) → i < length ws → IsOf t (slice_index_or ws i d)
   pub each : (u : ℕ) → u < t.config.threads → HasWorker u ws
 
--- each did nothing yet
+-- each has done no operation
 abbrev pub AreFresh : List TagWorkerState → Type 0
 AreFresh ws = (i : ℕ) (d : TagWorkerState) → i < length ws
     → ((slice_index_or ws i d).done ≡ []) × ((slice_index_or ws i d).answers ≡ [])
 
--- the worker's life has room for the commands of an operation
+-- the worker's lifetime allows all commands of an operation
 abbrev pub HasLife : TagWorkerState → Operation → Type 0
 HasLife w op = HasRoomFor w.worker.thread (commands_of (op ∷ []))
 
@@ -108,14 +109,15 @@ HasLife w op = HasRoomFor w.worker.thread (commands_of (op ∷ []))
 abbrev pub CanDo : TagWorkerState → Operation → Type 0
 CanDo w op = IsOperationInRange (places_of w) op × HasLife w op
 
--- what a worker has answered is its part of what it has seen of the history
+-- A worker's entries are its part of what it has seen, and their commands are those of its
+-- operations.
 pub record HasSeenAll (w : TagWorkerState) : Type 0 where
   pub its : part (thread_of w) w.worker.seen ≡ w.worker.thread.log
   pub rows : map (λ (e : Entry). e.command) w.worker.thread.log ≡ commands_of w.done
 
--- The same worker, which did this operation more and was answered so. When it began there was a
--- history (`start`), which begins with all that it had seen, and with all that it was told that
--- others had seen; what it has seen now begins with that.
+-- The worker has done one more operation, with this answer. What it had seen, and each note that it
+-- had learned, is a prefix of a history `start`, in which it did nothing more. That is a prefix of
+-- what it has seen now.
 pub record HasDone (old : TagWorkerState) (op : Operation) (tag : Tag) (new : TagWorkerState)
     : Type 0 where
   pub done : new.done ≡ old.done ++ op ∷ []
@@ -133,12 +135,12 @@ pub record HasDone (old : TagWorkerState) (op : Operation) (tag : Tag) (new : Ta
 abbrev pub IsSameWorker : TagWorkerState → TagWorkerState → Type 0
 IsSameWorker old new = IsSame old.worker new.worker
 
--- when each refusal comes
+-- the cause of each refusal of an operation
 abbrev pub IsRefused : TagWorkerState → Operation → Refused → Type 0
 IsRefused w op OutOfRange = ¬ IsOperationInRange (places_of w) op
 IsRefused w op NoLifeLeft = IsOperationInRange (places_of w) op × ¬ HasLife w op
 
--- a table of so many places for so many threads
+-- the ranges of a table's places and threads
 pub record IsTableInRange (tags threads : ℕ) : Type 0 where
   pub few_tags : tags ≤ 1024
   pub some_thread : 1 ≤ threads
@@ -149,8 +151,8 @@ IsOpenFault tags threads faults.OutOfRange = ¬ IsTableInRange tags threads
 IsOpenFault tags threads faults.NoMemory =
     IsTableInRange tags threads × CanOpen (opened_config threads tags)
 
--- A worker of thread t did the operations of its script, and its answers are those of the calls of
--- thread t. What it has seen is how the history begins.
+-- This is the worker of thread t. It did the operations of the thread's script, and its answers are
+-- those of the thread's calls in the order. What it has seen is a prefix of the history.
 pub record HasScript (scripts : List (List Operation)) (history : List HistoryItem)
     (order : List (Call Operation Tag)) (t : ℕ) (w : TagWorkerState) : Type 0 where
   pub thread : thread_of w ≡ t
@@ -158,9 +160,10 @@ pub record HasScript (scripts : List (List Operation)) (history : List HistoryIt
   pub answers : w.answers ≡ map (λ (d : Call Operation Tag). d.answer) (calls_of t order)
   pub seen : IsStartOf w.worker.seen history
 
--- The table was kept: there is a run of the job of scripts, which has a linearization and no
--- allocation that was answered full. The scripts are what the workers did, each in its order, and
--- their answers are those of the plain table in the order of the linearization.
+-- There is a history of the job of some scripts, with a linearization and with no allocation that
+-- was answered full. Each worker did the operations of one script, in its order. Its answers are
+-- those of a plain table in the order of the linearization. The number of cycles is that of the
+-- history.
 pub record HaveOneTable (c : Config) (ws : List TagWorkerState) (cycles : ℕ) : Type 0 where
   pub scripts : List (List Operation)
   pub history : List HistoryItem

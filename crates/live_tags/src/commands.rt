@@ -1,4 +1,4 @@
-//! The commands of operations, and their ranges.
+//! The commands of each operation, its range, and its answer.
 
 ghost use Rattle.std.specs.Prelude.{◌≡◌, ◌∷◌, [], ◌↔◌, IsTrue};
 ghost use Rattle.tag_table.specs.Tables.{IsOperationInRange, pair_of};
@@ -62,7 +62,7 @@ pub(crate) fn read_commands(place: u32) -> [Command; 3]
     ]
 }
 
-// Whether an operation is on a place of the table, with numbers that a field holds.
+// Whether an operation is on a place of the table, with numbers that fit in a field.
 pub(crate) fn in_range(op: &Operation, tags: u32) -> bool
     ensures { IsTrue result ↔ IsOperationInRange tags op.now }
 {
@@ -77,7 +77,7 @@ pub(crate) fn in_range(op: &Operation, tags: u32) -> bool
     }
 }
 
-// The pair that two replies tell, if they are numbers.
+// The pair of two replies, if both are numbers.
 pub(crate) fn pair(value: Reply, quality: Reply) -> Option<(u64, u64)>
     ensures { result ≡ pair_of value quality }
 {

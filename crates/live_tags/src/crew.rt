@@ -1,4 +1,4 @@
-//! The workers of a table as those of its heap, and back.
+//! Conversion between the workers of a table and those of its heap.
 
 ghost use Rattle.std.specs.Prelude.{◌≡◌, ◌≤◌, [], IfSome, length, map};
 ghost use Rattle.std.specs.List.{AllByRecursion};
@@ -9,7 +9,7 @@ use crate::worker::TagWorker;
 use shared_heap::Worker;
 use std::alloc::Global;
 
-/// Room for all workers that a heap can have.
+/// An empty vector with capacity for all workers that a heap can have.
 #[derive(Drop)]
 pub(crate) struct Room {
     pub(crate) workers: Vec<Worker>,
@@ -17,7 +17,7 @@ pub(crate) struct Room {
     pub(crate) ghost many: { 16 ≤ vec_capacity workers },
 }
 
-// Takes the room.
+// Allocates the room. `None` if the allocation failed.
 pub(crate) fn room_of(alloc: Global) -> Option<Room> {
     let Ok(workers) = Vec::with_capacity(alloc, 16) else {
         return None;
@@ -25,7 +25,7 @@ pub(crate) fn room_of(alloc: Global) -> Option<Room> {
     Some(Room { workers })
 }
 
-// The workers of a heap as those of a table.
+// The workers of a heap as those of a table. `None` if an allocation failed.
 pub(crate) fn wrapped(alloc: Global, workers: Vec<Worker>) -> Option<Vec<TagWorker>>
     requires { AllByRecursion IsTagWorker workers.items }
     ensures { IfSome result (λ v. v.items ≡ map tag_worker workers.items) }
@@ -39,7 +39,7 @@ pub(crate) fn wrapped(alloc: Global, workers: Vec<Worker>) -> Option<Vec<TagWork
     Some(crew)
 }
 
-// The workers of a table as those of its heap. It takes no memory.
+// The workers of a table as those of its heap. This allocates nothing.
 pub(crate) fn unwrapped(room: Room, crew: Vec<TagWorker>) -> Vec<Worker>
     requires { length crew.items ≤ 16 }
     ensures all { AllByRecursion IsTagWorker result.items }

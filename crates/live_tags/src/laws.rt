@@ -1,4 +1,4 @@
-//! What callers know of a table beside its calls: the law is the contract of a function that does
+//! A law of a table that no single call can state. It is the contract of a function that does
 //! nothing.
 
 ghost use Rattle.std.specs.Prelude.{ℕ, List};
@@ -9,9 +9,10 @@ ghost use Rattle.tag_table.specs.Tables.{Tag};
 ghost use Rattle.live_tags.specs.Behind.{StandsBehind};
 ghost use Rattle.live_tags.specs.Live.{HasDone, HasSeenAll, HaveOneTable, TagWorkerState, thread_of};
 
-/// An operation stands, in the one order of a table, behind all operations that a worker `a` had
-/// done, where what `a` had seen is how the history began when the operation did. So it is of the
-/// operation's own worker, and of each whose note it had learned.
+/// In the order of a closed table, an operation comes after all operations that a worker `a` had
+/// done, if what `a` had seen is a prefix of the history at which the operation began
+/// (`did.start`). That is so for the operation's own worker, and for each worker whose note it had
+/// learned.
 pub fn operations_stand_behind_what_was_seen()
     ensures { (c : Config) (ws : List TagWorkerState) (cycles : ℕ)
         (is : HaveOneTable c ws cycles) (old new a : TagWorkerState) (op : Operation) (tag : Tag)

@@ -1,4 +1,4 @@
-//! A table of tags that threads of a program use while they run.
+//! A table of tags that several threads of a program share while they run.
 #![tactic(auto)]
 
 mod commands;

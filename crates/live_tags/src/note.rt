@@ -1,10 +1,12 @@
-//! What a worker of a table had seen, to be told to another.
+//! Notes: how much of a table's history a worker had seen, to pass to another worker.
 
 use shared_heap::Note;
 use std::marker::Model;
 
-/// How much of the one history of a table a worker had seen when the note was made. A thread that
-/// hands it on with what it was answered lets the other thread's operations come behind its own.
+/// How much of a table's history a worker had seen when the note was made.
+///
+/// A thread passes a note on together with its data. Each operation that a worker does after it
+/// learned the note comes, in the one order, after all operations that the note covers.
 #[derive(Drop)]
 pub struct TagNote {
     pub(crate) note: Note,

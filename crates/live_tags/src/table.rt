@@ -1,4 +1,4 @@
-//! The table: what is opened, used and closed.
+//! A table of tags: how it is opened, used and closed.
 
 ghost use Rattle.std.specs.Prelude.{◌≡◌, ◌∷◌, [], ◌≤◌, ◌<◌, ◌++◌, ◌↔◌, IsTrue, IfOk, IfErr, OnOk, OnErr, IfSome, length};
 ghost use Rattle.std.specs.List.{AllByRecursion};
@@ -22,32 +22,34 @@ use std::marker::Model;
 use std::sync::{Mutex, Wait};
 use tag_table::Operation;
 
-// How many commands can be counted.
+// The most commands of a worker's lifetime.
 const MOST_COMMANDS: u64 = 1 << 60;
 
-/// Why no table is opened.
+/// Why a table is not opened.
 #[derive(Clone, Copy, Debug, PartialEq, Eq)]
 pub enum OpenFault {
     /// There are more than 1,024 tags, no thread, or more than 16.
     OutOfRange,
-    /// There is no room for the words of the heap or for the workers.
+    /// An allocation failed: of the heap, of its workers, or of the room that `close` needs.
     NoMemory,
 }
 
-/// Why an operation is not done.
+/// Why an operation is refused.
 #[derive(Clone, Copy, Debug, PartialEq, Eq)]
 pub enum Refused {
-    /// The table has no such place, or a number is 2^62 or more. This is looked at first.
+    /// The table has no such place, or a number is 2^62 or more. This is checked first.
     OutOfRange,
-    /// The worker's life has no room for the commands of the operation.
+    /// The commands of the operation exceed the worker's lifetime.
     NoLifeLeft,
 }
 
-/// A table of tags, which its workers use beside each other.
+/// A table of tags, which its workers use concurrently. Each place is empty or has a value with its
+/// quality, two numbers below 2^62.
 #[derive(Drop)]
 pub struct LiveTags {
     pub(crate) heap: SharedHeap,
-    // Room for the workers of the heap when it is closed.
+    // Capacity for the workers of the heap, which `close` needs. The lock is never taken: it makes
+    // the table `Sync`.
     pub(crate) room: Mutex<Room>,
 }
 
@@ -62,7 +64,7 @@ impl Model for LiveTags {
     ghost invariant = { λ t. IsTagHeap t.heap.config × CanOpen t.heap.config };
 }
 
-// Whether a worker's life has room for the commands of an operation.
+// Whether a worker's lifetime allows all commands of an operation.
 fn has_life(who: &Worker, op: &Operation, commands: &[Command]) -> bool
     requires bounds { AllByRecursion (IsCommandInBounds who.now.thread.config) commands.now }
     requires commands { commands.now ≡ commands_of (op.now ∷ []) }
@@ -73,7 +75,7 @@ fn has_life(who: &Worker, op: &Operation, commands: &[Command]) -> bool
     few && who.has_left(&commands[0])
 }
 
-// Asks commands one behind the other. The last two replies are answered.
+// Executes commands in order. Returns the last two replies.
 fn asked_all<R: Wait>(
     rt: &R,
     heap: &SharedHeap,
@@ -95,7 +97,7 @@ fn asked_all<R: Wait>(
     (before, last)
 }
 
-// Does an operation, of which these are the commands.
+// Does an operation by its commands.
 fn done<R: Wait>(
     rt: &R,
     heap: &SharedHeap,
@@ -121,7 +123,7 @@ fn done<R: Wait>(
     Ok(pair(value, quality))
 }
 
-// The heap of a table: of four times as many blocks as may be live.
+// The configuration of a table's heap. It has four times as many blocks as may be live.
 fn config_of(tags: u32, threads: u32) -> Config
     requires { IsTableInRange tags threads }
     ensures { result ≡ opened_config threads tags }
@@ -137,7 +139,7 @@ fn config_of(tags: u32, threads: u32) -> Config
     }
 }
 
-// The heap of a table with its workers, if there is memory.
+// Opens the heap of a table, with its workers. `None` if an allocation failed.
 fn opened_heap(alloc: Global, tags: u32, threads: u32) -> Option<(SharedHeap, Vec<Worker>)>
     requires { IsTableInRange tags threads }
     ensures can { CanOpen (opened_config threads tags) }
@@ -154,7 +156,7 @@ fn opened_heap(alloc: Global, tags: u32, threads: u32) -> Option<(SharedHeap, Ve
     }
 }
 
-// The table with its workers, if there is memory.
+// Opens a table, with its workers. `None` if an allocation failed.
 fn opened(alloc: Global, tags: u32, threads: u32) -> Option<(LiveTags, Vec<TagWorker>)>
     requires { IsTableInRange tags threads }
     ensures can { CanOpen (opened_config threads tags) }
@@ -173,13 +175,14 @@ fn opened(alloc: Global, tags: u32, threads: u32) -> Option<(LiveTags, Vec<TagWo
 }
 
 impl LiveTags {
-    /// An empty table of so many places, and a worker for each of so many threads, in order. None
-    /// did anything yet. What they do from then on takes no memory.
+    /// Opens a table of `tags` empty places, 0 to 1,024. Returns it with one worker for each of 1
+    /// to 16 `threads`, in thread order. No worker has done an operation yet. No later call on the
+    /// table or its workers allocates.
     ///
     /// # Errors
     ///
-    /// `OutOfRange` exactly where there are more than 1,024 tags, no thread, or more than 16; and
-    /// `NoMemory` where memory was refused.
+    /// `OutOfRange` exactly if `tags` or `threads` is out of range, and `NoMemory` if an
+    /// allocation failed.
     pub fn open(
         alloc: Global,
         tags: u32,
@@ -200,14 +203,16 @@ impl LiveTags {
         }
     }
 
-    /// Puts a value with its quality at a place, and answers what stood there before. Other workers
-    /// may be at work meanwhile, in other threads. It may wait for them.
+    /// Stores a value with its quality at a place, and returns the pair that the place held before:
+    /// `None` if it was empty. Both numbers are below 2^62, and places count from 0.
+    ///
+    /// Other threads may use other workers meanwhile. The call may wait for them.
     ///
     /// # Errors
     ///
-    /// `OutOfRange` exactly where the table has no such place or a number is 2^62 or more, and
-    /// `NoLifeLeft` exactly where it is in range and the worker's life has no room for the
-    /// operation. Then nothing has changed.
+    /// `OutOfRange` exactly if the table has no such place or a number is 2^62 or more, and
+    /// `NoLifeLeft` exactly if the operation is in range and exceeds the worker's lifetime. The
+    /// worker is then unchanged.
     pub fn write<R: Wait>(
         &self,
         rt: &R,
@@ -219,7 +224,8 @@ impl LiveTags {
         requires { IsOf self.now who.old }
         ensures same { IsSameWorker who.old who.new }
         ensures can { OnOk result (CanDo who.old (Operation.Write place value quality)) }
-        ensures did { IfOk result (λ tag. HasDone who.old (Operation.Write place value quality) tag who.new) }
+        ensures did { IfOk result
+            (λ tag. HasDone who.old (Operation.Write place value quality) tag who.new) }
         ensures refused { IfErr result (IsRefused who.old (Operation.Write place value quality)) }
         ensures unchanged { OnErr result (who.new ≡ who.old) }
     {
@@ -232,7 +238,7 @@ impl LiveTags {
         done(rt, &self.heap, who, op, &commands)
     }
 
-    /// Empties a place, and answers what stood there before, as `write` does.
+    /// Empties a place, and returns the pair that it held before, as `write` does.
     ///
     /// # Errors
     ///
@@ -255,7 +261,8 @@ impl LiveTags {
         done(rt, &self.heap, who, op, &commands)
     }
 
-    /// Answers what stands at a place: a value with the quality that was written with it.
+    /// Returns the pair that a place holds, or `None` if it is empty. A value comes with the
+    /// quality that was written with it.
     ///
     /// # Errors
     ///
@@ -278,8 +285,8 @@ impl LiveTags {
         done(rt, &self.heap, who, op, &commands)
     }
 
-    /// Notes what a worker of this table has seen: all operations that it did, with those of others
-    /// before them.
+    /// Makes a note of the history that a worker of this table has seen. It has all operations that
+    /// the worker did, and those of others that come before them.
     pub fn note(&self, who: &mut TagWorker) -> TagNote
         requires { IsOf self.now who.old }
         ensures heap { result.heap ≡ self.now.id }
@@ -287,13 +294,14 @@ impl LiveTags {
         ensures all { HasSeenAll who.old }
         ensures same { who.new ≡ who.old }
     {
+        // Only the contract of this call is used, for the clause `all`.
         who.worker.asked();
         let note = self.heap.note(&mut who.worker);
         TagNote { note }
     }
 
-    /// Tells a worker of this table what another had seen. The operations that it does from then on
-    /// stand behind that in the one order.
+    /// Gives a worker of this table a note of another. The operations that the worker does from now
+    /// on come after all operations that the note covers.
     pub fn learn(&self, who: &mut TagWorker, note: TagNote)
         requires own { IsOf self.now who.old }
         requires note { note.heap ≡ self.now.id }
@@ -303,9 +311,9 @@ impl LiveTags {
         self.heap.learn(&mut who.worker, note);
     }
 
-    /// Ends the table, of which all workers are at hand, each once, in any order. All operations
-    /// that they did stand in one order, each worker's in its own, in which each was answered as on
-    /// a plain table. Answers how many cycles the collector started.
+    /// Closes the table. It takes all of its workers, each once, in any order. All operations that
+    /// they did have one order, which keeps the order of each worker, and in which each was
+    /// answered as by a plain table. Returns how many cycles of collection were started.
     pub fn close(self, who: Vec<TagWorker>) -> u64
         requires { AreEachOnce self who.items }
         ensures { HaveOneTable self.config who.items result }

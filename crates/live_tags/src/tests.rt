@@ -1,4 +1,4 @@
-//! Threads that use one table beside each other: no pair is torn, and none is lost or told twice.
+//! Threads that share one table: no pair is torn, and none is lost or returned twice.
 
 ghost use Rattle.std.specs.Prelude.{◌≡◌, IfOk};
 ghost use Rattle.live_tags.specs.Live.{AreInOrder, IsOf, IsSameWorker};
@@ -10,12 +10,12 @@ use std::sync::atomic::{AtomicU64, Ordering};
 use std::thread;
 use std::thread::Threads;
 
-// How many rounds each thread does, on so many places.
+// How many rounds each thread does, and on how many places.
 const ROUNDS: u32 = 4_000;
 
 const TAGS: u32 = 7;
 
-// What the threads wrote and were answered, in sum, and how many pairs did not belong together.
+// The sums of the values written and of those replaced or cleared, and how many pairs were torn.
 #[derive(Drop)]
 struct Sums {
     written: AtomicU64,
@@ -24,7 +24,7 @@ struct Sums {
 }
 
 impl Sums {
-    // Counts a pair that stood somewhere and no longer does.
+    // Counts a pair that was replaced or cleared.
     fn take(&self, tag: Option<(u64, u64)>) {
         if let Some((value, quality)) = tag {
             self.taken.fetch_add(value, Ordering::SeqCst);
@@ -32,7 +32,7 @@ impl Sums {
         }
     }
 
-    // Looks whether a pair was written so.
+    // Checks that a pair was written as one.
     fn look(&self, value: u64, quality: u64) {
         if quality != value % 1000 + 5 {
             self.torn.fetch_add(1, Ordering::SeqCst);
@@ -40,7 +40,7 @@ impl Sums {
     }
 }
 
-// Writes a pair, clears a place and reads one, again and again.
+// Writes a pair, clears a place and reads a place, in each round.
 #[tactic(auto, using(crate::proofs::Crews::same_first, crate::proofs::Crews::same_then, crate::proofs::Crews::of_same))]
 fn uses<R: Wait>(rt: &R, table: &LiveTags, who: &mut TagWorker, sums: &Sums)
     requires { IsOf table.now who.old }
@@ -88,7 +88,7 @@ fn all_use<R: Threads + Wait + Sync>(
     Ok(done)
 }
 
-// Clears all places by each worker in turn.
+// Clears all places by one worker.
 #[tactic(auto, using(crate::proofs::Crews::same_first, crate::proofs::Crews::same_then, crate::proofs::Crews::of_same))]
 fn clears<R: Wait>(rt: &R, table: &LiveTags, who: &mut TagWorker, sums: &Sums)
     requires { IsOf table.now who.old }
@@ -101,8 +101,8 @@ fn clears<R: Wait>(rt: &R, table: &LiveTags, who: &mut TagWorker, sums: &Sums)
     }
 }
 
-// No thread reads the value of one write with the quality of another, and what was written was taken
-// away once, by the write or the clear that came next at its place.
+// No thread reads the value of one write with the quality of another. Each pair is returned once,
+// by the next write or clear of its place.
 #[test]
 fn threads_keep_pairs_together(rt: HostRuntime) -> Result<(), OutOfMemory> {
     for threads in [1, 2, 4] {
@@ -128,7 +128,7 @@ fn threads_keep_pairs_together(rt: HostRuntime) -> Result<(), OutOfMemory> {
     Ok(())
 }
 
-// The same, where they clear all places.
+// Lets each worker clear all places, in a thread of its own.
 #[tactic(auto, using(crate::proofs::Crews::of_same))]
 fn all_clear<R: Threads + Wait + Sync>(
     rt: &R,
@@ -188,7 +188,7 @@ fn tables_out_of_range_are_not_opened(rt: HostRuntime) {
     }
 }
 
-// A worker may be told what it has seen itself, and goes on.
+// A worker learns its own note and then does another operation.
 #[test]
 fn a_note_is_learned(rt: HostRuntime) {
     let Ok((table, workers)) = LiveTags::open(rt.alloc(), 3, 2) else {

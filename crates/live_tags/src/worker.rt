@@ -1,4 +1,4 @@
-//! One thread of a table.
+//! A worker: the access of one thread to a table.
 
 ghost use Rattle.std.specs.Prelude.{◌≡◌};
 ghost use Rattle.live_tags.specs.Live.{thread_of};
@@ -6,9 +6,10 @@ ghost use Rattle.live_tags.specs.Live.{thread_of};
 use shared_heap::Worker;
 use std::marker::Model;
 
-/// One thread of a table, between two operations. It goes to the thread of the program that uses the
-/// table. Contracts see the list of the operations that it did, and what each was answered; in
-/// memory it has its last command.
+/// One thread of a table, between two operations. It may move to any thread of the program.
+///
+/// Contracts see all operations that it did and their answers. In memory it has only its last
+/// command.
 #[derive(Drop)]
 pub struct TagWorker {
     pub(crate) worker: Worker,
@@ -25,7 +26,7 @@ impl Model for TagWorker {
 }
 
 impl TagWorker {
-    /// The number of the thread, from 0.
+    /// The number of the worker's thread, from 0.
     pub fn thread(&self) -> u32
         ensures { result ≡ thread_of self.now }
     {

@@ -1,4 +1,4 @@
--- A worker that is asked a command.
+-- A worker that executes a command.
 use Rattle.std.proofs.Common.{◌≡◌, ℕ, ◌+◌, ◌<◌, ◌≤◌, true, IsTrue, List, [], ◌∷◌, ◌++◌, length, length-append, append-nil, get_or, map, refl, sym, ap, ◌∙◌, subst, arith}
 use Rattle.std.proofs.Math.Dec.{leb}
 use Rattle.std.proofs.lemmas.Bool.{leb-true, le-leb}
@@ -31,7 +31,7 @@ use Rattle.shared_heap.specs.Workers.{AllStart, HasAnswered, HasLeft, HasRoom, H
 use Rattle.shared_heap.proofs.Rests.{as_long, at_rest, its_fits, its_legal, its_licensed, its_part, its_rate, its_right, its_said, its_spent, part_begun, room_for}
 use Rattle.shared_heap.proofs.Views.{noted_start}
 
--- whatever the seat knows, it is one thread with these notes
+-- what the seat knows is one thread with these notes
 held_is : (me : table.Me Command View) (l : LocalState) (h : Held) (ns : List (List Moment)) → me ≡ (one_view h ns, []) → held_of l me.0.threads ≡ h
 held_is me l h ns knows = ap (λ (m : table.Me Command View). held_of l m.0.threads) knows
 
@@ -43,7 +43,7 @@ is_kept me id l h ns n o k =
     subst (λ y. Keeps (held_of l me.0.threads) y me id l n o) (sym (notes_are me h ns k.knows))
     (subst (λ y. Keeps y ns me id l n o) (sym (held_is me l h ns k.knows)) k)
 
--- a worker that is dealt
+-- a worker at its start
 pub dealt_kept : (me : table.Me Command View) (id : TableId) (l : LocalState) → me ≡ (one_view (first_held l) [], []) → id.slots ≡ 0 → IsDealt id.words l → IsKept me id l 0 0
 dealt_kept me id l knows slots is = is_kept me id l (first_held l) [] 0 0 (record {
   knows = knows;
@@ -68,7 +68,7 @@ sound_of id h ns told done = record {
   asked = its_said h.local.config (history_of h.seen) h.local told done;
 }
 
--- a worker, as the seat and the memory have it
+-- a worker: what its seat knows, and what it has in memory
 module _ (me : table.Me Command View) (id : TableId) (l : LocalState) (n o : ℕ) (kept : IsKept me id l n o) where
   abbrev pub one : Held
   one = held_of l me.0.threads
@@ -94,7 +94,7 @@ module _ (me : table.Me Command View) (id : TableId) (l : LocalState) (n o : ℕ
   pub sound : (w : WorkerState) → worker_of id one me.0.notes ≡ w → HasSeenIts w
   sound w seen = subst (λ x. HasSeenIts x) seen (sound_of id one me.0.notes kept.told kept.done)
 
-  -- whether its life has room for a command, as the code looks
+  -- the code's test that its lifetime allows a command
   abbrev Low : ℕ → Type 0
   Low x = IsTrue (leb x most_units)
 
@@ -118,7 +118,7 @@ module _ (me : table.Me Command View) (id : TableId) (l : LocalState) (n o : ℕ
     pub has_room : HasRoomFor whole.config whole.thread k whole.trace
     has_room = room_for whole.config (history_of one.seen) whole kept.told kept.done k left
 
-    -- the seat has the command
+    -- the seat after the step that announces the command
     module _ (given_me : table.Me Command View) (gives : gives_on (some k) me given_me) where
       abbrev pub gift : Gives k me given_me
       gift = gives k refl
@@ -170,7 +170,7 @@ module _ (me : table.Me Command View) (id : TableId) (l : LocalState) (n o : ℕ
           table = table_is;
         }
 
-        -- and after its events
+        -- the seat after the command's events
         module _ (after : table.Me Command View) (own_after : TableId) (z : LocalState) (has : HasThread after own_after shared z) (on : HasGoneOn given_me (begun k l) after z) (done : is_done z ≡ true) where
           abbrev pub whole_then : LocalState
           whole_then = behind whole.trace whole.log z
@@ -195,7 +195,7 @@ module _ (me : table.Me Command View) (id : TableId) (l : LocalState) (n o : ℕ
           pub one_entry : length z.log ≡ 1
           one_entry = as_long z done ∙ ap length on.trace
 
-          -- its one entry
+          -- the entry of the command
           abbrev pub answer : Entry → Entry
           answer d = get_or z.log 0 d
 
@@ -241,7 +241,7 @@ module _ (me : table.Me Command View) (id : TableId) (l : LocalState) (n o : ℕ
           thread_then : z.thread ≡ whole.thread
           thread_then = on.thread ∙ own_thread
 
-          -- its part of what it had seen when it was asked: its log, since its command was not decided
+          -- its part of what it had seen when the command began: its log, since the command had no entry
           part_at_start : part whole.thread (history_of gift.now) ≡ whole.log
           part_at_start = part_begun l.config (history_of gift.now) begun_now told_begun rests
               (ap (λ (x : LocalState). x.thread) kept.history) (append-nil whole.log)
@@ -260,7 +260,7 @@ module _ (me : table.Me Command View) (id : TableId) (l : LocalState) (n o : ℕ
           then_is : then_worker ≡ worker_of own_after one_then []
           then_is = λ i. worker_of own_after (held_is after z one_then [] seen_more.knows i) (notes_are after one_then [] seen_more.knows i)
 
-          -- the same worker, and what it has answered
+          -- the same worker, with the reply
           abbrev pub now_worker : WorkerState
           now_worker = worker_of own_after one_then []
 

@@ -1,4 +1,4 @@
--- An entry stands behind what was seen when its command was asked.
+-- The entry of a command comes after what was seen when the command began.
 use Rattle.std.proofs.Common.{◌≡◌, ℕ, cond, eqb, List, [], ◌∷◌, ◌++◌, append_assoc, get_or, sym, ap, ◌∙◌, inl, inr, length, arith}
 use Rattle.std.proofs.lemmas.Bool.{cases_Bool}
 use Rattle.never_heap.specs.declared.Command.{Command}
@@ -29,7 +29,7 @@ among t e (Did d ∷ items) own = elim (cases_Bool (eqb d.thread t)) [
   | inr is ↦ further (Did d) e items (among t e items (sym (ap (λ b. cond b (d ∷ part t items) (part t items)) is) ∙ own))
 ]
 
--- behind a start that has more behind it
+-- an item among those after `start` comes after each prefix of `start`
 stands : (first start items h : List HistoryItem) (e : Entry) → IsStartOf first start → h ≡ start ++ items → IsAmong e items → StandsBehind first e h
 stands first start items h e is whole a = record {
   before = start ++ a.before;
@@ -48,7 +48,7 @@ all_stand (n ∷ ns) start items h e all whole a = (stands n start items h e all
 pub stands_behind_all : (old new : WorkerState) (k : Command) (a : Reply) (is : HasAnswered old k a new) → StandsBehindAll old.notes is.entry new.seen
 stands_behind_all old new k a is = all_stand old.notes is.start is.items new.seen is.entry is.noted is.seen (among old.thread.thread is.entry is.items is.own)
 
--- it stands there still in each history that begins with this one
+-- it has this place in each history of which this one is a prefix
 pub stands_still : (first h order : List HistoryItem) (e : Entry) → StandsBehind first e h → IsStartOf h order → StandsBehind first e order
 stands_still first h order e is more = record {
   before = is.before;

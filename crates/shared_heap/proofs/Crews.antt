@@ -20,18 +20,18 @@ get_or_map f [] i d e low = absurd (omega arith)
 get_or_map f (x ∷ l) zero d e low = refl
 get_or_map f (x ∷ l) (suc i) d e low = get_or_map f l i d e (omega arith)
 
--- the first is taken out
+-- the first is removed
 pub taken_first : (xs ys : List WorkerState) (x : WorkerState) → 0 < length xs → x ≡ get_or xs 0 x → ys ≡ remove xs 0 → x ∷ ys ≡ xs
 taken_first [] ys x low is are = absurd (omega arith)
 taken_first (z ∷ xs) ys x low is are = ap (λ u. u ∷ ys) is ∙ ap (λ us. z ∷ us) are
 
--- what is known of each worker of a crew
+-- what is known of each of several workers
 pub own_of : (h : HeapState) (who ws : List WorkerState) (id : TableId) → ws ≡ who → h.id ≡ id → AreInOrder h who → (i : ℕ) (d : WorkerState) → i < length ws → (get_or ws i d).heap ≡ id
 own_of h who ws id same named order i d low =
     let il : i < length who = omega (arith, low, ap length same) in
     ap (λ (xs : List WorkerState). (get_or xs i d).heap) same ∙ (order.each i d il).0 ∙ named
 
--- threads of workers, and one more
+-- the threads of workers, and one more
 pub of_more : (ws : List WorkerState) (hs : List Held) (w : WorkerState) (h : Held) → AreOfWorkers ws hs → IsOfWorker w h → AreOfWorkers (ws ++ w ∷ []) (hs ++ h ∷ [])
 of_more [] [] w h all one = (one, tt)
 of_more [] (g ∷ hs) w h all one = absurd all
@@ -72,14 +72,14 @@ module _ (c : Config) (traces : List (List Command)) (job : IsJob c traces) (s :
         notes = ap (λ (w : WorkerState). w.notes) e;
       }))
 
--- a worker's thread is the one that it is seen as
+-- a worker's thread is that of its value
 pub of_worker : (id : TableId) (h : Held) (ns : List (List Moment)) (w : WorkerState) → worker_of id h ns ≡ w → is_done h.local ≡ true → IsOfWorker w h
 of_worker id h ns w seen done = (sym (ap (λ (x : WorkerState). x.thread) seen), sym (ap (λ (x : WorkerState). x.seen) seen), done)
 
 pub one_knows : (me : table.Me Command View) (id : TableId) (h : Held) (ns : List (List Moment)) (w : WorkerState) → me ≡ (one_view h ns, []) → worker_of id h ns ≡ w → is_done h.local ≡ true → KnowsAll me (w ∷ [])
 one_knows me id h ns w knows seen done = record { threads = h ∷ []; notes = ns; knows = knows; all = (of_worker id h ns w seen done, tt) }
 
--- and one that takes another's threads
+-- a seat that takes over another's threads
 pub one_more_knows : (me other after : table.Me Command View) (first : WorkerState) (ws : List WorkerState) (w : WorkerState) (h : Held) (ns : List (List Moment)) → KnowsAll me (first ∷ ws) → other ≡ (one_view h ns, []) → IsOfWorker w h
     → after ≡ (joined me.0 other.0, me.1) → KnowsAll after (first ∷ ws ++ w ∷ [])
 one_more_knows me other after first ws w h ns mine theirs one is = record {

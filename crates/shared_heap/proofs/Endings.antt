@@ -52,7 +52,7 @@ module _ (k : Whole) (s : table.State Command View) (kept : SharedKept k s) (id 
     abbrev w : WorkerState
     w = get_or ws t d
 
-    -- stands for none
+    -- a default
     abbrev e : Held
     e = held d.thread []
 

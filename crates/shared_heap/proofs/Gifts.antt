@@ -1,4 +1,4 @@
--- A step that changes no word may put one command more behind the trace of the seat's thread.
+-- A step that changes no word may append a command to the trace of the seat's thread.
 use Rattle.std.proofs.Common.{◌≡◌, ℕ, cond, eqb, eqb-true, refl, arith, subst, sym, ap, ◌∙◌, List, [], get_or, set, inl, inr, ⊎_elim, eq-eqb}
 use Rattle.std.proofs.lemmas.List.{set-get_or}
 use Rattle.std.proofs.lemmas.Bool.{cases_Bool}
@@ -25,7 +25,7 @@ use Rattle.shared_heap.specs.Shared.{Fits, AllFit, AllNotedIn, SharedKept, Gives
 use Rattle.shared_heap.proofs.Views.{seat_parts, seats_set, grown_at, others_same, history_is, moments_of, starts_itself}
 use Rattle.shared_heap.proofs.Grown.{events_grown, given_here, here, kept_of}
 
--- 0 in place of 0
+-- a compare-exchange of 0 with 0 changes no word
 same_word : (w : ℕ) → either (eqb w 0) 0 w ≡ w
 same_word w = elim (cases_Bool (eqb w 0)) [
   | inl is ↦ rw is (sym (eqb-true w 0 is))
@@ -120,7 +120,7 @@ module _ (k : Whole) (s : table.State Command View) (kept : SharedKept k s) (id 
         noted = subst (λ o. AllNotedIn o ns) (sym now_is) noted;
       })
 
--- whatever the table is, the step may announce a command for the seat's thread
+-- in every state of the table the step may announce a command for the seat's thread
 pub gift_allowed : (k : Whole) (id i : ℕ) (h : Held) (ns : List (List Moment)) (m : Command) → IsCommandInBounds h.local.config m → HasRoomFor h.local.config h.local.thread m h.local.trace
     → table.Allows (SharedKept k) 0 id (one_view h ns, []) i (λ n. either (eqb n 0) 0 n) (λ found. gives_on (some m) (one_view h ns, []))
 gift_allowed k id i h ns m bounds room s kept homes at low =

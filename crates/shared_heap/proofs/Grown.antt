@@ -50,14 +50,14 @@ module _ (c : Config) (t : ℕ) (tl : t < c.threads) (r : Run) where
         events = go_grown t k c tl a.traces a.job a.turns (opened c a.by_turns.first) (opening_kept c a.traces a.job a.by_turns.first a.by_turns.opening) is.events;
       }
 
-  -- a thread that there is, however it is read
+  -- a thread of the run, with any default
   pub here : (is : IsAfterTurns c r) (l : LocalState) → l ≡ get_or r.state.locals t l → l ≡ local_in c r t
   here is l e = e ∙ get_or_default r.state.locals t l (no_local c) (omega (arith, tl, (kept_of c r is).threads))
 
   pub goes : (l : LocalState) → l ≡ local_in c r t → is_done l ≡ false → has_event c t r.state ≡ true
   goes l e going = let undone : is_done (local_in c r t) ≡ false = ap is_done (sym e) ∙ going in rw (lt-ltb t c.threads tl, undone) refl
 
-  -- thread t with the command behind it
+  -- thread t with the command appended to its trace
   pub given_here : (k : Command) (l : LocalState) → l ≡ local_in c r t → l.thread ≡ t → given k l ≡ local_in c (run_grown t k r) t
   given_here k l e named =
       sym (ap (λ b. cond b (given k l) l) (eq-eqb l.thread t named)) ∙ ap (grown t k) e ∙ sym (local_grown t k c tl r.state t)

@@ -1,4 +1,4 @@
--- The rule holds of the opening, where the first seat has all threads, and none was asked anything.
+-- The rule holds at the start, where the first seat has all threads, and none has a command.
 use Rattle.std.proofs.Common.{◌≡◌, ℕ, zero, suc, ◌≤◌, ◌<◌, ◌+◌, eqb, refl, arith, subst, sym, ap, ◌∙◌, List, [], ◌∷◌, ◌++◌, length, length-append, append_assoc, get_or, map, eq-eqb, ne_eqb, inl, inr}
 use Rattle.std.proofs.lemmas.Bool.{cases_eq}
 use Rattle.std.proofs.lemmas.List.{get_or_default}
@@ -68,7 +68,7 @@ firsts_are : (ls : List LocalState) → map first_held ls ≡ map opening_held (
 firsts_are [] = refl
 firsts_are (l ∷ ls) = ap (λ hs. first_held l ∷ hs) (firsts_are ls)
 
--- the threads behind the first t of them
+-- the threads after the first t of them
 starts_fit : (c : Config) (rate : ℕ) (space : ℕ → ℕ) (r : Run) → r.order ≡ Started ∷ [] → (t : ℕ) (before : List LocalState) (traces : List (List Command)) → r.state.locals ≡ before ++ starts_from c rate space t traces → length before ≡ t → t + length traces ≤ c.threads
     → AllFit c r (map opening_held (starts_from c rate space t traces))
 starts_fit c rate space r order t before [] are at low = tt
@@ -99,7 +99,7 @@ one_within c rate space t u (trace ∷ traces) low high = elim (cases_eq u t) [
 ]
 
 module _ (c : Config) (traces : List (List Command)) (job : IsJob c traces) (s : State) (start : IsOpening c traces s) where
-  -- the state in which no thread was asked anything
+  -- the state in which no thread has a command
   abbrev pub idle : State
   idle = record { words = s.words; locals = map unasked s.locals }
 
@@ -196,7 +196,7 @@ first_job c xs can long are = record {
   plan = can.plan;
 }
 
--- the threads as they are dealt
+-- the threads as the workers start with them
 module _ (c : Config) (traces : List (List Command)) (job : IsJob c traces) (s : State) (start : IsOpening c traces s) (ones : AreOnes traces) where
   start_of_run : (i : ℕ) → i < c.threads → IsOfRun c (Started ∷ []) (at_start c start.rate (start.space i) i [])
   start_of_run i low = record {

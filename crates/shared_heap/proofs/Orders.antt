@@ -77,7 +77,7 @@ ordered_each b n hs ys same crew count order among = record {
   each = λ t d low. (let j = among t low in (ap (λ (h : WorkerState). h.heap) (j.2 d) ∙ crew.own j.0 d j.1, order t d (omega arith)));
 }
 
--- what is so of workers that are among these is so of these
+-- a fact of all workers of the second list holds of those of the first
 pub ordered_history : (c : Config) (hs ys : List WorkerState) (cycles : ℕ) → AreAmong ys hs → HaveOneHistory c ys cycles → HaveOneHistory c hs cycles
 ordered_history c hs ys cycles among is = record {
   order = is.order;
@@ -93,7 +93,7 @@ ordered_history c hs ys cycles among is = record {
   starts = is.starts;
 }
 
--- workers in order are all, each once
+-- workers in thread order are all workers, each once
 pub in_order_each : (b : HeapState) (hs : List WorkerState) → AreInOrder b hs → AreEachOnce b hs
 in_order_each b hs s = record {
   count = s.count;

@@ -1,4 +1,4 @@
--- What holds at each moment: one history, and the bounds of a command that is done alone.
+-- What holds at every moment: one history, and the bounds of a command that runs alone.
 use Rattle.std.proofs.Common.{◌≡◌, ℕ, suc, ◌<◌, ◌≤◌, ◌+◌, Bool, true, false, eqb, eqb-true, Option, Some, None, refl, arith, subst, sym, ap, ◌∙◌, List, [], ◌∷◌, ◌++◌, length, length-append, get_or, map, take, inl, inr}
 use Rattle.std.proofs.lemmas.Bool.{cases_Bool, cases_lt}
 use mathlib.Core.Option.{some}
@@ -83,7 +83,7 @@ module _ (k : Whole) (s : table.State Command View) (kept : SharedKept k s) wher
     parts = λ id v at. (parts_of v.threads (kept.each id v at).0, seen_fits c r v.threads (kept.each id v at).0, (kept.each id v at).1);
   }
 
-  -- each thread stands somewhere
+  -- each thread is in some view
   in_view : (t : ℕ) → t < c.threads → (hs : List Held) → 0 < threads_of t hs → AllFit c r hs → AllDone hs → is_done (local_in c r t) ≡ true
   in_view t tl [] more fit done = absurd (omega (arith, more))
   in_view t tl (h ∷ hs) more fit done = elim (cases_Bool (eqb t h.local.thread)) [

@@ -99,7 +99,7 @@ module _ (c : Config) (order : List HistoryItem) (l : LocalState) (is : IsOfRun 
     its_owed : (p : ℕ) → IsRate c p → sum_after (units_owed c.width p) 0 l.trace ≡ works l.log
     its_owed p planned = subst (λ (x : LocalState). sum_after (units_owed c.width p) 0 x.trace ≡ works x.log) (sym is.local) (owed_is c l.thread is.there is.run is.after own_done p planned)
 
-    -- there is room behind its trace where its life has room
+    -- its trace may grow if its lifetime allows it
     pub room_for : (k : Command) → HasRoom l k → HasRoomFor c l.thread k l.trace
     room_for k left = record {
       few = left.0;

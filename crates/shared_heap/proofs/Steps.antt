@@ -1,4 +1,4 @@
--- An event of a seat's thread keeps the rule, and so does a cut and a join of seats.
+-- An event of a seat's thread keeps the rule, and so do a split and a join of seats.
 use Rattle.std.proofs.Common.{◌≡◌, ℕ, ◌<◌, ◌+◌, ◌^◌, true, false, cond, eqb, refl, arith, subst, sym, ap, ◌∙◌, List, [], ◌∷◌, ◌++◌, length, get_or, set, ⊎_elim, eq-eqb, get_or-set_same}
 use mathlib.Core.Option.{some}
 use lib.ListN.{get_elem?}
@@ -171,7 +171,7 @@ module _ (k : Whole) (s : table.State Command View) (kept : SharedKept k s) (id 
     seen = (subst (λ o. IsStartOf (history_of h.seen) o) (sym now_is) (starts_more (history_of h.seen) r.order items f.2), tt);
   }
 
--- whatever the table is, a seat with one thread makes the event of it
+-- in every state of the table a seat with one thread makes its event
 pub allowed : (k : Whole) (id : ℕ) (h : Held) (ns : List (List Moment)) → is_done h.local ≡ false → table.Allows (SharedKept k) 0 id (one_view h ns, []) (op_place (op_wanted h.local)) (written (op_wanted h.local)) (StepsOn (one_view h ns, []))
 allowed k id h ns going s kept homes at low = (
   then_view k s kept id h ns at going low,
@@ -209,7 +209,7 @@ module _ (k : Whole) (s : table.State Command View) (kept : SharedKept k s) (id 
     once = λ t tl. omega (arith, seats_append t (set s.views id left) right, seats_set t s.views id v left at, sum t, kept.once t tl);
   }
 
--- the first thread goes to a new seat
+-- the first thread moves to a new seat
 pub splits : (k : Whole) (id : ℕ) (v : View) → table.Splits (SharedKept k) id v (rest_of v) (first_of v)
 splits k id v s kept at =
     let all = kept.each id v at in
@@ -221,7 +221,7 @@ notes k id v s kept at =
     let all = kept.each id v at in
     parts_keep k s kept id v v (noted_of v) at all (tt, seen_noted k.config kept.run v.threads all.0) (λ t. omega arith)
 
--- a seat takes the threads and the notes of another
+-- a seat takes over the threads and the notes of another
 pub joins : (k : Whole) (id : ℕ) (v : View) (other : ℕ) (w : View) → table.Joins (SharedKept k) id v other w (joined v w) no_view
 joins k id v other w s kept at ne that =
     let there : get_elem? s.views other ≡ some w = ⊎_elim (λ p. absurd (ne p.0)) (λ p. p.1) (at_set s.views id other (joined v w) w that) in

@@ -1,4 +1,4 @@
--- Views, and which threads stand in them.
+-- Views, and which threads are in them.
 use Rattle.std.proofs.Common.{◌≡◌, ◌≢◌, ℕ, zero, suc, ◌≤◌, ◌+◌, true, false, cond, eqb, refl, arith, subst, sym, ap, ◌∙◌, append-nil, append_assoc, List, [], ◌∷◌, ◌++◌, get_or, set, map, inl, inr, eq-eqb, ne_eqb, get_or-set_other}
 use Rattle.std.proofs.Math.ListN.{get_or-map}
 use Rattle.std.proofs.lemmas.Bool.{cases_Bool}
@@ -62,7 +62,7 @@ pub rest_fit : (c : Config) (r : Run) (hs : List Held) → AllFit c r hs → All
 rest_fit c r [] f = tt
 rest_fit c r (h ∷ hs) f = f.1
 
--- ---- starts of histories
+-- ---- prefixes of histories
 
 pub starts_itself : (x : List HistoryItem) → IsStartOf x x
 starts_itself x = ([], sym (append-nil x))
@@ -106,15 +106,15 @@ pub noted_start : (order : List HistoryItem) (ns : List (List Moment)) → AllNo
 noted_start order [] all = tt
 noted_start order (n ∷ ns) all = (all.0, noted_start order ns all.1)
 
--- ---- what a step of another thread leaves
+-- ---- what a step of another thread leaves unchanged
 
--- the thread h is no t
+-- the thread h is not t
 apart_of : (t : ℕ) (h : Held) (hs : List Held) → threads_of t (h ∷ hs) ≡ 0 → h.local.thread ≡ t → ⊥
 apart_of t h hs none e =
     let apart : eqb t h.local.thread ≡ false = elim (cases_Bool (eqb t h.local.thread)) [ inl is ↦ absurd (let b : bit (eqb t h.local.thread) ≡ 1 = ap bit is in omega (arith, none)) | inr is ↦ is ] in
     let b : true ≡ false = sym (eq-eqb t h.local.thread (sym e)) ∙ apart in cc
 
--- a turn of t leaves the other threads, and its items come behind what they have seen
+-- a turn of t leaves the other threads as they are, and its items come after what they have seen
 pub others_fit : (c : Config) (r z : Run) (t : ℕ) (l : LocalState) (items : List HistoryItem) → z.state.locals ≡ set r.state.locals t l → z.order ≡ r.order ++ items → (hs : List Held) → threads_of t hs ≡ 0 → AllFit c r hs → AllFit c z hs
 others_fit c r z t l items locals order [] none fit = tt
 others_fit c r z t l items locals order (h ∷ hs) none fit =

@@ -1,5 +1,5 @@
--- A seat with one thread makes event after event of it: the proof of what its memory says, which an
--- impl can't take from proofs/.
+-- A seat with one thread makes one event of it after the other. This is the proof of the laws of
+-- `Course` for that memory, which an impl can't take from proofs/.
 use Rattle.std.proofs.Common.{◌≡◌, ℕ, ◌<◌, false, [], subst, sym, ap, ◌∙◌}
 use Rattle.atomic_table.specs.Table as table
 use Rattle.atomic_table.specs.Seated.{TableId}

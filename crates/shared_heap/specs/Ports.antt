@@ -1,4 +1,4 @@
--- What a worker's thread may do to the shared words, and what that makes of its seat.
+-- What a worker's thread may do to the shared words, and how that changes its seat.
 use Rattle.std.specs.Prelude.{ℕ, ◌<◌, ◌≡◌, List, [], length, false}
 use Rattle.atomic_table.specs.Table as table
 use Rattle.atomic_table.specs.Seated.{TableId}
@@ -25,14 +25,14 @@ pub record MayTurn (me : table.Me Command View) (own shared : TableId) (op : Op)
   pub table : own ≡ shared
   pub slots : shared.slots ≡ 0
 
--- it is still the same seat of the table, and what it knows has moved on by the word
+-- It is still the same seat of the table, and its thread has made one event that read this word.
 abbrev pub HasTurned : TableId → ℕ → table.Me Command View → ℕ → TableId → ℕ
     → table.Me Command View → Type 0
 HasTurned own id me w own_after id_after me_after =
     (own_after ≡ own) × (id_after ≡ id) × StepsOn me w me_after
 
--- The seat is of the table and has this one thread, with commands and entries in front of its own,
--- and no notes. It has seen the order of a run, of which it is a thread.
+-- The seat is of the table and has this one thread, with earlier commands and entries before its
+-- own, and no notes. It has seen the order of a run, of which it is a thread.
 pub record HasThread (me : table.Me Command View) (own shared : TableId) (l : LocalState) : Type 0
   where
     pub commands : List Command
@@ -45,14 +45,15 @@ pub record HasThread (me : table.Me Command View) (own shared : TableId) (l : Lo
     pub slots : own.slots ≡ 0
     pub table : own ≡ shared
 
--- the seat has this thread behind these, and has seen more than before
+-- The seat has this thread, after these commands and entries, and has seen at least as much as
+-- before.
 pub record HasSeenMore (ks : List Command) (es : List Entry) (seen : List Moment)
     (after : table.Me Command View) (k : LocalState) : Type 0 where
   pub now : List Moment
   pub knows : after ≡ (one_view (held (behind ks es k) now) [], [])
   pub more : IsStartOf (history_of seen) (history_of now)
 
--- Whatever is in front of the thread of a seat is in front of it still.
+-- The earlier commands and entries of the seat's thread are unchanged.
 pub record HasGoneOn (me : table.Me Command View) (l : LocalState) (after : table.Me Command View)
     (k : LocalState) : Type 0 where
   pub front : (ks : List Command) (es : List Entry) (seen : List Moment) → length ks ≡ length es

@@ -1,4 +1,4 @@
--- What holds at each moment, between any two steps of any threads.
+-- What holds at every moment, between any two steps of any threads.
 use Rattle.std.specs.Prelude.{ℕ, ◌<◌, ◌≤◌, ◌≡◌, ◌++◌, true, List, [], ◌∷◌, length, map, take}
 use mathlib.Core.Option.{some}
 use lib.ListN.{get_elem?}
@@ -20,8 +20,8 @@ use Rattle.shared_heap.specs.declared.rules.Held.{Held}
 use Rattle.shared_heap.specs.declared.rules.View.{View}
 use Rattle.shared_heap.specs.Shared.{AllNotedIn, AllSeenIn}
 
--- The part of a thread in a history is its log, and at most one entry more: that of the command in
--- hand, where it is decided. The entries of the log are those of its first commands.
+-- The part of a thread in a history is its log, and at most one entry more, which it has not yet
+-- logged; none if it is done. The entries of the log are those of its first commands.
 pub record HasPartOf (order : List HistoryItem) (l : LocalState) : Type 0 where
   pub more : List Entry
   pub few : length more ≤ 1
@@ -33,17 +33,17 @@ abbrev pub AllHaveParts : List HistoryItem → List Held → Type 0
 AllHaveParts order [] = Unit {0}
 AllHaveParts order (h ∷ hs) = HasPartOf order h.local × AllHaveParts order hs
 
--- There is one history of which the threads in all seats have their parts. What they have seen, and
--- what was noted, is how it begins.
+-- There is one history in which the threads of all seats have their parts. What they have seen, and
+-- every note, is a prefix of it.
 pub record FitsOneHistory (c : Config) (s : table.State Command View) : Type 0 where
   pub order : List HistoryItem
   pub legal : Legal c order
   pub licensed : Licensed c order
   pub right : (rate : ℕ) → IsRate c rate → RightWork c.width rate order
-  pub parts : (id : ℕ) (v : View) → get_elem? s.views id ≡ some v → AllHaveParts order v.threads × AllSeenIn order v.threads
-      × AllNotedIn order v.notes
+  pub parts : (id : ℕ) (v : View) → get_elem? s.views id ≡ some v
+      → AllHaveParts order v.threads × AllSeenIn order v.threads × AllNotedIn order v.notes
 
--- each thread has done what it was asked
+-- each thread has finished its commands
 abbrev pub AllDone : List Held → Type 0
 AllDone [] = Unit {0}
 AllDone (h ∷ hs) = (is_done h.local ≡ true) × AllDone hs
@@ -51,8 +51,8 @@ AllDone (h ∷ hs) = (is_done h.local ≡ true) × AllDone hs
 abbrev pub AllAreDone : table.State Command View → Type 0
 AllAreDone s = (id : ℕ) (v : View) → get_elem? s.views id ≡ some v → AllDone v.threads
 
--- A command that thread t is given after run r, and that it does alone, takes no more turns than the
--- bound of a lone thread, and an allocation no more than the near bound. None of them waits.
+-- A command that is given to thread t after run r, where t then runs alone, ends within the bound
+-- of a single thread, and an allocation also within the near bound. None of its turns waits.
 pub record EndsInTime (c : Config) (t : ℕ) (k : Command) (r : Run) : Type 0 where
   pub far : (rate : ℕ) → IsRate c rate → EndsWithin c t (run_grown t k r) (command_bound c rate k)
   pub near : (rate : ℕ) → IsRate c rate → 0 < blocks_of c.width k

@@ -1,4 +1,4 @@
--- Why no heap is opened, and why a command is not asked.
+-- Why a heap is not opened, and why a command is refused.
 use Rattle.block_store.specs.declared.Config.{Config}
 use Rattle.block_store.specs.Configs.{IsInBounds}
 use Rattle.rate_plan.specs.Rates.{IsRefusal}
@@ -11,15 +11,15 @@ use Rattle.shared_heap.specs.declared.worker.Refused.{Refused}
 use Rattle.shared_heap.specs.declared.worker.Refused.TheVariants as refusals
 use Rattle.shared_heap.specs.Workers.{CanOpen, HasLeft, WorkerState}
 
--- when each fault comes: one at most fits a configuration, and none but the last where it can be
--- opened
+-- The cause of each fault. At most one fits a configuration; one that can be opened has only the
+-- last, which says that memory was refused.
 abbrev pub IsOpenFault : Config → OpenFault → Type 0
 IsOpenFault c OutOfBounds = ¬ IsInBounds c
 IsOpenFault c LiveTooSmall = IsInBounds c × IsRefusal c plans.LiveTooSmall
 IsOpenFault c NoRate = IsInBounds c × IsRefusal c plans.NoRate
 IsOpenFault c NoMemory = CanOpen c
 
--- and each refusal of a command
+-- the cause of each refusal of a command
 abbrev pub IsRefused : WorkerState → Command → Refused → Type 0
 IsRefused w k refusals.OutOfBounds = ¬ IsCommandInBounds w.thread.config k
 IsRefused w k refusals.NoLifeLeft = IsCommandInBounds w.thread.config k × ¬ HasLeft w k

@@ -1,6 +1,6 @@
--- The rule of a heap that several threads ask: the words and the threads of all seats are those of
--- a run of some job, each turn of which was an event, and what each seat has seen is how the order
--- of that run begins.
+-- The rule of a heap that several threads share: the words and the threads of all seats are those
+-- of a run of some job, each turn of which was an event, and what each seat has seen is a prefix of
+-- the order of that run.
 use Rattle.std.specs.Prelude.{ℕ, ◌+◌, ◌<◌, ◌≡◌, ◌==◌, List, [], ◌∷◌, ◌++◌, map, slice_index, slice_index_or}
 use mathlib.Core.Option.{Option, some}
 use lib.ListN.{get_elem?}
@@ -21,7 +21,7 @@ use Rattle.shared_heap.specs.declared.rules.Moment.{Moment}
 use Rattle.shared_heap.specs.declared.rules.Moment.TheVariants as moments
 use Rattle.shared_heap.specs.declared.rules.View.{View}
 
--- ---- what was seen of a history
+-- ---- prefixes of a history
 
 -- the history of these moments
 abbrev pub history_of : List Moment → List HistoryItem
@@ -29,11 +29,11 @@ history_of [] = []
 history_of (moments.Began ∷ ms) = Started ∷ history_of ms
 history_of (moments.Ended e ∷ ms) = Did e ∷ history_of ms
 
--- one history is how another begins
+-- the first history is a prefix of the second
 abbrev pub IsStartOf : List HistoryItem → List HistoryItem → Type 0
 IsStartOf start order = (more : List HistoryItem) × (order ≡ start ++ more)
 
--- all that these threads have seen, and all that was noted, is how this history begins
+-- what each of these threads has seen, and each of these notes, is a prefix of this history
 abbrev pub AllSeenIn : List HistoryItem → List Held → Type 0
 AllSeenIn order [] = Unit {0}
 AllSeenIn order (h ∷ hs) = IsStartOf (history_of h.seen) order × AllSeenIn order hs
@@ -44,7 +44,7 @@ AllNotedIn order (n ∷ ns) = IsStartOf (history_of n) order × AllNotedIn order
 
 -- ---- the rule
 
--- a thread is that of the run, and has seen how its order begins
+-- a thread is the run's, and what it has seen is a prefix of the run's order
 abbrev pub Fits : Config → Run → Held → Type 0
 Fits c r h = (h.local.thread < c.threads)
     × (h.local ≡ slice_index_or r.state.locals h.local.thread h.local)
@@ -54,7 +54,7 @@ abbrev pub AllFit : Config → Run → List Held → Type 0
 AllFit c r [] = Unit {0}
 AllFit c r (h ∷ hs) = Fits c r h × AllFit c r hs
 
--- how many of these are thread t, and how many in all views
+-- how many of these threads are thread t, and how many of those in all views
 abbrev pub threads_of : ℕ → List Held → ℕ
 threads_of t [] = 0
 threads_of t (h ∷ hs) = bit (t == h.local.thread) + threads_of t hs
@@ -63,9 +63,9 @@ abbrev pub seats_of : ℕ → List View → ℕ
 seats_of t [] = 0
 seats_of t (v ∷ vs) = threads_of t v.threads + seats_of t vs
 
--- There is a run of some job, each turn of which was an event: its words are those of the table,
--- and each of its threads stands in one view once, with all that it was asked so far and has
--- answered. What was seen and noted is how its order begins.
+-- There is a run of some job, each turn of which was an event. Its words are those of the table.
+-- Each of its threads is in exactly one view, with all of its commands and entries so far. What
+-- each thread has seen, and each note, is a prefix of its order.
 pub record SharedKept (k : Whole) (s : table.State Command View) : Type 0 where
   pub run : Run
   pub by : IsByEvents k.config run
@@ -85,7 +85,7 @@ no_view = record { threads = []; notes = [] }
 abbrev pub one_view : Held → List (List Moment) → View
 one_view h notes = record { threads = h ∷ []; notes = notes }
 
--- a thread that was asked nothing yet, and has seen the start of cycle 1
+-- a thread that has no command yet, and has seen the start of cycle 1
 abbrev pub unasked : LocalState → LocalState
 unasked l = with_history [] [] l
 
@@ -113,7 +113,7 @@ rest_of v = record { threads = rest_in v.threads; notes = v.notes }
 abbrev pub joined : View → View → View
 joined v w = record { threads = v.threads ++ w.threads; notes = v.notes ++ w.notes }
 
--- what the threads of a view have seen, noted
+-- a note of what the threads of a view have seen
 abbrev pub seen_by : Held → List Moment
 seen_by h = h.seen
 
@@ -149,9 +149,9 @@ abbrev pub got_of : ℕ → List Moment → table.Me Command View → table.Me C
 got_of w now me =
     (record { threads = map (got_by w now) me.0.threads; notes = me.0.notes }, me.1)
 
--- What an event tells: the thread moved on by one row, the word is one that its row may read, and
--- it has seen the order of a run, of which it is a thread. What it had seen before is how that order
--- begins.
+-- What an event ensures: the thread moved on by one row, and the word is one that its row may
+-- read. It has now seen the order of a run of which it is a thread. What it had seen before is a
+-- prefix of that order.
 pub record StepsOn (me : table.Me Command View) (w : ℕ) (after : table.Me Command View) : Type 0
   where
     pub now : List Moment
@@ -160,16 +160,17 @@ pub record StepsOn (me : table.Me Command View) (w : ℕ) (after : table.Me Comm
     pub told : AllOfRuns (history_of now) after.0.threads
     pub seen : AllSeenIn (history_of now) me.0.threads
 
--- each thread of a view has this command behind its trace, and has seen this much; no note is left
+-- this command is appended to the trace of each thread of a view, which has seen this much; no note
+-- is left
 abbrev pub given_by : Command → List Moment → Held → Held
 given_by k now h = held (given k h.local) now
 
 abbrev pub given_of : Command → List Moment → table.Me Command View → table.Me Command View
 given_of k now me = (record { threads = map (given_by k now) me.0.threads; notes = [] }, me.1)
 
--- What a step tells that announces a command: the thread has it behind its trace, and it has seen
--- the order of a run, of which it is a thread. What it had seen and noted before is how that order
--- begins.
+-- What a step ensures that announces a command: the command is appended to the thread's trace. The
+-- thread has now seen the order of a run of which it is a thread. What it had seen before, and each
+-- of its notes, is a prefix of that order.
 pub record Gives (k : Command) (me after : table.Me Command View) : Type 0 where
   pub now : List Moment
   pub moved : after ≡ given_of k now me
@@ -184,7 +185,7 @@ gives_on announced me after = (k : Command) → announced ≡ some k → Gives k
 abbrev pub found_by : LocalState → table.State Command View → ℕ
 found_by l s = slice_index s.words (op_place (op_wanted l))
 
--- with so many commands and entries in front of its own
+-- a thread with these commands and entries before its own
 abbrev pub behind : List Command → List Entry → LocalState → LocalState
 behind ks es l = record l { before = 0; trace = ks ++ l.trace; log = es ++ l.log }
 

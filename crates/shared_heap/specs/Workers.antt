@@ -1,4 +1,4 @@
--- A heap that several threads ask, and its workers, as contracts see them.
+-- A heap that several threads share, and its workers, as contracts see them.
 use Rattle.std.specs.Prelude.{ℕ, ◌+◌, ◌<◌, ◌≤◌, ◌≡◌, ◌++◌, true, List, [], ◌∷◌, length, map, slice_index_or}
 use Rattle.atomic_table.specs.Table as table
 use Rattle.atomic_table.specs.Seated.{TableId}
@@ -26,9 +26,9 @@ pub record HeapState : Type 0 where
   pub id : TableId
   pub config : Config
 
--- Which heap it is of, and its thread with all commands that it was asked so far and their entries;
--- how much of the one history it has seen, and what it was told that others had seen. In memory it
--- has the last command and its entry alone.
+-- The heap of a worker; its thread, with all of its commands so far and their entries; how much of
+-- the history it has seen; and the notes that it has learned since its last command. In memory it
+-- has only its last command and that command's entry.
 pub record WorkerState : Type 0 where
   pub heap : TableId
   pub thread : LocalState
@@ -40,12 +40,12 @@ pub record NoteState : Type 0 where
   pub heap : TableId
   pub seen : List HistoryItem
 
--- a heap of this configuration can be opened, but for memory
+-- a heap of this configuration can be opened if there is memory
 pub record CanOpen (c : Config) : Type 0 where
   pub bounds : IsInBounds c
   pub plan : IsAdmitted c
 
--- the commands that a worker was asked, and what it was answered
+-- the commands that a worker has executed, and their entries
 abbrev pub asked : WorkerState → List Command
 asked w = w.thread.trace
 
@@ -56,7 +56,7 @@ told w = w.thread.log
 abbrev pub IsWorkerOf : HeapState → ℕ → WorkerState → Type 0
 IsWorkerOf h t w = (w.heap ≡ h.id) × (w.thread.thread ≡ t)
 
--- the workers are all of this heap's, in the order of their threads
+-- these are all workers of this heap, in thread order
 pub record AreInOrder (h : HeapState) (ws : List WorkerState) : Type 0 where
   pub count : length ws ≡ h.config.threads
   pub each : (t : ℕ) (d : WorkerState) → t < length ws → IsWorkerOf h t (slice_index_or ws t d)
@@ -66,7 +66,7 @@ abbrev pub HasWorker : ℕ → List WorkerState → Type 0
 HasWorker t ws = (i : ℕ) × (i < length ws)
     × ((d : WorkerState) → (slice_index_or ws i d).thread.thread ≡ t)
 
--- the workers are all of this heap's, each once, in any order
+-- these are all workers of this heap, each once, in any order
 pub record AreEachOnce (h : HeapState) (ws : List WorkerState) : Type 0 where
   pub count : length ws ≡ h.config.threads
   pub own : (i : ℕ) (d : WorkerState) → i < length ws → (slice_index_or ws i d).heap ≡ h.id
@@ -78,7 +78,7 @@ AreAmong these those = (k : ℕ) → k < length these
     → (j : ℕ) × (j < length those)
     × ((d : WorkerState) → slice_index_or these k d ≡ slice_index_or those j d)
 
--- it was asked nothing yet
+-- it has executed no command, and has seen the start of cycle 1
 pub record IsFresh (c : Config) (w : WorkerState) : Type 0 where
   pub config : w.thread.config ≡ c
   pub asked : w.thread.trace ≡ []
@@ -89,8 +89,8 @@ pub record IsFresh (c : Config) (w : WorkerState) : Type 0 where
 abbrev pub AreFresh : Config → List WorkerState → Type 0
 AreFresh c ws = (t : ℕ) (d : WorkerState) → t < length ws → IsFresh c (slice_index_or ws t d)
 
--- Its life has room for one command more: not too many were asked, of those that make an object
--- there were fewer than a life has, and its units fit.
+-- A thread's lifetime allows one more command: its commands, its objects and, at the heap's rate,
+-- its units stay within their limits.
 abbrev pub HasRoom : LocalState → Command → Type 0
 HasRoom l k = (length l.trace < most_commands)
     × (sum_after objects_of 0 l.trace + objects_of k ≤ most_objects)
@@ -100,13 +100,13 @@ HasRoom l k = (length l.trace < most_commands)
 abbrev pub HasLeft : WorkerState → Command → Type 0
 HasLeft w k = HasRoom w.thread k
 
--- all of these are how this history begins
+-- each of these is a prefix of this history
 abbrev pub AllStart : List (List HistoryItem) → List HistoryItem → Type 0
 AllStart [] order = Unit {0}
 AllStart (n ∷ ns) order = IsStartOf n order × AllStart ns order
 
--- what a worker was told is its part of what it has seen, which is a history of the heap that never
--- frees
+-- What a worker has seen is a history of the heap that never frees, with licensed fulls and the
+-- work that is owed. The worker's part of it is its entries, and these are of its commands.
 pub record HasSeenIts (w : WorkerState) : Type 0 where
   pub legal : Legal w.thread.config w.seen
   pub licensed : Licensed w.thread.config w.seen
@@ -115,10 +115,10 @@ pub record HasSeenIts (w : WorkerState) : Type 0 where
   pub its : part w.thread.thread w.seen ≡ told w
   pub asked : map (λ (e : Entry). e.command) (told w) ≡ asked w
 
--- The same worker, which was asked this command more and answered so: it has the command behind
--- those before, and its entry behind theirs. When it was asked, there was a history that begins with
--- what it had seen, and with what it had been told that others had seen. What it has seen now is that
--- history with items behind it: the worker's entry, no other of its own, and what others did.
+-- The worker has executed one more command, with this reply: the command is appended to its
+-- commands, and an entry to its entries. What it had seen, and each note that it had learned, is a
+-- prefix of a history `start`. What it has seen now is `start` followed by items, among which the
+-- entry is the only one of this worker.
 pub record HasAnswered (old : WorkerState) (k : Command) (a : Reply) (new : WorkerState) : Type 0
   where
     pub asked : new.thread.trace ≡ old.thread.trace ++ k ∷ []
@@ -141,18 +141,19 @@ pub record IsSame (old new : WorkerState) : Type 0 where
   pub config : new.thread.config ≡ old.thread.config
   pub thread : new.thread.thread ≡ old.thread.thread
 
--- This worker is of thread t, was asked the commands of its part of the history, and answered so.
--- What it has seen is how the history begins.
+-- This is the worker of thread t. Its commands and entries are the thread's part of the history.
+-- What it has seen is a prefix of the history.
 pub record HasPart (order : List HistoryItem) (t : ℕ) (w : WorkerState) : Type 0 where
   pub thread : w.thread.thread ≡ t
   pub told : told w ≡ part t order
   pub asked : map (λ (e : Entry). e.command) (part t order) ≡ asked w
   pub seen : IsStartOf w.seen order
 
--- There is one history of the heap that never frees, with a full for an allocation only where more
--- was live than the limit, and none where each cycle began with no more; in it each entry has the
--- work that its command owes. The entries of
--- each thread are, in their order, what its worker was asked and answered. It has no others.
+-- There is one history of the heap that never frees. An allocation is answered full only if more
+-- was live than the limit at the start of the cycle that it names; none is, if every cycle began
+-- within the limit. Each entry has the work that its command owes. The entries of each thread are,
+-- in order, those of its worker, and there are no other entries. The number of cycles is that of
+-- its starts.
 pub record HaveOneHistory (c : Config) (ws : List WorkerState) (cycles : ℕ) : Type 0 where
   pub order : List HistoryItem
   pub legal : Legal c order
@@ -166,8 +167,8 @@ pub record HaveOneHistory (c : Config) (ws : List WorkerState) (cycles : ℕ) : 
 
 -- ---- within a worker
 
--- A worker between two commands: its seat knows the whole thread, and what it has in memory is that
--- thread with its last command alone, and three counts.
+-- A worker between two commands: its seat knows the whole thread. In memory it has that thread with
+-- only its last command, and three counts.
 pub record Keeps (h : Held) (ns : List (List Moment)) (me : table.Me Command View) (id : TableId)
     (l : LocalState) (n o : ℕ) : Type 0 where
   pub knows : me ≡ (one_view h ns, [])
@@ -184,7 +185,7 @@ pub record Keeps (h : Held) (ns : List (List Moment)) (me : table.Me Command Vie
 abbrev pub IsKept : table.Me Command View → TableId → LocalState → ℕ → ℕ → Type 0
 IsKept me id l n o = Keeps (held_of l me.0.threads) me.0.notes me id l n o
 
--- a worker as it is seen
+-- the value of a worker in contracts
 abbrev pub worker_of : TableId → Held → List (List Moment) → WorkerState
 worker_of id h ns = record {
   heap = id;
@@ -196,7 +197,8 @@ worker_of id h ns = record {
 abbrev pub start_worker : TableId → LocalState → WorkerState
 start_worker id l = worker_of id (first_held l) []
 
--- a thread as it is dealt: it was asked nothing, and has room for one command
+-- A thread as a worker starts with it: it has executed nothing, and has a trace of one command,
+-- which the first command will replace.
 pub record IsDealt (ws : ℕ) (l : LocalState) : Type 0 where
   pub told : IsOfRun l.config (Started ∷ []) (unasked l)
   pub rest : is_done (unasked l) ≡ true
@@ -214,7 +216,7 @@ note_in (n ∷ ns) = n
 abbrev pub IsNote : table.Me Command View → Type 0
 IsNote me = me ≡ (record { threads = []; notes = note_in me.0.notes ∷ [] }, [])
 
--- these are the threads of these workers, and each is done
+-- these are the threads of these workers, in the same order, and each is done
 abbrev pub IsOfWorker : WorkerState → Held → Type 0
 IsOfWorker w h = (w.thread ≡ h.local) × (w.seen ≡ history_of h.seen) × (is_done h.local ≡ true)
 
@@ -230,7 +232,7 @@ pub record KnowsAll (me : table.Me Command View) (ws : List WorkerState) : Type 
   pub knows : me ≡ (record { threads = threads; notes = notes }, [])
   pub all : AreOfWorkers ws threads
 
--- each of these traces has one command, in whose place the first command will come
+-- each of these traces has one command, which the first command will replace
 abbrev pub AreOnes : List (List Command) → Type 0
 AreOnes [] = Unit {0}
 AreOnes (x ∷ xs) = (x ≡ commands.Nil 0 ∷ []) × AreOnes xs

@@ -1,4 +1,4 @@
-//! The shared words of a heap, and a command from its asking to its reply.
+//! A shared heap: how it is opened and closed, and how a worker executes a command.
 
 ghost use Rattle.std.specs.Prelude.{◌≡◌, ◌<◌, ◌≤◌, ℕ, List, [], ◌∷◌, ◌++◌, true, false, map, length, slice_index_or, IfOk, IfErr, OnOk, OnErr};
 ghost use Rattle.std.specs.Vec.{vec_capacity};
@@ -25,21 +25,22 @@ use std::marker::Model;
 use std::sync::Wait;
 use std::thread;
 
-/// Why no heap of a configuration is opened.
+/// Why a heap is not opened.
 #[derive(Clone, Copy, Debug, PartialEq, Eq)]
 pub enum OpenFault {
-    /// A number of the configuration is out of its range. This is looked at first.
+    /// A number of the configuration is out of range. This is checked first.
     OutOfBounds,
     /// The registers and the shared array take more blocks than the live limit.
     LiveTooSmall,
-    /// The live limit leaves too little of the heap: no number of units a block is enough.
+    /// The live limit leaves too little of the heap free: no rate, in units of work per block, is
+    /// enough.
     NoRate,
-    /// There is no room for the words of the heap, for its workers, or for the blocks that are held
-    /// while an object is built.
+    /// An allocation failed: of the heap's words, of its workers, or of the list of blocks that a
+    /// thread holds while it builds an object.
     NoMemory,
 }
 
-/// The shared words of a heap, which its workers ask beside each other.
+/// A heap on shared atomic words, which its workers use concurrently.
 #[derive(Drop)]
 pub struct SharedHeap {
     pub(crate) table: Table<Command, View, System, Law, Global>,
@@ -64,7 +65,7 @@ impl Model for SharedHeap {
         × (0 < h.config.threads) };
 }
 
-// A trace of one command for each thread, in whose place the first command will come.
+// A trace of one command for each thread. The first command that a worker executes replaces it.
 fn first_traces(alloc: Global, c: &Config) -> Result<Vec<Vec<Command>>, OutOfMemory>
     ensures { IfOk result (λ v. (length (map (λ x. x.items) v.items) ≡ c.now.threads)
         × AreOnes (map (λ x. x.items) v.items)) }
@@ -76,7 +77,7 @@ fn first_traces(alloc: Global, c: &Config) -> Result<Vec<Vec<Command>>, OutOfMem
     Ok(traces)
 }
 
-// A worker for each thread of the seat, in order. Their room was taken before.
+// A worker for each thread of the seat, in order. The vector `room` has capacity for all of them.
 fn dealt(
     shared: &Shared<Command, View, System, Law>,
     config: &Config,
@@ -111,7 +112,7 @@ fn dealt(
     workers
 }
 
-// The opening heap of a configuration that has a rate.
+// The heap at its start, and its workers, for a configuration that has a rate.
 fn opened(alloc: Global, c: Config) -> Result<(SharedHeap, Vec<Worker>), OutOfMemory>
     requires { CanOpen c }
     ensures config { IfOk result (λ r. r.0.config ≡ c) }
@@ -127,7 +128,7 @@ fn opened(alloc: Global, c: Config) -> Result<(SharedHeap, Vec<Worker>), OutOfMe
     Ok((SharedHeap { table, config: c }, workers))
 }
 
-// Events of a thread that is not done, in a row, one at least.
+// Makes events of a thread that is not done, several in a row where it can.
 #[inline(always)]
 fn events(shared: &Shared<Command, View, System, Law>, port: &mut Port, local: &mut Local) -> Turn
     requires has { HasThread port.old.seat.me port.old.seat.table_id shared.now.table_id local.old }
@@ -138,8 +139,8 @@ fn events(shared: &Shared<Command, View, System, Law>, port: &mut Port, local: &
     local.events(port, shared)
 }
 
-// Makes the events of a thread that has a command in hand, one part after the other, until it is
-// done. After one that waited it pauses, longer each time until it gets on.
+// Makes the events of a thread until it has finished its command. After an event that waited it
+// backs off, longer each time until the thread makes progress.
 #[tactic(auto, using(crate::proofs::Runs::gone_nowhere))]
 fn serve<R: Wait>(
     rt: &R,
@@ -153,7 +154,7 @@ fn serve<R: Wait>(
     ensures done { is_done local.new ≡ true }
 {
     let backoff = Backoff::new();
-    // How many units it had made when it last waited, where it has made no more since.
+    // The units made when it last waited, if it has made none since.
     let mut waited = None;
     for _ in rt.forever() {
         if local.done() {
@@ -178,7 +179,7 @@ fn serve<R: Wait>(
     unreachable!()
 }
 
-// The place of the worker of a thread, from place `from` on.
+// The index of a thread's worker, at or after `from`.
 fn place_of(who: &[Worker], from: usize, thread: usize) -> usize
     requires { (j : ℕ) × (from ≤ j) × (j < length who.now)
         × ((d : WorkerState) → (slice_index_or who.now j d).thread.thread ≡ thread) }
@@ -193,7 +194,7 @@ fn place_of(who: &[Worker], from: usize, thread: usize) -> usize
     unreachable!()
 }
 
-// The workers in the order of their threads.
+// Sorts the workers by thread.
 fn ordered(who: Vec<Worker>, threads: usize) -> Vec<Worker>
     requires count { length who.items ≡ threads }
     requires each { (t : ℕ) → t < threads → HasWorker t who.items }
@@ -221,7 +222,7 @@ fn first_and_rest(who: Vec<Worker>) -> (Worker, Vec<Worker>)
     (first, rest)
 }
 
-// The seat of the first worker with the threads of all.
+// The seat of the first worker, joined with the seats of the others.
 fn gathered(
     shared: &Shared<Command, View, System, Law>,
     first: Worker,
@@ -243,14 +244,14 @@ fn gathered(
 }
 
 impl SharedHeap {
-    /// The opening heap of a configuration, and a worker for each of its threads, in order. None
-    /// was asked anything yet. What they do from then on takes no memory.
+    /// Opens a heap. Returns it with one worker for each of its threads, in thread order. No worker
+    /// has executed a command yet. No later call on the heap or its workers allocates.
     ///
     /// # Errors
     ///
-    /// The first of these that is so: `OutOfBounds` where a number of the configuration is out of
-    /// its range; `LiveTooSmall` and `NoRate` as of `rate_plan::plan`; and `NoMemory` where memory
-    /// was refused.
+    /// The first of these that applies: `OutOfBounds` if a number of the configuration is out of
+    /// range; `LiveTooSmall` and `NoRate` where `rate_plan::plan` returns them; `NoMemory` if an
+    /// allocation failed.
     pub fn open(alloc: Global, c: Config) -> Result<(SharedHeap, Vec<Worker>), OpenFault>
         ensures can { OnOk result (CanOpen c) }
         ensures config { IfOk result (λ r. r.0.config ≡ c) }
@@ -271,16 +272,18 @@ impl SharedHeap {
         }
     }
 
-    /// The configuration.
+    /// The heap's configuration.
     pub fn config(&self) -> &Config
         ensures { result.now ≡ self.now.config }
     {
         &self.config
     }
 
-    /// Does a command of one of this heap's workers, and answers its reply. Other workers may be
-    /// asked meanwhile, by other threads. It may wait for them at the gate, at a free list, and
-    /// where another thread changed a word first.
+    /// Executes a command by one of this heap's workers, and returns its reply. The command must be
+    /// in bounds and within the worker's lifetime.
+    ///
+    /// Other threads may use other workers meanwhile. The call may wait for them at the gate and at
+    /// a free list, and it retries where another thread changed a word first.
     pub fn request<R: Wait>(&self, rt: &R, who: &mut Worker, command: Command) -> Reply
         requires heap { who.old.heap ≡ self.now.id }
         requires bounds { IsCommandInBounds who.old.thread.config command }
@@ -289,7 +292,7 @@ impl SharedHeap {
         ensures answered { HasAnswered who.old command result who.new }
     {
         let shared = &self.table.shared;
-        // The step changes no word.
+        // This step announces the command and changes no word.
         shared.compare_exchange_with::<Given>(&mut who.port.seat, 0, 0, 0, &command);
         who.local.begin(command);
         serve(rt, shared, &mut who.port, &mut who.local);
@@ -298,12 +301,12 @@ impl SharedHeap {
         who.local.log()[0].reply
     }
 
-    /// Does a command as `request` does, of which nothing is known before.
+    /// Checks a command, and then executes it as `request` does.
     ///
     /// # Errors
     ///
-    /// `OutOfBounds` exactly where the command is not in bounds, and `NoLifeLeft` exactly where it
-    /// is and the worker's life has no room for it. Then nothing has changed.
+    /// `OutOfBounds` exactly if the command is not in bounds, and `NoLifeLeft` exactly if it is in
+    /// bounds and exceeds the worker's lifetime. The worker is then unchanged.
     pub fn ask<R: Wait>(&self, rt: &R, who: &mut Worker, command: Command) -> Result<Reply, Refused>
         requires heap { who.old.heap ≡ self.now.id }
         ensures same { IsSame who.old who.new }
@@ -322,8 +325,8 @@ impl SharedHeap {
         Ok(self.request(rt, who, command))
     }
 
-    /// Notes what a worker of this heap has seen of its history: all commands that it has answered,
-    /// with those of others before them.
+    /// Makes a note of the history that a worker of this heap has seen. It has all commands that
+    /// the worker has executed, and those of others that come before them.
     pub fn note(&self, who: &mut Worker) -> Note
         requires { who.old.heap ≡ self.now.id }
         ensures heap { result.heap ≡ self.now.id }
@@ -334,8 +337,8 @@ impl SharedHeap {
         Note { seat }
     }
 
-    /// Tells a worker of this heap what another had seen. The commands that it is asked from then on
-    /// come behind that in the one history.
+    /// Gives a worker of this heap a note of another. The commands that the worker executes from
+    /// now on come after everything that the note covers in the heap's history.
     pub fn learn(&self, who: &mut Worker, note: Note)
         requires heap { who.old.heap ≡ self.now.id }
         requires note { note.heap ≡ self.now.id }
@@ -347,8 +350,9 @@ impl SharedHeap {
             .join_seat::<Both>(&mut who.port.seat, seat);
     }
 
-    /// Ends the heap, of which all workers are at hand, each once, in any order. There is one history
-    /// of all that they were asked and answered. Answers how many cycles were started.
+    /// Closes the heap. It takes all of its workers, each once, in any order. One history has all
+    /// the commands that they executed, with their replies. Returns how many cycles of collection
+    /// were started.
     pub fn close(self, who: Vec<Worker>) -> u64
         requires { AreEachOnce self who.items }
         ensures { HaveOneHistory self.config who.items result }
@@ -358,7 +362,7 @@ impl SharedHeap {
         self.close_in_order(workers)
     }
 
-    // The same of workers in the order of their threads.
+    // The same for workers in thread order.
     fn close_in_order(self, who: Vec<Worker>) -> u64
         requires { AreInOrder self who.items }
         ensures { HaveOneHistory self.config who.items result }

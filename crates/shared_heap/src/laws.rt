@@ -1,5 +1,5 @@
-//! What callers know of a heap beside its calls: each law is the contract of a function that does
-//! nothing.
+//! Laws of a shared heap that no single call can state. Each is the contract of a function that
+//! does nothing.
 
 ghost use Rattle.std.specs.Prelude.{◌≡◌, ℕ, List};
 ghost use mathlib.Core.Option.{some};
@@ -19,18 +19,18 @@ ghost use Rattle.shared_heap.specs.Workers.{HasAnswered, HasRoom, WorkerState};
 ghost use Rattle.shared_heap.specs.Behind.{StandsBehind, StandsBehindAll};
 ghost use Rattle.shared_heap.specs.Prefixes.{FitsOneHistory, AllAreDone, EndsInTime};
 
-/// Wherever the rule holds, and so between any two steps of any threads, what all workers have
-/// answered so far fits one history: it is legal and licensed, each entry has the work that its
-/// command owes, and the part of each thread in it is what the thread has answered, with the entry
-/// behind it of a command that is decided and not yet answered.
+/// Wherever the rule of the table holds, and so between any two steps of any threads, the replies
+/// of all workers so far fit one history. It is legal and licensed, and each entry has the work
+/// that its command owes. The part of each thread is the entries of its finished commands, and at
+/// most one entry more while it executes a command.
 pub fn what_was_answered_fits_one_history()
     ensures { (k : Whole) (s : table.State Command View) → SharedKept k s
         → FitsOneHistory k.config s }
 {}
 
-/// Wherever the rule holds and each thread has done what it was asked, a command that is given to
-/// one of them, which then has turns alone, is done in as few turns as on a heap of one thread that
-/// is asked: no more than the bound of a lone thread, and for an allocation than the near bound.
+/// Suppose that the rule of the table holds and that every thread has finished its commands. Then
+/// a command given to one thread, which then runs alone, ends within the bounds of a heap with a
+/// single thread: `command_bound` turns, and for an allocation also `allocation_near` turns.
 pub fn commands_alone_end_in_time()
     ensures { (k : Whole) (s : table.State Command View) (kept : SharedKept k s) → AllAreDone s
         → (id : ℕ) (h : Held) (ns : List (List Moment)) (m : Command)
@@ -39,10 +39,10 @@ pub fn commands_alone_end_in_time()
         → EndsInTime k.config h.local.thread m kept.run }
 {}
 
-/// The entry of a command stands, in the history that its worker has seen then, behind all that the
-/// worker had seen when it was asked (`seen`), and behind all that it had been told that others had
-/// seen (`noted`). It stands there in each history that begins so (`still`), such as the one that all
-/// have when the heap is closed.
+/// In the history that a worker has seen after a command, the command's entry comes after
+/// everything that the worker had seen before it (`seen`), and after everything in the notes that
+/// it had learned (`noted`). The same holds in each longer history (`still`), such as the one of
+/// the closed heap.
 pub fn commands_stand_behind_what_was_seen()
     ensures seen { (old new : WorkerState) (k : Command) (a : Reply)
         (is : HasAnswered old k a new) → StandsBehind old.seen is.entry new.seen }

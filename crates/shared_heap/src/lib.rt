@@ -1,4 +1,4 @@
-//! A heap that several threads ask while they run, each one command at a time.
+//! A heap that several threads of a program share. Each executes one command at a time.
 #![tactic(auto)]
 
 mod heap;

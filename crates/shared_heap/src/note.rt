@@ -1,4 +1,4 @@
-//! What a worker had seen, to be told to another.
+//! Notes: how much of a heap's history a worker had seen, to pass to another worker.
 
 ghost use Rattle.std.specs.Prelude.{◌≡◌};
 
@@ -7,9 +7,10 @@ use atomic_table::Seat;
 use never_heap::Command;
 use std::marker::Model;
 
-/// How much of the one history of a heap a worker had seen when the note was made. It has no bytes.
-/// A thread that hands it on with what it was answered lets the other thread's commands come behind
-/// its own.
+/// How much of a heap's history a worker had seen when the note was made. It has no bytes.
+///
+/// A thread passes a note on together with its data. Each command that a worker executes after it
+/// learned the note comes, in the history, after everything that the note covers.
 #[derive(Drop)]
 pub struct Note {
     pub(crate) seat: Seat<Command, View>,

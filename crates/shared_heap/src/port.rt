@@ -1,4 +1,4 @@
-//! How one worker reaches the shared words.
+//! The access of one worker to the shared words.
 
 use crate::rules::{Law, Turned, View};
 use atomic_table::{Seat, Shared};
@@ -6,7 +6,7 @@ use heap_machine::{Memory, Op};
 use heap_system::{Course, System};
 use never_heap::Command;
 
-/// The shared words as a memory for the one thread that the seat has.
+/// The shared words, as a memory for the seat's one thread.
 #[derive(Drop)]
 pub(crate) struct Port {
     pub(crate) seat: Seat<Command, View>,

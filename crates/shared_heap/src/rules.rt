@@ -7,16 +7,16 @@ use heap_system::{Local, System};
 use never_heap::{Command, Entry};
 use std::collections::LinkedList;
 
-/// An item of a history: the start of a cycle, or an entry. No value of it is made.
+/// An item of a history: the start of a cycle, or an entry. It is used in proofs only.
 pub enum Moment {
-    /// A cycle began.
+    /// A cycle of collection began.
     Began,
-    /// A command ended with this entry.
+    /// A command took effect, with this entry.
     Ended(Entry),
 }
 
-/// A thread with all commands that it was asked and the entries of those that are done, and how much
-/// of the one history it has seen. No value of it is made.
+/// A thread with all of its commands and the entries of those that are finished, and how much of
+/// the history it has seen. It is used in proofs only.
 pub struct Held {
     /// The thread.
     pub local: Local,
@@ -24,16 +24,16 @@ pub struct Held {
     pub seen: LinkedList<Moment>,
 }
 
-/// The threads that a seat has, and what it was told that others had seen. No value of it is made.
+/// What a seat knows: its threads, and what it has learned from notes. It is used in proofs only.
 pub struct View {
-    /// One for a worker's seat, and none for a note's.
+    /// One for the seat of a worker, and none for the seat of a note.
     pub threads: LinkedList<Held>,
-    /// One for a note's seat.
+    /// Histories that other workers had seen. The seat of a note has one.
     pub notes: LinkedList<LinkedList<Moment>>,
 }
 
-/// The words, and the threads of all seats, are those of a run of some job, and what was seen is how
-/// its order begins.
+/// The rule of the table: its words and the threads of all seats are those of a run of some job,
+/// and what each seat has seen is a prefix of the order of that run.
 pub struct Law {}
 
 impl TableRule<Command, View, System> for Law {
@@ -49,14 +49,14 @@ impl Play<Command, View> for Turned {
     ghost then = { λ s me found after. StepsOn me found after };
 }
 
-/// A seat's thread has one command more behind its trace: the one that the step announces.
+/// The command that the step announces is appended to the trace of the seat's thread.
 pub struct Given {}
 
 impl Play<Command, View> for Given {
     ghost then = { λ s me found after. gives_on s.said me after };
 }
 
-/// One thread goes to a new seat.
+/// One thread moves to a new seat.
 pub struct Cut {}
 
 impl Split<View> for Cut {
@@ -65,7 +65,7 @@ impl Split<View> for Cut {
     ghost right = { first_of };
 }
 
-/// A new seat has noted what the thread has seen.
+/// A new seat notes what the thread has seen.
 pub struct Noted {}
 
 impl Split<View> for Noted {
@@ -74,7 +74,7 @@ impl Split<View> for Noted {
     ghost right = { noted_of };
 }
 
-/// A seat takes the threads and the notes of another.
+/// A seat takes over the threads and the notes of another.
 pub struct Both {}
 
 impl Join<View> for Both {

@@ -1,4 +1,4 @@
-//! Threads that ask one heap beside each other: objects by name, counting by `cas`, and refusals.
+//! Threads that share one heap: names of new objects, counting by `cas`, refusals and notes.
 
 ghost use Rattle.std.specs.Prelude.{◌≡◌, IfOk};
 ghost use Rattle.shared_heap.specs.Workers.{AreInOrder, IsSame};
@@ -11,7 +11,7 @@ use std::sync::atomic::{AtomicU64, Ordering};
 use std::thread;
 use std::thread::Threads;
 
-// How many objects each thread makes, and how often it counts.
+// How many objects each thread makes, and how often it tries to count.
 const OBJECTS: u32 = 20_000;
 
 const TRIES: u32 = 20_000;
@@ -27,7 +27,7 @@ fn heap_of(threads: u32) -> Config {
     }
 }
 
-// Makes records one after the other. How many were answered by the name that is due.
+// Makes records one after the other. Returns how many had the expected name.
 #[tactic(auto, using(crate::proofs::Crews::same_here, crate::proofs::Crews::same_on))]
 fn makes<R: Wait>(rt: &R, heap: &SharedHeap, who: &mut Worker) -> u32
     requires { who.old.heap ≡ heap.now.id }
@@ -47,7 +47,7 @@ fn makes<R: Wait>(rt: &R, heap: &SharedHeap, who: &mut Worker) -> u32
     right
 }
 
-// Counts the shared element on. How often it was this thread that did.
+// Increments the shared element by `cas`. Returns how many of the tries succeeded.
 #[tactic(auto, using(crate::proofs::Crews::same_here, crate::proofs::Crews::same_on))]
 fn counts<R: Wait>(rt: &R, heap: &SharedHeap, who: &mut Worker) -> u32
     requires { who.old.heap ≡ heap.now.id }
@@ -77,7 +77,7 @@ fn counts<R: Wait>(rt: &R, heap: &SharedHeap, who: &mut Worker) -> u32
     yes
 }
 
-// Lets each worker make its records in a thread of its own. The right answers of all are added up.
+// Lets each worker make its records in a thread of its own, and adds up the expected replies.
 fn all_make<R: Threads + Wait + Sync>(
     rt: &R,
     heap: &SharedHeap,
@@ -102,7 +102,7 @@ fn all_make<R: Threads + Wait + Sync>(
     Ok(done)
 }
 
-// The same, where they count.
+// Lets each worker count in a thread of its own, and adds up the successful tries.
 fn all_count<R: Threads + Wait + Sync>(
     rt: &R,
     heap: &SharedHeap,
@@ -127,7 +127,8 @@ fn all_count<R: Threads + Wait + Sync>(
     Ok(done)
 }
 
-// Each record is named by its thread and its number, whatever the others do, and none is refused.
+// Each record has the name of its thread and number, whatever the other threads do, and no
+// allocation is refused.
 #[test]
 fn threads_make_objects_beside_each_other(rt: HostRuntime) -> Result<(), OutOfMemory> {
     for threads in [1, 2, 4] {
@@ -150,7 +151,7 @@ fn threads_make_objects_beside_each_other(rt: HostRuntime) -> Result<(), OutOfMe
     Ok(())
 }
 
-// The shared element is counted on as often as a thread was told that it did.
+// The shared element ends at the number of successful tries.
 #[test]
 fn threads_count_by_cas(rt: HostRuntime) -> Result<(), OutOfMemory> {
     for threads in [2, 4] {
@@ -202,7 +203,7 @@ fn each_refusal_of_a_configuration_has_its_cause(rt: HostRuntime) {
     }
 }
 
-// A worker may be told what it has seen itself, and goes on.
+// A worker learns its own note and then executes another command.
 #[test]
 fn a_note_is_learned(rt: HostRuntime) {
     let Ok((heap, workers)) = SharedHeap::open(rt.alloc(), heap_of(2)) else {

@@ -1,4 +1,4 @@
-//! One thread of a heap, with its handle on the shared words.
+//! A worker: the access of one thread to a shared heap.
 
 ghost use Rattle.std.specs.Prelude.{◌≡◌, ◌-◌, ◌↔◌, length, true, IsTrue};
 ghost use Rattle.never_heap.specs.Bounds.{IsCommandInBounds};
@@ -13,35 +13,35 @@ use heap_system::Local;
 use never_heap::Command;
 use std::marker::Model;
 
-// How many commands can be counted.
+// The most commands of a lifetime.
 const MOST_COMMANDS: u64 = 1 << 60;
 
-// How many units all commands of a life may owe, and how many of them may make an object.
+// The most units of work of a lifetime, and the most commands that make an object.
 const MOST_UNITS: u64 = 1 << 45;
 
 const MOST_OBJECTS: u64 = (1 << 43) - 1;
 
-/// Why a command is not asked.
+/// Why a command is refused.
 #[derive(Clone, Copy, Debug, PartialEq, Eq)]
 pub enum Refused {
-    /// A register, number, index, length or number of units of the command is out of its range on
-    /// this heap, or the command is none of its version. This is looked at first.
+    /// A register, number, index, length or number of units of the command is out of range on this
+    /// heap, or the heap's version does not have the command. This is checked first.
     OutOfBounds,
-    /// The worker's life has no room for the command: for its units, for its object, or for one
-    /// command more.
+    /// The command exceeds the worker's lifetime: its units, its objects or its commands.
     NoLifeLeft,
 }
 
-/// One thread of a heap, between two commands. It goes to the thread of the program that asks.
+/// One thread of a heap, between two commands. It may move to any thread of the program.
 ///
-/// Each worker has a life of its own: of 2^45 units and 2^43 - 1 commands that make an object, be
-/// they answered new or full, and of 2^60 commands in all.
+/// A worker's lifetime is limited: to 2^45 units of work, to 2^43 - 1 commands that make an
+/// object, whether they are answered `New` or `Full`, and to 2^60 commands in all. Each worker has
+/// limits of its own.
 #[derive(Drop)]
 pub struct Worker {
     pub(crate) port: Port,
     pub(crate) local: Local,
     pub(crate) config: Config,
-    // How many commands it was asked.
+    // How many commands it has executed.
     pub(crate) count: u64,
     // How many of them make an object.
     pub(crate) objects: u64,
@@ -61,7 +61,7 @@ impl Model for Worker {
         × (w.config ≡ w.local.config) };
 }
 
-// Whether a command makes an object, as a number.
+// 1 for a command that makes an object, and 0 for any other.
 pub(crate) fn objects_of(command: Command) -> u64
     ensures { result ≡ objects_of command }
 {
@@ -72,15 +72,17 @@ pub(crate) fn objects_of(command: Command) -> u64
 }
 
 impl Worker {
-    /// The number of the thread, from 0.
+    /// The number of the worker's thread, from 0.
     pub fn thread(&self) -> u32
         ensures { result ≡ self.now.thread.thread }
     {
         self.local.thread()
     }
 
-    /// How many commands it was asked. What it has seen is a history of the heap that never frees, of
-    /// which its part is what it was asked and has answered.
+    /// How many commands it has executed.
+    ///
+    /// The contract adds what holds of every worker between two commands: what it has seen is a
+    /// legal and licensed history, and its own part of that history is its commands and replies.
     pub fn asked(&self) -> u64
         ensures count { result ≡ length (asked self.now) }
         ensures done { is_done self.now.thread ≡ true }
@@ -89,29 +91,29 @@ impl Worker {
         self.count
     }
 
-    /// The configuration of the heap.
+    /// The configuration of its heap.
     pub fn config(&self) -> &Config
         ensures { result.now ≡ self.now.thread.config }
     {
         &self.config
     }
 
-    /// How many units its commands may still owe.
+    /// How many units of work its commands may still owe, of 2^45.
     pub fn units_left(&self) -> u64
         ensures { result ≡ most_units - works (told self.now) }
     {
         MOST_UNITS - self.local.units_done()
     }
 
-    /// How many commands that make an object it may still be asked.
+    /// How many more commands that make an object it may execute, of 2^43 - 1.
     pub fn objects_left(&self) -> u64
         ensures { result ≡ most_objects - sum_after objects_of 0 (asked self.now) }
     {
         MOST_OBJECTS.saturating_sub(self.objects)
     }
 
-    /// Whether its life has room for one command more, which is in bounds: for the units that it
-    /// owes, for the object that it makes, and for the command.
+    /// Whether the worker's lifetime allows one more command, which must be in bounds: its units of
+    /// work, its object if it makes one, and the command itself.
     pub fn has_left(&self, command: &Command) -> bool
         requires { IsCommandInBounds self.now.thread.config command.now }
         ensures { IsTrue result ↔ HasLeft self.now command.now }
