@@ -30,7 +30,7 @@ const MOST_COMMANDS: u64 = 1 << 60;
 pub enum OpenFault {
     /// There are more than 1,024 tags, no thread, or more than 16.
     OutOfRange,
-    /// An allocation failed: of the heap, of its workers, or of the room that `close` needs.
+    /// An allocation failed: of the heap, of its workers, or of the vector that `close` needs.
     NoMemory,
 }
 
