@@ -23,7 +23,7 @@ HEAPS = {
 }
 FLOOR = "bump"  # the program that frees nothing
 FLOOR_NAME = "machine's noise floor"
-WIDTH, HEIGHT = 1040, 920
+WIDTH, HEIGHT = 1040, 960
 LEFT, PLOT, LABELS = 78, 294, 148  # of a panel: room for the y axis, the plot, names behind it
 
 
@@ -55,6 +55,10 @@ class Figures:
 
     def longest(self, heap, threads, live):
         return [max(1, one[2]) for one in self.times[heap, threads, live]]
+
+
+def said_threads(threads):
+    return "1 thread" if threads == 1 else f"{threads} threads"
 
 
 def grouped(number):
@@ -204,8 +208,8 @@ def steps_between(least, greatest):
 
 
 def draw_times(picture, figures, threads, left, top, height, ticks):
-    title = "1 thread" if threads == 1 else f"{threads} threads"
-    panel = Panel(picture, figures.lives, left, top, height, f"Measured, {title}: lower is better")
+    title = f"Measured, {said_threads(threads)}: lower is better"
+    panel = Panel(picture, figures.lives, left, top, height, title)
     low, high = math.log10(ticks[0]), math.log10(ticks[-1])
 
     def up(nanoseconds):
@@ -217,11 +221,12 @@ def draw_times(picture, figures, threads, left, top, height, ticks):
     for tick in ticks:
         strong = math.log10(tick).is_integer()
         panel.tick(up(tick), time_said(tick), strong)
-    panel.frame("longest time of any command")
+    panel.frame("longest time of any command (log scale)")
     shown = [heap for heap in figures.heaps if heap in HEAPS]
     for k, heap in enumerate(shown):
         name, colour, shape = HEAPS[heap]
         offset = (k - (len(shown) - 1) / 2) * 8.5
+        last = None
         for live in figures.lives:
             spread = figures.longest(heap, threads, live)
             if spread:
@@ -229,7 +234,8 @@ def draw_times(picture, figures, threads, left, top, height, ticks):
                 picture.line(x, up(min(spread)), x, up(max(spread)), colour, 1.6)
                 picture.mark(shape, x, y, colour, 5.4 if heap.startswith("rtheap") else 4.2)
                 last = (y, x, name, colour)
-        points.append(last)
+        if last:
+            points.append(last)
     panel.name_points(points)
 
 
@@ -237,7 +243,7 @@ def draw_floor(picture, panel, figures, threads, up):
     """A band in each column, from the least round to the greatest; answers what is to be named."""
     column = PLOT / len(figures.lives)
     for live in figures.lives:
-        spread = figures.longest(FLOOR, threads, live)
+        spread = figures.longest(FLOOR, threads, live) or [1]
         over, under = up(max(spread)), up(min(spread))
         left = panel.x(live, -column / 2)
         picture.add(f'<rect x="{left:.1f}" y="{over:.1f}" width="{column:.1f}"'
@@ -310,7 +316,7 @@ def described(figures):
             medians = [time_said(int(statistics.median(spread)))
                        for live in figures.lives
                        for spread in [figures.longest(heap, threads, live)] if spread]
-            parts.append(f"{threads} threads, {name}: {', '.join(medians)}")
+            parts.append(f"{said_threads(threads)}, {name}: {', '.join(medians)}")
     lives = ", ".join(map(grouped, figures.lives))
     head = f"Longest command at {lives} live blocks, medians of the rounds. "
     return head + ". ".join(parts) + "."
@@ -333,6 +339,8 @@ def main(words):
     figures = Figures(words[0])
     print_table(figures)
     if len(words) > 1:
+        if not figures.times:
+            sys.exit(f"{words[0]} has no times: run bench/longest first")
         with open(words[1], "w", encoding="utf-8") as file:
             file.write(drawn(figures))
 
