@@ -2,14 +2,16 @@
 //! `bench/asked` runs it with two arguments: the requests of each kind, and the ticks.
 #![tactic(auto)]
 
+mod help;
+
 use block_store::{Config, Width};
 use control_heap::ControlHeap;
+use help::{HELP, VERSION};
 use never_heap::Command;
-use std::env;
+use program_words::{Question, words_of};
 use std::process::ExitCode;
-use std::rt::Env;
 use std::time::{Duration, Instant};
-use trace_text::number_of;
+use trace_text::{StdSink, number_of, put_line};
 
 /// The heap, of blocks of eight words: at most 1,024 of its 4,096 blocks are live.
 const HEAP: Config = Config {
@@ -25,16 +27,23 @@ const HEAP: Config = Config {
 const LIVE: u64 = 500;
 
 fn main(rt: HostRuntime) -> ExitCode {
-    match run(&rt) {
+    let Ok(words) = words_of(&rt) else {
+        return ExitCode::FAILURE;
+    };
+    if let Some(question) = Question::of(&words) {
+        let mut sink = StdSink::new(rt.stdout());
+        return ExitCode::from(put_line(question.answer(HELP, VERSION).as_bytes(), 0, &mut sink));
+    }
+    match run(&rt, &words) {
         Some(()) => ExitCode::SUCCESS,
         None => ExitCode::FAILURE,
     }
 }
 
 /// Prints a line for each kind of request, and one for the loop.
-fn run(rt: &HostRuntime) -> Option<()> {
-    let rounds = word(rt, 1)?;
-    let ticks = word(rt, 2)?;
+fn run(rt: &HostRuntime, words: &[String]) -> Option<()> {
+    let rounds = number_in(words, 0)?;
+    let ticks = number_in(words, 1)?;
     let mut heap = ControlHeap::open(rt.alloc(), HEAP).ok()?;
     fill(&mut heap)?;
     for (kind, command) in [
@@ -53,9 +62,8 @@ fn run(rt: &HostRuntime) -> Option<()> {
 }
 
 /// The number that an argument spells.
-fn word(rt: &HostRuntime, place: usize) -> Option<u64> {
-    let word = env::args(rt).ok()?.nth(place)?;
-    number_of(word.as_bytes())
+fn number_in(words: &[String], place: usize) -> Option<u64> {
+    number_of(words.get(place)?.as_bytes())
 }
 
 /// Makes a list of records in register 2.

@@ -2,18 +2,21 @@
 //! `bench/longest` run it.
 #![tactic(auto)]
 
+mod help;
+
 ghost use Rattle.std.specs.Prelude.{◌≡◌};
 
+use help::{HELP, VERSION};
 use never_heap::Command;
+use program_words::{Question, words_of};
 use shared_heap::{SharedHeap, Worker};
 use std::alloc::Global;
 use std::process::ExitCode;
-use std::rt::Env;
 use std::sync::Wait;
+use std::thread;
 use std::thread::Threads;
 use std::time::Clock;
-use std::{env, thread};
-use trace_text::{Job, StdSource, number_of, read_trace};
+use trace_text::{Job, StdSink, StdSource, number_of, put_line, read_trace};
 
 /// What each thread does after its trace: its last commands again and again.
 #[derive(Clone, Copy, Debug)]
@@ -26,7 +29,14 @@ struct Plan {
 }
 
 fn main(rt: HostRuntime) -> ExitCode {
-    match run(&rt, &rt) {
+    let Ok(words) = words_of(&rt) else {
+        return ExitCode::FAILURE;
+    };
+    if let Some(question) = Question::of(&words) {
+        let mut sink = StdSink::new(rt.stdout());
+        return ExitCode::from(put_line(question.answer(HELP, VERSION).as_bytes(), 0, &mut sink));
+    }
+    match run(&rt, &rt, &words) {
         Some(()) => ExitCode::SUCCESS,
         None => ExitCode::FAILURE,
     }
@@ -34,11 +44,15 @@ fn main(rt: HostRuntime) -> ExitCode {
 
 /// Prints a line for each kind of command, and one for all. The second handle is the same runtime,
 /// by which the threads are started, wait and read the clock.
-fn run<R: Threads + Wait + Clock + Sync>(rt: &HostRuntime, threads: &R) -> Option<()> {
+fn run<R: Threads + Wait + Clock + Sync>(
+    rt: &HostRuntime,
+    threads: &R,
+    words: &[String],
+) -> Option<()> {
     let plan = Plan {
-        tail: word(rt, 1)?,
-        warm: word(rt, 2)?,
-        timed: word(rt, 3)?,
+        tail: number_in(words, 0)?,
+        warm: number_in(words, 1)?,
+        timed: number_in(words, 2)?,
     };
     let job = read_trace(rt.alloc(), &mut StdSource::new(rt.stdin())).ok()?;
     let all = all_times(threads, rt.alloc(), &job, plan)?;
@@ -52,10 +66,9 @@ fn run<R: Threads + Wait + Clock + Sync>(rt: &HostRuntime, threads: &R) -> Optio
     tell(rt, "all", times_of(rt.alloc(), &job, plan, &all, None)?)
 }
 
-/// The number in a word of the program.
-fn word(rt: &HostRuntime, place: usize) -> Option<u64> {
-    let word = env::args(rt).ok()?.nth(place)?;
-    number_of(word.as_bytes())
+/// The number in one of the words.
+fn number_in(words: &[String], place: usize) -> Option<u64> {
+    number_of(words.get(place)?.as_bytes())
 }
 
 /// The last commands of a trace.
