@@ -1,25 +1,34 @@
-//! Reads a number a line, keeps the last 40 as records on a garbage-collected heap, and tells behind
-//! each line the least, the greatest and the mean of them, and how many are outside of limits. The
-//! first line has the limits.
+//! Reads two limits and then one reading a line, and keeps the last 40 readings as records on a
+//! garbage-collected heap. After each reading it writes the least, the greatest and the mean of
+//! those, and how many are outside the limits.
 #![tactic(auto)]
 
-use historian_core::{report, start};
+use historian_core::{report_with_status, start};
 use std::env;
 use std::io::{BufReader, ErrorKind, Result as IoResult};
 use std::process::ExitCode;
 use trace_text::{StdSink, StdSource, put_line};
 
-/// The statuses of words, and of want of memory. Those of a text that is not told to its end are
-/// `historian_core`'s.
+/// The exit status where the program has arguments.
 const USAGE: u8 = 2;
 
+/// The exit status where memory runs out.
 const NO_MEMORY: u8 = 7;
 
 fn main(rt: HostRuntime) -> ExitCode {
-    ExitCode::from(run(&rt).unwrap_or(NO_MEMORY))
+    match run(&rt) {
+        Ok(status) => ExitCode::from(status),
+        Err(_) => ExitCode::from(no_memory(&rt)),
+    }
 }
 
-/// Whether there are words behind the program's name; one that is no text is a word too.
+/// Says that memory ran out.
+fn no_memory(rt: &HostRuntime) -> u8 {
+    let mut sink = StdSink::new(rt.stdout());
+    put_line(b"historian: no memory\n", NO_MEMORY, &mut sink)
+}
+
+/// Whether the program has arguments, be they valid UTF-8 or not.
 fn has_words(rt: &HostRuntime) -> IoResult<bool> {
     match env::args(rt) {
         Ok(args) => Ok(args.skip(1).next().is_some()),
@@ -28,7 +37,7 @@ fn has_words(rt: &HostRuntime) -> IoResult<bool> {
     }
 }
 
-/// Tells of the readings in standard input, and says with which status the program ends.
+/// Reports the readings from standard input on standard output, and returns the exit status.
 fn run(rt: &HostRuntime) -> IoResult<u8> {
     let mut sink = StdSink::new(rt.stdout());
     if has_words(rt)? {
@@ -36,10 +45,7 @@ fn run(rt: &HostRuntime) -> IoResult<u8> {
     }
     let mut source = StdSource::new(BufReader::new(rt.alloc(), rt.stdin())?);
     let Ok(mut heap) = start(rt.alloc()) else {
-        return Ok(NO_MEMORY);
+        return Ok(no_memory(rt));
     };
-    match report(&mut heap, &mut source, &mut sink) {
-        Ok(()) => Ok(0),
-        Err(stop) => Ok(stop.status()),
-    }
+    Ok(report_with_status(&mut heap, &mut source, &mut sink))
 }

@@ -1,18 +1,17 @@
--- What the commands of a historian take of the heap's life.
-use Rattle.std.proofs.Common.{◌≡◌, ℕ, ◌+◌, ◌*◌, ◌-◌, ◌%◌, ◌^◌, ◌<◌, ◌≤◌, inl, inr, Bool, cond, List, [], ◌∷◌, length, refl, sym, ap, ◌∙◌, subst, arith}
-use Rattle.std.proofs.lemmas.Nat.{mul-le}
+-- What the commands of a historian use of the heap's life.
+use Rattle.std.proofs.Common.{◌≡◌, ◌↔◌, ℕ, zero, suc, ◌+◌, ◌*◌, ◌-◌, ◌%◌, ◌^◌, ◌<◌, ◌≤◌, inl, inr, Bool, cond, List, [], ◌∷◌, length, refl, sym, ap, ◌∙◌, subst, arith}
 use Rattle.std.specs.List.{AllByRecursion}
 use Rattle.std.proofs.lemmas.Bool.{cases_Bool}
 use Rattle.block_store.specs.declared.Config.{Config}
 use Rattle.block_store.specs.declared.Width.TheVariants.{Eight}
-use Rattle.rate_plan.specs.Rates.{IsRate}
+use Rattle.rate_plan.specs.Rates.{IsRate, KeepsUp}
 use Rattle.never_heap.specs.declared.Command.{Command}
 use Rattle.never_heap.specs.declared.Command.TheVariants as commands
 use Rattle.never_heap.specs.Bounds.{IsCommandInBounds}
 use Rattle.never_heap.proofs.Ranges.{plain_fits}
 use Rattle.never_heap.specs.RightWork.{units_owed}
 use Rattle.heap_system.specs.Lives.{sum_after}
-use Rattle.control_heap.specs.Controls.{Control, asked, units}
+use Rattle.control_heap.specs.Controls.{Control, HasLeft, asked, units}
 use Rattle.asked_graph.specs.Asked.{HasUsed, HasRoomFor}
 use Rattle.historian_core.specs.declared.Limits.{Limits}
 use Rattle.historian_core.specs.Kept.{heap_config, Holds, listed_from}
@@ -50,7 +49,7 @@ listed_owe rate i = sum
     sum : (rate * 0 + 0) + 0 ≡ 0
     sum = omega arith
 
--- the units that commands took of a heap of this configuration
+-- the units that commands used of a heap of this configuration
 units_taken : (h new : Control) (ks : List Command) (n : ℕ) (rate : ℕ) → h.config ≡ heap_config
     → HasUsed h ks new → IsRate heap_config rate
     → sum_after (units_owed Eight rate) 0 ks ≡ n → units new ≡ units h + n
@@ -66,7 +65,7 @@ kept_units h new value from count same took rate is_rate =
     units_taken h new (asked_commands value from count) rate rate same took is_rate
     (asked_owe rate value from count)
 
--- these take none
+-- these use none
 pub fetched_units : (h new : Control) (i : ℕ) → h.config ≡ heap_config
     → HasUsed h (fetched_commands i) new → (rate : ℕ) → IsRate heap_config rate
     → units new ≡ units h
@@ -95,14 +94,59 @@ pub listed_objects : (h new : Control) (i : ℕ) → HasUsed h (listed_commands 
     → new.objects ≡ h.objects + 0
 listed_objects h new i took = took.objects
 
--- a rate of this configuration is small
-low_rate : (rate : ℕ) → IsRate heap_config rate → rate ≤ 512
-low_rate rate is_rate = is_rate.least 512 (omega arith) (omega arith)
+-- ---- the rate of this configuration is 6
 
-few_units : (rate n : ℕ) → rate ≤ 512 → n ≤ life → rate * n ≤ 2 ^ 41
-few_units rate n low few = omega (arith, mul-le rate n 512 (2 ^ 32) low few)
+six : (p : ℕ) → 1 ≤ p → KeepsUp heap_config p → 6 ≤ p
+six zero some keeps = absurd (omega (arith, some))
+six (suc zero) some keeps = absurd (omega (arith, keeps))
+six (suc (suc zero)) some keeps = absurd (omega (arith, keeps))
+six (suc (suc (suc zero))) some keeps = absurd (omega (arith, keeps))
+six (suc (suc (suc (suc zero)))) some keeps = absurd (omega (arith, keeps))
+six (suc (suc (suc (suc (suc zero))))) some keeps = absurd (omega (arith, keeps))
+six (suc (suc (suc (suc (suc (suc p)))))) some keeps = omega arith
 
-module _ (l : Limits) (xs : List ℕ) (h : Control) (k : Holds h l xs) (few : asked h < 2 ^ 40) where
+six_is : IsRate heap_config 6
+six_is = record { some = omega arith; enough = omega arith; least = six }
+
+rate_is : (rate : ℕ) → IsRate heap_config rate → rate ≡ 6
+rate_is rate is_rate =
+    omega (arith, is_rate.least 6 six_is.some six_is.enough, six rate is_rate.some is_rate.enough)
+
+module _ (l : Limits) (xs : List ℕ) (h : Control) (k : Holds h l xs) where
+  used : (rate : ℕ) → IsRate h.config rate → (units h ≡ 6 * length xs) × (rate ≡ 6)
+  used rate is_rate =
+      let here : IsRate heap_config rate = subst (λ c. IsRate c rate) k.config is_rate in
+      let is : rate ≡ 6 = rate_is rate here in
+      (k.units rate here ∙ ap (λ r. r * length xs) is, is)
+
+  -- the life has room for one more reading exactly where there are fewer than `life`
+  pub life_left : asked h ≤ 125 * length xs
+      → (length xs < life) ↔ HasLeft h (commands.New 1 1)
+  life_left few = (
+    λ inside. (
+      omega (arith, few, inside),
+      left inside,
+      λ rate is_rate.
+          let by = used rate is_rate in
+          subst (λ (c : Config). units h + units_owed c.width rate (commands.New 1 1) ≤ 2 ^ 45)
+          (sym k.config) (room rate inside by.0 by.1),
+    ),
+    λ has.
+        let by = used 6 (subst (λ c. IsRate c 6) (sym k.config) six_is) in
+        let room : units h + (6 * 1 + 0) ≤ 2 ^ 45 =
+        subst (λ (c : Config). units h + units_owed c.width 6 (commands.New 1 1) ≤ 2 ^ 45)
+        k.config (has.2 6 (subst (λ c. IsRate c 6) (sym k.config) six_is)) in
+        omega (arith, by.0, room),
+  )
+    where
+      left : length xs < life → h.objects + 1 ≤ 2 ^ 43 - 1
+      left inside = omega (arith, k.objects, inside)
+
+      room : (rate : ℕ) → length xs < life → units h ≡ 6 * length xs → rate ≡ 6
+          → units h + (rate * 1 + 0) ≤ 2 ^ 45
+      room rate inside made is = omega (arith, inside, made, is)
+
+module _ (l : Limits) (xs : List ℕ) (h : Control) (k : Holds h l xs) (few : asked h < 2 ^ 50) where
   fits : (rate n : ℕ) (ks : List Command) → sum_after (units_owed Eight rate) 0 ks ≡ n
       → units h + n ≤ 2 ^ 45
       → units h + sum_after (units_owed h.config.width rate) 0 ks ≤ 2 ^ 45
@@ -110,15 +154,7 @@ module _ (l : Limits) (xs : List ℕ) (h : Control) (k : Holds h l xs) (few : as
       subst (λ (c : Config). units h + sum_after (units_owed c.width rate) 0 ks ≤ 2 ^ 45)
       (sym k.config) (omega (arith, owed, few))
 
-  few_used : (rate : ℕ) → IsRate h.config rate → length xs ≤ life
-      → (units h ≤ 2 ^ 41) × (rate ≤ 512)
-  few_used rate is_rate inside =
-      let here : IsRate heap_config rate = subst (λ c. IsRate c rate) k.config is_rate in (
-        omega (arith, k.units rate here, few_units rate (length xs) (low_rate rate here) inside),
-        low_rate rate here,
-      )
-
-  -- the life has room for a reading more
+  -- the life has room to keep a reading
   pub room_kept : (value from count : ℕ) → value < 2 ^ 62 → from < 6 → length xs < life
       → HasRoomFor h (asked_commands value from count)
   room_kept value from count small low inside = record {
@@ -142,15 +178,15 @@ module _ (l : Limits) (xs : List ℕ) (h : Control) (k : Holds h l xs) (few : as
     count = omega (arith, few);
     objects = objects;
     units = λ rate is_rate.
-        let used = few_used rate is_rate (omega (arith, inside)) in
+        let made = used l xs h k rate is_rate in
         fits rate rate (asked_commands value from count) (asked_owe rate value from count)
-        (omega (arith, used.0, used.1));
+        (omega (arith, inside, made.0, made.1));
   }
     where
       objects : h.objects + 1 ≤ 2 ^ 43 - 1
       objects = omega (arith, k.objects, inside)
 
-  -- for fetching one
+  -- to fetch one
   pub room_fetched : (i : ℕ) → length xs ≤ life → HasRoomFor h (fetched_commands i)
   room_fetched i inside = record {
     bounds = subst (λ c. AllByRecursion (IsCommandInBounds c) (fetched_commands i))
@@ -164,14 +200,14 @@ module _ (l : Limits) (xs : List ℕ) (h : Control) (k : Holds h l xs) (few : as
     count = omega (arith, few);
     objects = objects;
     units = λ rate is_rate.
-        let used = few_used rate is_rate inside in
-        fits rate 0 (fetched_commands i) (fetched_owe rate i) (omega (arith, used.0));
+        let made = used l xs h k rate is_rate in
+        fits rate 0 (fetched_commands i) (fetched_owe rate i) (omega (arith, inside, made.0));
   }
     where
       objects : h.objects + 0 ≤ 2 ^ 43 - 1
       objects = omega (arith, k.objects, inside)
 
-  -- and for looking into the list of alarms
+  -- and to read the list of alarms
   pub room_listed : (i : ℕ) → length xs ≤ life → HasRoomFor h (listed_commands i)
   room_listed i inside = record {
     bounds = subst (λ c. AllByRecursion (IsCommandInBounds c) (listed_commands i))
@@ -179,8 +215,8 @@ module _ (l : Limits) (xs : List ℕ) (h : Control) (k : Holds h l xs) (few : as
     count = omega (arith, few);
     objects = objects;
     units = λ rate is_rate.
-        let used = few_used rate is_rate inside in
-        fits rate 0 (listed_commands i) (listed_owe rate i) (omega (arith, used.0));
+        let made = used l xs h k rate is_rate in
+        fits rate 0 (listed_commands i) (listed_owe rate i) (omega (arith, inside, made.0));
   }
     where
       objects : h.objects + 0 ≤ 2 ^ 43 - 1

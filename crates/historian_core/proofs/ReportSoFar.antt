@@ -1,15 +1,17 @@
 -- The lines of the readings so far are written, and how that goes on and ends.
-use Rattle.std.proofs.Common.{◌≡◌, ℕ, ◌+◌, ◌≤◌, inl, inr, List, [], ◌∷◌, ◌++◌, length, take, drop, Option, Some, None, IfSome, Result, Ok, Err, sym, refl, ap, ◌∙◌, subst, append_assoc, append-nil}
+use Rattle.std.proofs.Common.{◌≡◌, ℕ, ◌+◌, ◌≤◌, inl, inr, List, [], ◌∷◌, ◌++◌, length, take, drop, cond, le-ltb, Option, Some, None, IfSome, Result, Ok, Err, sym, refl, ap, ◌∙◌, subst, append_assoc, append-nil}
 use Rattle.trace_text.specs.Lines.{lines_of}
 use Rattle.trace_text.specs.Streams.{Appends, AppendsPrefix}
 use Rattle.trace_text.proofs.AppendedTexts.{appends_none, appends_in_turn}
 use Rattle.short_lines.specs.Found.{EndsAt, IsCut}
 use Rattle.historian_core.specs.declared.Limits.{Limits}
-use Rattle.historian_core.specs.declared.texts.Stop.{Stop}
-use Rattle.historian_core.specs.declared.texts.Stop.TheVariants.{BadLine, NoLifeLeft, ReadFault, WriteFault}
+use Rattle.historian_core.specs.declared.stops.Stop.{Stop}
+use Rattle.historian_core.specs.declared.stops.Stop.TheVariants.{BadLine, NoLifeLeft, ReadFault, WriteFault}
+use Rattle.historian_core.specs.declared.stops.Why.{Why}
+use Rattle.historian_core.specs.declared.stops.Why.TheVariants as whys
 use Rattle.historian_core.specs.Lines.{Spells, SpellsNone, IsFirstLine, IsNextLine}
 use Rattle.historian_core.specs.Reports.{IsReadTo, IsReport, IsReportBehind, IsFineText, IsToldOrFails}
-use Rattle.historian_core.specs.Texts.{life, reading_at, limits_at, readings_in, limits_in, stop_in, told_in, stop_behind, told_behind}
+use Rattle.historian_core.specs.Texts.{life, reading_at, checked, first_at, readings_in, limits_in, stop_in, told_in, stop_behind, told_behind}
 use Rattle.historian_core.specs.Windows.{told_line, told_lines}
 use Rattle.historian_core.proofs.TextLaws.{readings_more, stop_none, told_all, stop_bad, told_bad, one_more_read, stop_life, told_life}
 
@@ -38,12 +40,12 @@ told_none l all held = record { read = first all; told = appends_none held }
 
 read_more : (all left new : Option (List ℕ)) (past : List ℕ) (r : ℕ)
     → IfSome all (λ bytes. IsReadTo bytes past left)
-    → IfSome left (λ bytes. Spells reading_at r bytes new)
+    → IfSome left (λ bytes. Spells reading_at (Some r) bytes new)
     → IfSome all (λ bytes. IsReadTo bytes (past ++ r ∷ []) new)
 read_more None left new past r read spells = tt
 read_more (Some bytes) left new past r read spells =
-    let by : Spells reading_at r read.rest new =
-    subst (λ o. IfSome o (λ b. Spells reading_at r b new)) read.now spells in
+    let by : Spells reading_at (Some r) read.rest new =
+    subst (λ o. IfSome o (λ b. Spells reading_at (Some r) b new)) read.now spells in
     record {
       done = read.done ++ by.line ∷ [];
       rest = by.rest;
@@ -55,7 +57,7 @@ read_more (Some bytes) left new past r read spells =
 
 pub one_more_told : (l : Limits) (all left new held now next : Option (List ℕ)) (past : List ℕ)
     (r : ℕ) → IsToldTo l all left held now past
-    → IfSome left (λ bytes. Spells reading_at r bytes new)
+    → IfSome left (λ bytes. Spells reading_at (Some r) bytes new)
     → Appends now next (told_line l (past ++ r ∷ [])) → IsToldTo l all new held next (past ++ r ∷ [])
 one_more_told l all left new held now next past r so_far spells put = record {
   read = read_more all left new past r so_far.read spells;
@@ -83,20 +85,22 @@ module _ (l : Limits) (past : List ℕ) (few : length past ≤ life) where
       )
 
   -- the next one spells none
-  pub stops_told : (all left new held now : Option (List ℕ)) (n number : ℕ)
+  pub stops_told : (all left new held now : Option (List ℕ)) (n number : ℕ) (why : Why)
       → IsToldTo l all left held now past → number ≡ length past + 2
-      → IfSome left (λ bytes. (n ≡ number) × SpellsNone bytes)
-      → IfSome all (λ bytes. IsReportBehind l bytes new held now (Err (BadLine n)))
-  stops_told None left new held now n number so_far same none = tt
-  stops_told (Some bytes) left new held now n number so_far same none =
+      → IfSome left (λ bytes. (n ≡ number) × (why ≡ whys.Reading) × SpellsNone bytes)
+      → IfSome all (λ bytes. IsReportBehind l bytes new held now (Err (BadLine n why)))
+  stops_told None left new held now n number why so_far same none = tt
+  stops_told (Some bytes) left new held now n number why so_far same none =
       let read : IsReadTo bytes past left = so_far.read in
-      let by : (n ≡ number) × SpellsNone read.rest =
-      subst (λ o. IfSome o (λ b. (n ≡ number) × SpellsNone b)) read.now none in
-      let spells : SpellsNone read.rest = by.1 in
+      let by : (n ≡ number) × (why ≡ whys.Reading) × SpellsNone read.rest =
+      subst (λ o. IfSome o (λ b. (n ≡ number) × (why ≡ whys.Reading) × SpellsNone b))
+      read.now none in
+      let spells : SpellsNone read.rest = by.2 in
       let split : lines_of bytes ≡ read.done ++ spells.line ∷ spells.others =
       read.split ∙ ap (λ ls. read.done ++ ls) spells.lines in (
         stop_bad l (lines_of bytes) read.done past read.spelled spells.line spells.others split
-            spells.spelled few ∙ ap (λ k. Some (BadLine k)) (sym (by.0 ∙ same)),
+            spells.spelled few ∙ ap (λ k. Some (BadLine k whys.Reading)) (sym (by.0 ∙ same))
+            ∙ ap (λ w. Some (BadLine n w)) (sym by.1),
         subst (Appends held now)
             (sym (told_bad l (lines_of bytes) read.done past read.spelled spells.line spells.others
             split spells.spelled few)) so_far.told,
@@ -124,8 +128,8 @@ module _ (l : Limits) (past : List ℕ) (few : length past ≤ life) where
       → IfSome left (λ bytes. IsNextLine bytes new number (Err stop))
       → IfSome all (λ bytes. IsReportBehind l bytes new held now (Err stop))
   stopped_told None left new held now number stop so_far same next = tt
-  stopped_told (Some bytes) left new held now number (BadLine n) so_far same next =
-      stops_told (Some bytes) left new held now n number so_far same next
+  stopped_told (Some bytes) left new held now number (BadLine n why) so_far same next =
+      stops_told (Some bytes) left new held now n number why so_far same next
   stopped_told (Some bytes) left new held now number ReadFault so_far same next =
       fails_told (Some bytes) left new held now so_far next
   stopped_told (Some bytes) left new held now number NoLifeLeft so_far same next =
@@ -138,13 +142,13 @@ module _ (l : Limits) (past : List ℕ) (few : length past ≤ life) where
 -- there is no life left for the reading in it
 pub full_told : (l : Limits) (all left new held now : Option (List ℕ)) (past : List ℕ) (r : ℕ)
     → IsToldTo l all left held now past → length past ≡ life
-    → IfSome left (λ bytes. Spells reading_at r bytes new)
+    → IfSome left (λ bytes. Spells reading_at (Some r) bytes new)
     → IfSome all (λ bytes. IsReportBehind l bytes new held now (Err NoLifeLeft))
 full_told l None left new held now past r so_far full spells = tt
 full_told l (Some bytes) left new held now past r so_far full spells =
     let read : IsReadTo bytes past left = so_far.read in
-    let by : Spells reading_at r read.rest new =
-    subst (λ o. IfSome o (λ b. Spells reading_at r b new)) read.now spells in
+    let by : Spells reading_at (Some r) read.rest new =
+    subst (λ o. IfSome o (λ b. Spells reading_at (Some r) b new)) read.now spells in
     let split : lines_of bytes ≡ read.done ++ by.line ∷ lines_of by.rest =
     read.split ∙ ap (λ ls. read.done ++ ls) by.lines in (
       stop_life l (lines_of bytes) read.done past read.spelled by.line (lines_of by.rest) split r
@@ -165,14 +169,14 @@ prefix_in_turn (Some before) b c xs ys h i =
 -- the sink fails in the line of the reading in it
 pub breaks_told : (l : Limits) (all left new held now next : Option (List ℕ)) (past : List ℕ)
     (r : ℕ) → IsToldTo l all left held now past
-    → IfSome left (λ bytes. Spells reading_at r bytes new)
+    → IfSome left (λ bytes. Spells reading_at (Some r) bytes new)
     → AppendsPrefix now next (told_line l (past ++ r ∷ []))
     → IfSome all (λ bytes. IsReportBehind l bytes new held next (Err WriteFault))
 breaks_told l None left new held now next past r so_far spells put = tt
 breaks_told l (Some bytes) left new held now next past r so_far spells put =
     let read : IsReadTo bytes past left = so_far.read in
-    let by : Spells reading_at r read.rest new =
-    subst (λ o. IfSome o (λ b. Spells reading_at r b new)) read.now spells in
+    let by : Spells reading_at (Some r) read.rest new =
+    subst (λ o. IfSome o (λ b. Spells reading_at (Some r) b new)) read.now spells in
     let split : lines_of bytes ≡ read.done ++ by.line ∷ lines_of by.rest =
     read.split ∙ ap (λ ls. read.done ++ ls) by.lines in
     let put_in_turn = prefix_in_turn held now next (told_lines l [] past)
@@ -190,11 +194,11 @@ breaks_told l (Some bytes) left new held now next past r so_far spells put =
 -- ---- of the whole text
 
 module _ (l : Limits) (bytes rest first : List ℕ) (lines : lines_of bytes ≡ first ∷ lines_of rest)
-    (spelled : limits_at first ≡ Some l) where
-  stop_whole : stop_in (lines_of bytes) ≡ stop_behind (Some l) (lines_of rest)
+    (spelled : first_at first ≡ Ok l) where
+  stop_whole : stop_in (lines_of bytes) ≡ stop_behind (Ok l) (lines_of rest)
   stop_whole = ap stop_in lines ∙ ap (λ o. stop_behind o (lines_of rest)) spelled
 
-  told_whole : told_in (lines_of bytes) ≡ told_behind (Some l) (lines_of rest)
+  told_whole : told_in (lines_of bytes) ≡ told_behind (Ok l) (lines_of rest)
   told_whole = ap told_in lines ∙ ap (λ o. told_behind o (lines_of rest)) spelled
 
   pub whole_told : (left held now : Option (List ℕ)) (r : Result (Unit {0}) Stop)
@@ -204,7 +208,7 @@ module _ (l : Limits) (bytes rest first : List ℕ) (lines : lines_of bytes ≡ 
     by.1,
     subst (Appends held now) (sym told_whole) by.2,
   )
-  whole_told left held now (Err (BadLine n)) by =
+  whole_told left held now (Err (BadLine n why)) by =
       (stop_whole ∙ by.0, subst (Appends held now) (sym told_whole) by.1)
   whole_told left held now (Err NoLifeLeft) by =
       (stop_whole ∙ by.0, subst (Appends held now) (sym told_whole) by.1)
@@ -248,8 +252,9 @@ pub report_bad : (all left held : Option (List ℕ)) (stop : Stop)
     → IfSome all (λ bytes. IsFirstLine bytes left (Err stop))
     → IfSome all (λ bytes. IsReport bytes left held held (Err stop))
 report_bad None left held stop first = tt
-report_bad (Some bytes) left held (BadLine n) first = (
-  ap (λ o. stop_behind o (drop 1 (lines_of bytes))) first.1 ∙ ap (λ k. Some (BadLine k)) (sym first.0),
+report_bad (Some bytes) left held (BadLine n why) first = (
+  ap (λ o. stop_behind o (drop 1 (lines_of bytes))) first.1
+      ∙ ap (λ k. Some (BadLine k why)) (sym first.0),
   subst (Appends held held) (sym (ap (λ o. told_behind o (drop 1 (lines_of bytes))) first.1))
       (appends_none held),
 )
@@ -270,14 +275,19 @@ module _ (bytes : List ℕ) (l : Limits) (xs : List ℕ) (fine : IsFineText byte
   end : fine.others ≡ fine.others ++ []
   end = sym (append-nil fine.others)
 
+  first : first_at fine.first ≡ Ok l
+  first =
+      ap checked fine.limits
+      ∙ ap (λ b. cond b (Err whys.Order) (Ok l)) (le-ltb l.high l.low fine.in_order)
+
   no_stop : stop_in (lines_of bytes) ≡ None
   no_stop =
-      ap stop_in fine.lines ∙ ap (λ o. stop_behind o fine.others) fine.limits
+      ap stop_in fine.lines ∙ ap (λ o. stop_behind o fine.others) first
       ∙ stop_none l fine.others fine.others xs fine.readings end fine.few
 
   told_whole_text : told_in (lines_of bytes) ≡ told_lines l [] xs
   told_whole_text =
-      ap told_in fine.lines ∙ ap (λ o. told_behind o fine.others) fine.limits
+      ap told_in fine.lines ∙ ap (λ o. told_behind o fine.others) first
       ∙ told_all l fine.others fine.others xs fine.readings end fine.few
 
   none_stops : (stop : Stop) → stop_in (lines_of bytes) ≡ Some stop → ⊥
@@ -289,7 +299,7 @@ module _ (bytes : List ℕ) (l : Limits) (xs : List ℕ) (fine : IsFineText byte
   fine_told : (left held now : Option (List ℕ)) (r : Result (Unit {0}) Stop)
       → IsReport bytes left held now r → IsToldOrFails l xs held now r
   fine_told left held now (Ok done) by = subst (Appends held now) told_whole_text by.2
-  fine_told left held now (Err (BadLine n)) by = none_stops (BadLine n) by.0
+  fine_told left held now (Err (BadLine n why)) by = none_stops (BadLine n why) by.0
   fine_told left held now (Err NoLifeLeft) by = none_stops NoLifeLeft by.0
   fine_told left held now (Err ReadFault) by = tt
   fine_told left held now (Err WriteFault) by = tt

@@ -9,9 +9,10 @@ use Rattle.short_lines.specs.declared.Next.{Next}
 use Rattle.short_lines.specs.declared.Next.TheVariants.{Long}
 use Rattle.short_lines.specs.Found.{IsFound, IsLong}
 use Rattle.historian_core.specs.declared.Limits.{Limits}
-use Rattle.historian_core.specs.declared.texts.Stop.{Stop}
-use Rattle.historian_core.specs.declared.texts.Stop.TheVariants.{BadLine, NoLifeLeft}
-use Rattle.historian_core.specs.Texts.{life, reading_at, limits_at, readings_in, with_reading, limits_in, stop_behind, told_behind}
+use Rattle.historian_core.specs.declared.stops.Stop.{Stop}
+use Rattle.historian_core.specs.declared.stops.Stop.TheVariants.{BadLine, NoLifeLeft}
+use Rattle.historian_core.specs.declared.stops.Why.TheVariants as whys
+use Rattle.historian_core.specs.Texts.{life, reading_at, limits_at, readings_in, with_reading, checked, limits_in, stop_behind, told_behind}
 use Rattle.historian_core.specs.Lines.{IsFirstLine, IsNextLine}
 use Rattle.historian_core.specs.Reports.{AreReadings}
 use Rattle.historian_core.specs.Windows.{told_lines}
@@ -108,7 +109,7 @@ readings_more (first ∷ ls) (y ∷ xs) line x are is = (are.0, readings_more ls
 abbrev stop_of : List ℕ → ℕ → Option Stop
 stop_of rs n =
     cond (nat_lt life (length rs)) (Some NoLifeLeft)
-    (cond (nat_lt (length rs) n) (Some (BadLine (length rs + 2))) None)
+    (cond (nat_lt (length rs) n) (Some (BadLine (length rs + 2) whys.Reading)) None)
 
 module _ (l : Limits) (lines ls : List (List ℕ)) (xs : List ℕ) (are : AreReadings ls xs) where
   lines_have : (more : List (List ℕ)) → lines ≡ ls ++ more
@@ -125,16 +126,16 @@ module _ (l : Limits) (lines ls : List (List ℕ)) (xs : List ℕ) (are : AreRea
     all_read : readings_in lines ≡ xs
     all_read = lines_have [] split ∙ append-nil xs
 
-    pub stop_none : stop_behind (Some l) lines ≡ None
+    pub stop_none : stop_behind (Ok l) lines ≡ None
     stop_none =
         ap (λ rs. stop_of rs (length lines)) all_read
         ∙ ap (λ b. cond b (Some NoLifeLeft)
-        (cond (nat_lt (length xs) (length lines)) (Some (BadLine (length xs + 2))) None))
+        (cond (nat_lt (length xs) (length lines)) (Some (BadLine (length xs + 2) whys.Reading)) None))
         (le-ltb life (length xs) few)
-        ∙ ap (λ b. cond b (Some (BadLine (length xs + 2))) None)
+        ∙ ap (λ b. cond b (Some (BadLine (length xs + 2) whys.Reading)) None)
         (le-ltb (length xs) (length lines) (omega (arith, length_lines [] split)))
 
-    pub told_all : told_behind (Some l) lines ≡ told_lines l [] xs
+    pub told_all : told_behind (Ok l) lines ≡ told_lines l [] xs
     told_all =
         ap (λ rs. told_lines l [] (take life rs)) all_read
         ∙ ap (told_lines l []) (take_all life xs few)
@@ -147,16 +148,16 @@ module _ (l : Limits) (lines ls : List (List ℕ)) (xs : List ℕ) (are : AreRea
           lines_have (line ∷ others) split
           ∙ ap (λ o. xs ++ with_reading o (readings_in others)) none ∙ append-nil xs
 
-      pub stop_bad : stop_behind (Some l) lines ≡ Some (BadLine (length xs + 2))
+      pub stop_bad : stop_behind (Ok l) lines ≡ Some (BadLine (length xs + 2) whys.Reading)
       stop_bad =
           ap (λ rs. stop_of rs (length lines)) few_read
           ∙ ap (λ b. cond b (Some NoLifeLeft)
-          (cond (nat_lt (length xs) (length lines)) (Some (BadLine (length xs + 2))) None))
+          (cond (nat_lt (length xs) (length lines)) (Some (BadLine (length xs + 2) whys.Reading)) None))
           (le-ltb life (length xs) few)
-          ∙ ap (λ b. cond b (Some (BadLine (length xs + 2))) None)
+          ∙ ap (λ b. cond b (Some (BadLine (length xs + 2) whys.Reading)) None)
           (lt-ltb (length xs) (length lines) (omega (arith, length_lines (line ∷ others) split)))
 
-      pub told_bad : told_behind (Some l) lines ≡ told_lines l [] xs
+      pub told_bad : told_behind (Ok l) lines ≡ told_lines l [] xs
       told_bad =
           ap (λ rs. told_lines l [] (take life rs)) few_read
           ∙ ap (told_lines l []) (take_all life xs few)
@@ -169,16 +170,16 @@ module _ (l : Limits) (lines ls : List (List ℕ)) (xs : List ℕ) (are : AreRea
           ∙ ap (λ o. xs ++ with_reading o (readings_in others)) is
 
       module _ (full : length xs ≡ life) where
-        pub stop_life : stop_behind (Some l) lines ≡ Some NoLifeLeft
+        pub stop_life : stop_behind (Ok l) lines ≡ Some NoLifeLeft
         stop_life =
             ap (λ rs. stop_of rs (length lines)) one_more_read
             ∙ ap (λ b. cond b (Some NoLifeLeft)
             (cond (nat_lt (length (xs ++ r ∷ readings_in others)) (length lines))
-            (Some (BadLine (length (xs ++ r ∷ readings_in others) + 2))) None))
+            (Some (BadLine (length (xs ++ r ∷ readings_in others) + 2) whys.Reading)) None))
             (lt-ltb life (length (xs ++ r ∷ readings_in others))
             (omega (arith, length-append xs (r ∷ readings_in others), full)))
 
-        pub told_life : told_behind (Some l) lines ≡ told_lines l [] xs
+        pub told_life : told_behind (Ok l) lines ≡ told_lines l [] xs
         told_life =
             ap (λ rs. told_lines l [] (take life rs)) one_more_read
             ∙ ap (told_lines l [])
@@ -189,18 +190,19 @@ module _ (l : Limits) (lines ls : List (List ℕ)) (xs : List ℕ) (are : AreRea
 
 pub long_first : (all left new : Option (List ℕ)) (line : List ℕ) (r : Result Next Failed)
     (n : Next) → r ≡ Ok n → n ≡ Long → IfSome all (λ bytes. IsFound bytes left line r)
-    → IfSome all (λ bytes. IsFirstLine bytes new (Err (BadLine 1)))
+    → IfSome all (λ bytes. IsFirstLine bytes new (Err (BadLine 1 whys.Limits)))
 long_first None left new line r n e f found = tt
 long_first (Some bytes) left new line r n e f found =
     let long : IsLong bytes left = subst (λ o. IsFound bytes left line o) (e ∙ ap Ok f) found in
-    (refl, ap limits_in long.lines ∙ limits_long long.line long.long)
+    (refl, ap limits_in long.lines ∙ ap checked (limits_long long.line long.long))
 
 pub long_next : (all left new : Option (List ℕ)) (line : List ℕ) (number : ℕ)
     (r : Result Next Failed) (n : Next) → r ≡ Ok n → n ≡ Long → IfSome all (λ bytes. IsFound bytes left line r)
-    → IfSome all (λ bytes. IsNextLine bytes new number (Err (BadLine number)))
+    → IfSome all (λ bytes. IsNextLine bytes new number (Err (BadLine number whys.Reading)))
 long_next None left new line number r n e f found = tt
 long_next (Some bytes) left new line number r n e f found =
     let long : IsLong bytes left = subst (λ o. IsFound bytes left line o) (e ∙ ap Ok f) found in (
+      refl,
       refl,
       record {
         line = long.line;

@@ -27,15 +27,15 @@ record_of v = record { kind = Record; fields = Int v ∷ [] }
 abbrev pub name_at : ℕ → Name
 name_at i = record { thread = 0; serial = i + 1 }
 
--- what the list of alarms has for a reading with this record: the record, where it is an alarm
+-- the entry of the list of alarms for a reading with this record: the record, if it is an alarm
 abbrev pub listed : Limits → ℕ → Name → Value
 listed l v a = if is_alarm l v then Ref a else Nil
 
--- the register from which that is put: 1 has the record, and 5 is never written
+-- the register with that entry: 1 has the record, and 5 is never written
 abbrev pub listed_from : Limits → ℕ → ℕ
 listed_from l v = if is_alarm l v then 1 else 5
 
--- 1 where a reply shows a reference, and 0 where it does not
+-- 1 for a reply with a reference, and 0 for any other
 abbrev pub refers : Reply → ℕ
 refers (Val (Ref a)) = 1
 refers _ = 0
@@ -71,9 +71,10 @@ kept_graph a b c d os fs = record {
   } ∷ [];
 }
 
--- The shared array has the records of the last 40 readings, that of reading i at i modulo 40. The 40
--- places behind these are the list of alarms: at 40 + i modulo 40 it has that record again where
--- reading i is an alarm, and else nil. So as many alarms stand as it has references.
+-- Elements 0 to 39 of the shared array are a ring of the last 40 readings: element i modulo 40
+-- refers to the record of reading i. Elements 40 to 79 are the list of alarms: element 40 + i
+-- modulo 40 has the same reference where reading i is an alarm, and is otherwise nil. So the list
+-- has as many references as there are alarms among the last 40.
 pub record IsRing (l : Limits) (xs : List ℕ) (fs : List Value) : Type 0 where
   pub long : length fs ≡ 80
   pub held : (i : ℕ) → IsHeld (slice_index_or fs i Nil)
@@ -84,8 +85,8 @@ pub record IsRing (l : Limits) (xs : List ℕ) (fs : List Value) : Type 0 where
   pub free : (i : ℕ) → length xs ≤ i → slice_index_or fs (40 + i) Nil ≡ Nil
   pub standing : references (drop 40 fs) ≡ alarms_in l (last_ones xs)
 
--- A heap that was given these readings: it shows a graph with a record for each, of which the last
--- 40 stand in the shared array. Each took one object of its life, and the units of one block.
+-- A heap that was given these readings shows a graph with a record for each, of which the last 40
+-- are in the shared array. Each reading used one object of the life, and the units of one block.
 pub record Holds (h : Control) (l : Limits) (xs : List ℕ) : Type 0 where
   pub config : h.config ≡ heap_config
   pub a : Value
@@ -103,8 +104,8 @@ pub record Holds (h : Control) (l : Limits) (xs : List ℕ) : Type 0 where
   pub objects : h.objects ≡ length xs
   pub units : (rate : ℕ) → IsRate heap_config rate → units h ≡ rate * length xs
 
--- The same between two readings: each took no more than 5 commands to keep it, and 3 for each of 40
--- that were told.
+-- The same between two readings: each used at most 5 commands to keep it, and 3 for each of the 40
+-- readings of its line.
 pub record Keeps (h : Control) (l : Limits) (xs : List ℕ) : Type 0 where
   pub holds : Holds h l xs
   pub few : asked h ≤ 125 * length xs

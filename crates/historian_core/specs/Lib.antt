@@ -3,3 +3,4 @@ pub mod Kept
 pub mod Texts
 pub mod Lines
 pub mod Reports
+pub mod Stops

@@ -1,11 +1,12 @@
 //! The last 40 readings of a number, kept as records on a garbage-collected heap.
 #![tactic(auto)]
 
-ghost use Rattle.std.specs.Prelude.{◌≡◌, ◌≤◌, ◌<◌, ◌+◌, ◌%◌, ◌^◌, ◌∷◌, ◌++◌, ℕ, min, max, List, [], length, slice_index_or, IfOk, IfErr, OnOk, OnErr};
+ghost use Rattle.std.specs.Prelude.{◌≡◌, ◌≤◌, ◌<◌, ◌+◌, ◌%◌, ◌^◌, ◌∷◌, ◌++◌, ◌↔◌, ℕ, min, max, List, [], length, slice_index_or, IfOk, IfErr, OnOk, OnErr};
 ghost use Rattle.block_store.specs.declared.Value.TheVariants.{Int};
+ghost use Rattle.never_heap.specs.declared.Command.TheVariants.{New};
 ghost use Rattle.never_heap.specs.declared.Reply.TheVariants.{Val};
 ghost use Rattle.never_heap.specs.Licensed.{NoFulls};
-ghost use Rattle.control_heap.specs.Controls.{Control, asked};
+ghost use Rattle.control_heap.specs.Controls.{Control, HasLeft, asked};
 ghost use Rattle.control_heap.specs.Refusals.{IsOpenFault};
 ghost use Rattle.trace_text.specs.Faults.{Rose};
 ghost use Rattle.trace_text.specs.Streams.{Appends, AppendsPrefix};
@@ -13,6 +14,7 @@ ghost use Rattle.historian_core.specs.declared.Limits.{Limits};
 ghost use Rattle.historian_core.specs.Kept.{Holds, Keeps, heap_config, listed_from, refers};
 ghost use Rattle.historian_core.specs.Windows as windows;
 
+mod stops;
 #[cfg(test)]
 mod tests;
 mod texts;
@@ -22,16 +24,18 @@ use block_store::{Config, Value, Width};
 use control_heap::{ControlHeap, OpenFault};
 use never_heap::{Command, Reply};
 use std::alloc::Global;
-pub use texts::{Stop, limits_of, reading_of, report};
+pub use stops::{Stop, Why, report_with_status, say_stop};
+pub use texts::{limits_of, reading_of, report};
 use trace_text::{Failed, LineBuffer, Sink};
 
-/// How many readings are kept.
+/// How many readings are kept, and how many each line is about at most.
 pub const KEPT: u64 = 40;
 
-/// How many readings a heap keeps in its life.
-pub const LIFE: u64 = 1 << 32;
+/// How many readings a heap keeps in its life: 5,864,062,014,805, for which its own life has units,
+/// 2^45 at 6 for each. At 1,000 readings a second these are 185 years.
+pub const LIFE: u64 = (1 << 45) / 6;
 
-/// The heap: no more than 128 of its 512 blocks are ever live.
+/// The heap. At most 128 of its 512 blocks are ever live.
 const HEAP: Config = Config {
     width: Width::Eight,
     threads: 1,
@@ -41,27 +45,27 @@ const HEAP: Config = Config {
     shared: 80,
 };
 
-/// What a reading may be without an alarm: at least `low` and at most `high`.
+/// A reading below `low` or above `high` is an alarm.
 #[derive(Clone, Copy, Debug, PartialEq, Eq)]
 pub struct Limits {
     pub low: u32,
     pub high: u32,
 }
 
-/// What is told of the readings that are kept.
+/// The figures of the readings that are kept.
 #[derive(Clone, Copy, Debug, PartialEq, Eq)]
 pub struct Figures {
     pub least: u64,
     pub greatest: u64,
     pub total: u64,
     pub count: u64,
-    /// How many of them are outside of the limits.
+    /// How many of them are alarms.
     pub alarms: u64,
 }
 
 impl Limits {
-    /// The register that is put into the list of alarms: 1, which has the record, for a reading
-    /// outside of the limits, and 5, which is always nil, for any other.
+    /// The register whose value goes into the list of alarms: for an alarm 1, which refers to the
+    /// record, and otherwise 5, which is always nil.
     fn listed_from(&self, reading: u32) -> u8
         ensures { result ≡ listed_from self.now reading }
     {
@@ -74,7 +78,7 @@ impl Limits {
 }
 
 impl Figures {
-    /// Those of no reading.
+    /// The figures of no reading.
     fn none() -> Figures
         ensures { (l : Limits) → result ≡ windows.figures_of l [] }
     {
@@ -87,7 +91,7 @@ impl Figures {
         }
     }
 
-    /// Those with one reading more; the mark is 1 where it is an alarm, and else 0.
+    /// The figures with one more reading; `mark` is 1 for an alarm, and otherwise 0.
     fn with(self, value: u64, mark: u64) -> Figures
         requires total { self.total + value < 2 ^ 64 }
         requires count { self.count + 1 < 2 ^ 64 }
@@ -111,7 +115,7 @@ impl Figures {
 }
 
 impl Figures {
-    /// Their line. Of no reading the mean is told as 0.
+    /// Their line. The mean of no reading is written as 0.
     fn line(&self) -> LineBuffer
         ensures { result ≡ windows.figures_line self.now }
     {
@@ -134,11 +138,11 @@ impl Figures {
     }
 }
 
-/// A heap for readings. It keeps none yet, whatever the limits will be.
+/// Opens a heap for readings, which keeps none yet, whatever the limits will be.
 ///
 /// # Errors
 ///
-/// As of `ControlHeap::open`, which leaves want of memory.
+/// `NoMemory`, the one cause that this configuration leaves of those of `ControlHeap::open`.
 pub fn start(alloc: Global) -> Result<ControlHeap, OpenFault>
     ensures kept { (l : Limits) → IfOk result (λ h. Keeps h l []) }
     ensures refused { IfErr result (IsOpenFault heap_config) }
@@ -146,12 +150,11 @@ pub fn start(alloc: Global) -> Result<ControlHeap, OpenFault>
     open(alloc, HEAP)
 }
 
-/// Keeps one reading more in a heap that has `count`, and writes the line of the last 40, by one
-/// `put`.
+/// Adds a reading to a heap that keeps `count`, and writes the line of the last 40 by one `put`.
 ///
 /// # Errors
 ///
-/// `Failed` where the sink fails: then the reading is kept, and a prefix of the line written.
+/// `Failed` where the sink fails: then the reading is kept, and a prefix of the line is written.
 pub fn tell<K: Sink>(
     heap: &mut ControlHeap,
     limits: &Limits,
@@ -176,7 +179,7 @@ pub fn tell<K: Sink>(
     sink.put(line.bytes())
 }
 
-/// No allocation of a heap that keeps readings was answered full.
+/// No allocation of a heap that keeps readings was answered `Full`.
 pub fn readings_met_no_full()
     ensures { (h : Control) (l : Limits) (xs : List ℕ) (k : Keeps h l xs)
         → NoFulls k.holds.shows.shows.run.order }
@@ -184,8 +187,14 @@ pub fn readings_met_no_full()
     shown_heaps_met_no_full();
 }
 
-/// Keeps one reading more in a heap that has `count`, and tells the figures of the last 40. The life
-/// of the heap has room for it.
+/// The life of the heap has room for one more reading exactly where it has kept fewer than `LIFE`.
+pub fn lives_end_with_the_heap()
+    ensures { (h : Control) (l : Limits) (xs : List ℕ) → Keeps h l xs
+        → (length xs < LIFE) ↔ HasLeft h (New 1 1) }
+{}
+
+/// Adds a reading to a heap that keeps `count`, fewer than `LIFE`, and returns the figures of the
+/// last 40.
 pub fn take(heap: &mut ControlHeap, limits: &Limits, count: u64, reading: u32) -> Figures
     requires kept { (xs : List ℕ) × Keeps heap.old limits.now xs × (length xs ≡ count) }
     requires room { count < LIFE }
@@ -204,12 +213,12 @@ pub fn take(heap: &mut ControlHeap, limits: &Limits, count: u64, reading: u32) -
     figures
 }
 
-/// Keeps one reading more, as a record in the place of the one 40 before, and lists it where it is
+/// Adds a reading as a record, which takes the place of the one 40 before, and lists it where it is
 /// an alarm.
 fn keep(heap: &mut ControlHeap, limits: &Limits, count: u64, reading: u32)
     requires kept { (xs : List ℕ) × Holds heap.old limits.now xs × (length xs ≡ count) }
     requires room { count < LIFE }
-    requires few { asked heap.old < 2 ^ 40 }
+    requires few { asked heap.old < 2 ^ 50 }
     ensures kept { (xs : List ℕ) → Holds heap.old limits.now xs → length xs ≡ count
         → Holds heap.new limits.now (xs ++ reading ∷ []) }
     ensures five { asked heap.new ≡ asked heap.old + 5 }
@@ -237,11 +246,11 @@ fn keep(heap: &mut ControlHeap, limits: &Limits, count: u64, reading: u32)
     };
 }
 
-/// Fetches the reading number i, counted from 0.
+/// Reading number `i`, counted from 0.
 fn reading_at(heap: &mut ControlHeap, i: u64) -> u64
     requires kept { (l : Limits) × (xs : List ℕ) × Holds heap.old l xs
         × (i < length xs) × (length xs ≤ i + KEPT) × (length xs ≤ LIFE) }
-    requires few { asked heap.old < 2 ^ 40 }
+    requires few { asked heap.old < 2 ^ 50 }
     ensures kept { (l : Limits) (xs : List ℕ) → Holds heap.old l xs → i < length xs
         → length xs ≤ i + KEPT
         → (result ≡ slice_index_or xs i 0) × Holds heap.new l xs }
@@ -263,11 +272,11 @@ fn reading_at(heap: &mut ControlHeap, i: u64) -> u64
     number_in(reply)
 }
 
-/// How many alarms stand in the list for the reading number i, counted from 0: 1 or 0.
+/// 1 where the list of alarms has reading number `i`, counted from 0, and otherwise 0.
 fn alarms_at(heap: &mut ControlHeap, i: u64) -> u64
     requires kept { (l : Limits) × (xs : List ℕ) × Holds heap.old l xs
         × (i < length xs) × (length xs ≤ i + KEPT) × (length xs ≤ LIFE) }
-    requires few { asked heap.old < 2 ^ 40 }
+    requires few { asked heap.old < 2 ^ 50 }
     ensures kept { (l : Limits) (xs : List ℕ) → Holds heap.old l xs → i < length xs
         → length xs ≤ i + KEPT
         → (result ≡ windows.mark l (slice_index_or xs i 0)) × Holds heap.new l xs }
@@ -286,7 +295,7 @@ fn alarms_at(heap: &mut ControlHeap, i: u64) -> u64
     references_in(reply)
 }
 
-/// The number that a reply shows.
+/// The number in a reply.
 fn number_in(reply: Reply) -> u64
     requires { (n : ℕ) × (reply ≡ Val (Int n)) }
     ensures { reply ≡ Val (Int result) }
@@ -297,7 +306,7 @@ fn number_in(reply: Reply) -> u64
     }
 }
 
-/// 1 for a reply that shows a reference, and 0 for any other.
+/// 1 for a reply with a reference, and 0 for any other.
 fn references_in(reply: Reply) -> u64
     ensures count { result ≡ refers reply }
     ensures small { result ≤ 1 }

@@ -1,6 +1,6 @@
 //! Texts that are told to their end, and texts that are not.
 
-use crate::{Stop, report, start};
+use crate::{Stop, Why, report, say_stop, start};
 use std::alloc::Global;
 use std::process::Abort;
 use std::test::Fail;
@@ -34,16 +34,22 @@ const TWO: &[u8] =
 
 const ONE: &[u8] = b"least 50 greatest 50 mean 50 alarms 0\n";
 
+fn bad_line(line: u64, why: Why) -> Stop {
+    Stop::BadLine { line, why }
+}
+
 #[test]
 fn a_text_is_told_up_to_its_first_wrong_line(rt: HostRuntime) -> Result<(), Fail> {
     let none: (&[u64], &[u64]) = (&[], &[]);
     let text = b"20 80\n50\n90";
     tells(&rt, rt.alloc(), text, none, Ok(()), TWO)?;
-    let bad = Err(Stop::BadLine(4));
+    let bad = Err(bad_line(4, Why::Reading));
     tells(&rt, rt.alloc(), b"20 80\n50\n90\nx\n1\n", none, bad, TWO)?;
-    let no_limits = Err(Stop::BadLine(1));
+    let no_limits = Err(bad_line(1, Why::Limits));
     tells(&rt, rt.alloc(), b"20 80 1\n50\n", none, no_limits, b"")?;
-    tells(&rt, rt.alloc(), b"", none, no_limits, b"")
+    tells(&rt, rt.alloc(), b"", none, no_limits, b"")?;
+    let wrong_order = Err(bad_line(1, Why::Order));
+    tells(&rt, rt.alloc(), b"80 20\n50\n", none, wrong_order, b"")
 }
 
 #[test]
@@ -88,5 +94,36 @@ fn an_alarm_stands_for_40_readings(rt: HostRuntime) -> Result<(), Fail> {
     let told = sink.bytes();
     let from = told.len().saturating_sub(LAST.len());
     assert_eq!(rt; told.get(from..).unwrap_or(&[]), LAST);
+    Ok(())
+}
+
+#[test]
+fn a_stop_is_said_with_its_reason(rt: HostRuntime) -> Result<(), Fail> {
+    for (stop, status, line) in [
+        (
+            bad_line(1, Why::Limits),
+            3,
+            "historian: line 1: not two limits below 2^32\n",
+        ),
+        (
+            bad_line(1, Why::Order),
+            3,
+            "historian: line 1: low limit above high limit\n",
+        ),
+        (
+            bad_line(1234567890123, Why::Reading),
+            3,
+            "historian: line 1234567890123: not a reading below 2^32\n",
+        ),
+        (Stop::ReadFault, 5, "historian: read fault\n"),
+        (Stop::NoLifeLeft, 9, "historian: no life left\n"),
+        (Stop::WriteFault, 6, ""),
+    ] {
+        let mut sink = MemSink::new(rt.alloc(), 4000, Vec::from_slice(rt.alloc(), &[])?)
+            .ok()
+            .ok_or("memory")?;
+        assert_eq!(rt; say_stop(stop, &mut sink), status);
+        assert_eq!(rt; sink.bytes(), line.as_bytes());
+    }
     Ok(())
 }

@@ -1,4 +1,4 @@
-//! Readings as a text: two limits in its first line, and a reading in each other one.
+//! Readings as a text: the limits in its first line, and a reading in each other line.
 
 ghost use Rattle.std.specs.Prelude.{◌≡◌, ◌<◌, ◌+◌, ◌∷◌, ◌++◌, ℕ, List, [], length, IfSome};
 ghost use Rattle.trace_text.specs.Streams.{Appends};
@@ -6,40 +6,12 @@ ghost use Rattle.historian_core.specs.declared.Limits.{Limits};
 ghost use Rattle.historian_core.specs.Kept.{Keeps};
 ghost use Rattle.historian_core.specs.Lines.{IsFirstLine, IsNextLine, CountsRead};
 ghost use Rattle.historian_core.specs.Reports.{IsReport, IsReportBehind, IsFineText, IsToldOrFails, AreCounted};
-ghost use Rattle.historian_core.specs.Texts.{reading_at, limits_at, status_of};
+ghost use Rattle.historian_core.specs.Texts.{reading_at, limits_at, first_at};
 
-use crate::{LIFE, Limits, tell};
+use crate::{LIFE, Limits, Stop, Why, tell};
 use control_heap::ControlHeap;
 use short_lines::{Next, ShortLine, next_line};
-use trace_text::{Sink, Source, WRITE_FAULT, number_of, two_tokens};
-
-/// Why telling stops before the end of a text.
-#[derive(Clone, Copy, Debug, PartialEq, Eq)]
-pub enum Stop {
-    /// The line of this number, counted from 1, is the first that cannot stand at its place: the
-    /// first spells no limits or is not there, or another one spells no reading.
-    BadLine(u64),
-    /// The heap kept 2^32 readings, and one more came.
-    NoLifeLeft,
-    /// The source failed.
-    ReadFault,
-    /// The sink failed.
-    WriteFault,
-}
-
-impl Stop {
-    /// The status with which a program ends that stops so.
-    pub fn status(self) -> u8
-        ensures { result ≡ status_of self }
-    {
-        match self {
-            Stop::BadLine(_) => 3,
-            Stop::ReadFault => 5,
-            Stop::WriteFault => WRITE_FAULT,
-            Stop::NoLifeLeft => 9,
-        }
-    }
-}
+use trace_text::{Sink, Source, number_of, two_tokens};
 
 /// The reading that a line spells: a number below 2^32.
 #[tactic(auto, unfolding(crate::specs::Texts::reading_at))]
@@ -54,7 +26,7 @@ pub fn reading_of(line: &[u8]) -> Option<u32>
     }
 }
 
-/// The limits that a line spells: two such numbers with a space between them.
+/// The limits that a line spells: two numbers below 2^32 with one space between them, in any order.
 #[tactic(auto, unfolding(crate::specs::Texts::limits_at))]
 pub fn limits_of(line: &[u8]) -> Option<Limits>
     ensures { result ≡ limits_at line.now }
@@ -65,15 +37,29 @@ pub fn limits_of(line: &[u8]) -> Option<Limits>
     Some(Limits { low, high })
 }
 
-/// Reads a text, of which the first line has the limits and each other one a reading. Keeps the
-/// readings, and writes the line of the last 40 behind each, by one `put`. The heap keeps none yet.
+/// The limits that a first line spells, or what is wrong with it.
+fn first_of(line: &[u8]) -> Result<Limits, Why>
+    ensures { result ≡ first_at line.now }
+{
+    let Some(limits) = limits_of(line) else {
+        return Err(Why::Limits);
+    };
+    if limits.high < limits.low {
+        Err(Why::Order)
+    } else {
+        Ok(limits)
+    }
+}
+
+/// Reads a text of limits and readings, and after each reading writes the line of the last 40 by
+/// one `put`. The heap keeps no reading yet.
 ///
 /// # Errors
 ///
-/// `BadLine` with the first line that cannot stand at its place, and `NoLifeLeft` at a reading
-/// behind 2^32: then what the lines before ask is written. `ReadFault` where the source fails: then
-/// what the lines ask that were read is written. `WriteFault` where the sink fails, which may leave
-/// a prefix of a line written.
+/// `BadLine` at the first line that is wrong, and `NoLifeLeft` at a reading for which the heap's
+/// life has no room: then the lines of the readings before it are written. `ReadFault` where the
+/// source fails: then the lines of the readings that were read are written. `WriteFault` where the
+/// sink fails, which may leave a prefix of a line written.
 pub fn report<S: Source, K: Sink>(
     heap: &mut ControlHeap,
     source: &mut S,
@@ -96,7 +82,7 @@ pub fn report<S: Source, K: Sink>(
     tell_all(heap, &limits, source, &mut line, sink)
 }
 
-/// Reads the limits in the first line of a source.
+/// Reads the limits from the first line of a source.
 fn first_limits<S: Source>(source: &mut S, line: &mut ShortLine) -> Result<Limits, Stop>
     ensures first { IfSome (S.left source.old) (λ bytes.
         IsFirstLine bytes (S.left source.new) result) }
@@ -104,16 +90,22 @@ fn first_limits<S: Source>(source: &mut S, line: &mut ShortLine) -> Result<Limit
 {
     match next_line(source, line) {
         Err(_) => Err(Stop::ReadFault),
-        Ok(Next::End) => Err(Stop::BadLine(1)),
-        Ok(Next::Long) => Err(Stop::BadLine(1)),
-        Ok(Next::Line) => match limits_of(line.bytes()) {
-            Some(limits) => Ok(limits),
-            None => Err(Stop::BadLine(1)),
+        Ok(Next::End) => Err(Stop::BadLine {
+            line: 1,
+            why: Why::Limits,
+        }),
+        Ok(Next::Long) => Err(Stop::BadLine {
+            line: 1,
+            why: Why::Limits,
+        }),
+        Ok(Next::Line) => match first_of(line.bytes()) {
+            Ok(limits) => Ok(limits),
+            Err(why) => Err(Stop::BadLine { line: 1, why }),
         },
     }
 }
 
-/// Reads the reading in the next line, which has this number, or finds none at the end.
+/// Reads the reading from the next line, whose number is `number`, or returns `None` at the end.
 fn next_reading<S: Source>(
     source: &mut S,
     line: &mut ShortLine,
@@ -126,15 +118,21 @@ fn next_reading<S: Source>(
     match next_line(source, line) {
         Err(_) => Err(Stop::ReadFault),
         Ok(Next::End) => Ok(None),
-        Ok(Next::Long) => Err(Stop::BadLine(number)),
+        Ok(Next::Long) => Err(Stop::BadLine {
+            line: number,
+            why: Why::Reading,
+        }),
         Ok(Next::Line) => match reading_of(line.bytes()) {
             Some(reading) => Ok(Some(reading)),
-            None => Err(Stop::BadLine(number)),
+            None => Err(Stop::BadLine {
+                line: number,
+                why: Why::Reading,
+            }),
         },
     }
 }
 
-/// The same as `report`, of the lines behind the limits.
+/// Does `report` for the lines after the limits.
 fn tell_all<S: Source, K: Sink>(
     heap: &mut ControlHeap,
     limits: &Limits,
