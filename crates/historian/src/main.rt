@@ -3,16 +3,21 @@
 //! those, and how many are outside the limits.
 #![tactic(auto)]
 
+mod help;
+
+use help::{HELP, VERSION};
 use historian_core::{report_with_status, start};
-use std::env;
-use std::io::{BufReader, ErrorKind, Result as IoResult};
+use program_words::{Question, words_of};
+use std::alloc::AllocError;
+use std::io::BufReader;
 use std::process::ExitCode;
 use trace_text::{StdSink, StdSource, put_line};
 
-/// The exit status where the program has arguments.
+/// The exit statuses of success, of arguments, and of memory that ran out.
+const DONE: u8 = 0;
+
 const USAGE: u8 = 2;
 
-/// The exit status where memory runs out.
 const NO_MEMORY: u8 = 7;
 
 fn main(rt: HostRuntime) -> ExitCode {
@@ -28,22 +33,18 @@ fn no_memory(rt: &HostRuntime) -> u8 {
     put_line(b"historian: no memory\n", NO_MEMORY, &mut sink)
 }
 
-/// Whether the program has arguments, be they valid UTF-8 or not.
-fn has_words(rt: &HostRuntime) -> IoResult<bool> {
-    match env::args(rt) {
-        Ok(args) => Ok(args.skip(1).next().is_some()),
-        Err(e) if e.kind() == ErrorKind::OutOfMemory => Err(e),
-        Err(_) => Ok(true),
-    }
-}
-
 /// Reports the readings from standard input on standard output, and returns the exit status.
-fn run(rt: &HostRuntime) -> IoResult<u8> {
+fn run(rt: &HostRuntime) -> Result<u8, AllocError> {
+    let words = words_of(rt)?;
     let mut sink = StdSink::new(rt.stdout());
-    if has_words(rt)? {
+    if let Some(question) = Question::of(&words) {
+        return Ok(put_line(question.answer(HELP, VERSION).as_bytes(), DONE, &mut sink));
+    }
+    if !words.is_empty() {
         return Ok(put_line(b"historian: usage\n", USAGE, &mut sink));
     }
-    let mut source = StdSource::new(BufReader::new(rt.alloc(), rt.stdin())?);
+    let input = BufReader::new(rt.alloc(), rt.stdin()).map_err(|_| AllocError)?;
+    let mut source = StdSource::new(input);
     let Ok(mut heap) = start(rt.alloc()) else {
         return Ok(no_memory(rt));
     };
