@@ -7,8 +7,8 @@ use Rattle.never_heap.specs.declared.Command.TheVariants.{New, Set, Put, Get}
 use Rattle.never_heap.specs.declared.Reply.TheVariants as replies
 use Rattle.control_heap.specs.Controls.{Control, AllAnswered}
 
--- A record of one field was made and holds the reading, and that place of the shared array refers to
--- it: each of the four commands was done.
+-- Four commands were done: a record was made, it holds the reading, and that place of the shared
+-- array refers to it.
 abbrev pub HasKept : Control → ℕ → ℕ → Control → Type 0
 HasKept old place reading new = (name : Name) × AllAnswered old
     (New 1 1 ∷ Set 2 reading ∷ Put 1 0 2 ∷ Put 0 place 1 ∷ [])
