@@ -1,37 +1,44 @@
--- What a memory counts that counts one at each operation at most.
+-- What a memory counts that counts one at each operation.
 use Rattle.std.proofs.Common.{◌≡◌, ℕ, ◌+◌, ◌-◌, ◌^◌, ◌≤◌, List, [], ◌∷◌, length, min, ap, arith}
 use Rattle.rate_plan.specs.Rates.{IsRate}
 use Rattle.never_heap.specs.declared.Command.{Command}
-use Rattle.heap_machine.specs.Operations.{HasActed}
+use Rattle.never_heap.specs.declared.Reply.{Reply}
 use Rattle.heap_system.specs.Alone.{command_bound}
 use Rattle.control_heap.specs.declared.counted.Counted.{Counted}
-use Rattle.control_heap.specs.Controls.{ControlOf, HasMade}
-use Rattle.heap_machine.specs.declared.op.Op.{Op}
-use Rattle.heap_machine.specs.Memories.{Acts}
+use Rattle.control_heap.specs.Calls.{HasAsked, MayAnswer}
+use Rattle.control_heap.specs.Controls.{ControlOf}
+use Rattle.control_heap.specs.Counting.{HasCounted, counted_acts}
 use Rattle.heap_system.specs.Courses.{Ran}
-use Rattle.heap_system.specs.Locals.{LocalState, begun, local_got, op_wanted}
+use Rattle.heap_system.specs.Locals.{LocalState, begun, local_got}
 
-module _ {M S : Type 0} (acts : Acts M S) (made : M → ℕ)
-    (one : (m : M) (s : S) (o : Op) (w : ℕ) (n : M) → acts m s o w n → made n ≤ made m + 1) where
-  pub counted : (s : S) (m : M) (l : LocalState) (ws : List ℕ) (n : M) (k : LocalState)
-      → Ran acts s m l ws n k → made n ≤ made m + length ws
-  counted s m l [] n k ran = let same : made m ≡ made n = ap made ran.0 in omega (arith, same)
-  counted s m l (w ∷ ws) n k ran =
-      let first = one m s (op_wanted l) w ran.0 ran.1 in
-      let rest = counted s ran.0 (local_got l w) ws n k ran.3 in
-      omega (arith, first, rest)
+abbrev pub count_end : ℕ
+count_end = 2 ^ 64 - 1
 
-abbrev pub counted_acts : Acts Counted (Unit {0})
-counted_acts m s op w n = HasActed m.words op w n.words × (n.made ≡ min (m.made + 1) (2 ^ 64 - 1))
+counted : (m : Counted) (l : LocalState) (ws : List ℕ) (n : Counted) (k : LocalState) → m.made ≤ count_end
+    → Ran counted_acts tt m l ws n k → n.made ≡ min (m.made + length ws) count_end
+counted m l [] n k low ran = let same : m.made ≡ n.made = ap (λ (x : Counted). x.made) ran.0 in omega (arith, same, low)
+counted m l (w ∷ ws) n k low ran =
+    let first : ran.0.made ≡ min (m.made + 1) count_end = ran.1.1 in
+    let rest : n.made ≡ min (ran.0.made + length ws) count_end = counted ran.0 (local_got l w) ws n k (omega (arith, first)) ran.3 in
+    omega (arith, low, first, rest)
 
-one_at_most : (m : Counted) (s : Unit {0}) (o : Op) (w : ℕ) (n : Counted) → counted_acts m s o w n
-    → n.made ≤ m.made + 1
-one_at_most m s o w n acted = let is = acted.1 in omega (arith, is)
+-- a command was done, and the counts before and after it were read
+pub has_counted : (h z : ControlOf Counted) (k : Command) (a : Reply) → MayAnswer k a → HasAsked counted_acts h k a z
+    → h.memory.made ≤ count_end → (n : ℕ) → n ≡ z.memory.made - h.memory.made → HasCounted h k n z
+has_counted h z k a fits is low n risen =
+    let all : z.memory.made ≡ min (h.memory.made + length is.made.words) count_end = counted h.memory (begun k h.thread) is.made.words z.memory z.thread low is.made.ran in
+    record {
+      reply = a;
+      fits = fits;
+      done = is;
+      risen = risen;
+      exact = omega (arith, all, risen, low);
+    }
 
 -- a command counts no more than its bound
-pub few_counted : (h z : ControlOf Counted) (k : Command) → HasMade counted_acts h k z → (rate : ℕ)
-    → IsRate h.config rate → z.memory.made ≤ h.memory.made + command_bound h.config rate k
-few_counted h z k is rate planned =
-    let all = counted counted_acts (λ (m : Counted). m.made) one_at_most tt h.memory (begun k h.thread) is.words z.memory z.thread is.ran in
-    let few = is.few rate planned in
-    omega (arith, all, few)
+pub few_counted : (h z : ControlOf Counted) (k : Command) (n : ℕ) → HasCounted h k n z → (rate : ℕ)
+    → IsRate h.config rate → n ≤ command_bound h.config rate k
+few_counted h z k n is rate planned =
+    let few = is.done.made.few rate planned in
+    let exact = is.exact in
+    omega (arith, exact, few)

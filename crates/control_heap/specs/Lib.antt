@@ -1,5 +1,6 @@
 pub mod Calls
 pub mod Controls
+pub mod Counting
 pub mod Gauges
 pub mod Growth
 pub mod Refusals

@@ -3,6 +3,7 @@
 ghost use Rattle.std.specs.Prelude.{◌≡◌, IfSome, ◌≤◌, ℕ};
 ghost use Rattle.rate_plan.specs.Rates.{IsRate};
 ghost use Rattle.heap_system.specs.Alone.{command_bound};
+ghost use Rattle.control_heap.specs.Counting.{IsCountOf};
 
 use crate::{ControlHeap, Store};
 use heap_machine::{Memory, Op, Words};
@@ -34,16 +35,15 @@ impl Counted {
 }
 
 impl Memory for Counted {
-    ghost use Rattle.std.specs.Prelude.{◌≡◌, ◌+◌, ◌-◌, ◌^◌, min};
-    ghost use Rattle.heap_machine.specs.Operations.{MayAct, HasActed};
+    ghost use Rattle.heap_machine.specs.Operations.{MayAct};
+    ghost use Rattle.control_heap.specs.Counting.{counted_acts};
 
     // One thread alone has them.
     type Shared = ();
 
     ghost may = { λ m none op. MayAct m.words op };
 
-    ghost acts = { λ m none op word after. HasActed m.words op word after.words
-        × (after.made ≡ min (m.made + 1) (2 ^ 64 - 1)) };
+    ghost acts = { counted_acts };
 
     #[inline(always)]
     fn act(&mut self, shared: &(), op: &Op) -> u64 {
@@ -61,10 +61,13 @@ impl Store for Counted {
     ghost keeps = { λ m op w after acted. acted.0 };
 }
 
-/// Does a command and returns how many operations it took, or `None` where it is refused. Proved is
-/// only that a number is within the command's bound.
+/// Does a command as `ask` does and returns how many operations it took, or `None` where it is
+/// refused. The heap is then unchanged. The number is exact as long as the count of the memory is
+/// below 2^64 - 1.
 pub fn operations_of(heap: &mut ControlHeap<Counted>, command: Command) -> Option<u64>
-    ensures { IfSome result (λ n. (rate : ℕ) → IsRate heap.old.config rate
+    ensures config { heap.new.config ≡ heap.old.config }
+    ensures counted { IsCountOf heap.old command heap.new result }
+    ensures few { IfSome result (λ n. (rate : ℕ) → IsRate heap.old.config rate
         → n ≤ command_bound heap.old.config rate command) }
 {
     let before = heap.memory().made();
