@@ -198,6 +198,9 @@ module _ {M : Type 0} where
         items = one.items;
         later = two.items;
         order = order;
+        middle = one.run;
+        middle_stands = one.stands;
+        middle_order = one.order;
         first = one.of;
         second = two.of;
         pace = pace;

@@ -36,10 +36,12 @@ pub record AreOf (ks : List Command) (ys : List Reply) (items : List HistoryItem
   pub replies : map (λ (e : Entry). e.reply) (entries_in items) ≡ ys
 
 -- A heap h that stood for run r did the commands `ks` and was then y, and did the commands `others`
--- and is then z: one history, which begins with that of r. The first commands made at most 2m units
--- for each start among them and 2m more, m being the blocks of the heap (`pace`). Where two cycles
--- began among them (`two_cycles`), or they made more than 4m units (`back`), and each cycle that
--- began after r began with at most L live blocks, none of the others was answered full.
+-- and is then z: one history, which begins with that of r. Heap y stands for a run of order
+-- `r.order ++ items` (`middle`), so each cycle start among `items` comes before the others. The
+-- first commands made at most 2m units for each start among `items`, and 2m more, m being the
+-- blocks of the heap (`pace`). Where two cycles began there (`two_cycles`), or the first commands
+-- made more than 4m units (`back`), and each cycle that began after r began with at most L live
+-- blocks, none of the others was answered full.
 pub record HasWayBack {M : Type 0} (h y z : ControlOf M) (ks : List Command) (ys : List Reply)
     (others : List Command) (told : List Reply) (r : Run) : Type 0 where
   pub run : Run
@@ -47,6 +49,9 @@ pub record HasWayBack {M : Type 0} (h y z : ControlOf M) (ks : List Command) (ys
   pub items : List HistoryItem
   pub later : List HistoryItem
   pub order : run.order ≡ (r.order ++ items) ++ later
+  pub middle : Run
+  pub middle_stands : Stands y middle
+  pub middle_order : middle.order ≡ r.order ++ items
   pub first : AreOf ks ys items
   pub second : AreOf others told later
   pub pace : units y ≤ units h + 2 * h.config.blocks * (starts_in items + 1)
