@@ -235,9 +235,10 @@ impl<M: Store> ControlHeap<M> {
         &self.config
     }
 
-    /// The memory.
+    /// The memory. It shows the words of the heap.
     pub fn memory(&self) -> &M
-        ensures { result.now ≡ self.now.memory }
+        ensures memory { result.now ≡ self.now.memory }
+        ensures words { M.shows result.now ≡ self.now.words }
     {
         &self.memory
     }

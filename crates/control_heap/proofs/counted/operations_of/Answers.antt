@@ -6,8 +6,8 @@ use Rattle.control_heap.proofs.counted.operations_of.Goals as goal
 pub returns-in-Ok-clause-counted : goal.returns-in-Ok-clause-counted
 returns-in-Ok-clause-counted c =
     let of = c.in-Ok.ensures in
-    let before = c.made-before.ensures ∙ ap (λ (m : Counted). m.made) c.memory.ensures in
-    let after = c.made.ensures ∙ ap (λ (m : Counted). m.made) c.memory-in-Ok.ensures in
+    let before = c.made-before.ensures ∙ ap (λ (m : Counted). m.made) c.memory.ensures.memory in
+    let after = c.made.ensures ∙ ap (λ (m : Counted). m.made) c.memory-in-Ok.ensures.memory in
     has_counted c.args.heap.now c.ask.new.self c.args.command c.in-Ok._reply of.fits (record {
       bounds = of.can.0;
       left = of.can.1;
