@@ -140,13 +140,17 @@ outcome_of (Err r) = Err (fault_of r)
 
 abbrev pub fault_text : Fault → List ℕ
 fault_text (faults.Full c) =
-    codes "full: more was live than the limit at the start of a cycle; let go of objects, and two cycles later there is room, or open a heap with a higher limit"
+    codes "full: more blocks were live than the limit; let go of objects, or raise the limit"
 fault_text faults.Null = codes "null: the register is nil; put an object into it first"
 fault_text faults.Kind =
     codes "kind: the register holds a number; name one that refers to an object"
 fault_text faults.Range =
-    codes "range: the object has no such field; len tells how many it has"
+    codes "range: the object has no such field; len returns how many it has"
 fault_text faults.OutOfBounds =
-    codes "out of bounds: a register, number, index, length or count of units is out of its range on this heap, or the command is none of its version; correct the call"
+    codes "out of bounds: this heap allows no such operand or command; correct the call"
 fault_text faults.NoLifeLeft =
-    codes "no life left: the heap has no room for one command more like this; open a new heap, and make there what is still needed"
+    codes "no life left: too little is left for this command; open a new heap"
+
+-- of a refusal: that of its fault
+abbrev pub refused_text : Refused → List ℕ
+refused_text r = fault_text (fault_of r)

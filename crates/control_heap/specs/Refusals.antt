@@ -1,5 +1,5 @@
 -- Why a heap could not be opened, and why a command is refused.
-use Rattle.std.specs.Prelude.{◌≡◌, ◌≢◌}
+use Rattle.std.specs.Prelude.{ℕ, ◌≡◌, ◌≢◌, List, codes}
 use Rattle.block_store.specs.declared.Config.{Config}
 use Rattle.block_store.specs.Configs.{IsInBounds}
 use Rattle.rate_plan.specs.Rates.{IsRefusal}
@@ -25,3 +25,14 @@ IsOpenFault c NoMemory = CanOpen c
 abbrev pub IsRefused : {M : Type 0} → ControlOf M → Command → Refused → Type 0
 IsRefused h k refusals.OutOfBounds = ¬ IsCommandInBounds h.config k
 IsRefused h k refusals.NoLifeLeft = IsCommandInBounds h.config k × ¬ HasLeft h k
+
+-- the printed text of a fault
+abbrev pub open_fault_text : OpenFault → List ℕ
+open_fault_text OutOfBounds = codes "a number of the configuration is out of range; correct it"
+open_fault_text NotOneThread =
+    codes "the configuration has more than one thread; set `threads` to 1"
+open_fault_text LiveTooSmall =
+    codes "the registers and the shared array exceed the live limit; raise `live`"
+open_fault_text NoRate =
+    codes "the live limit leaves too few blocks; raise `blocks`, or lower `live`"
+open_fault_text NoMemory = codes "memory ran out; free memory, or open a smaller heap"

@@ -37,7 +37,7 @@ const MOST_UNITS: u64 = 1 << 45;
 
 const MOST_OBJECTS: u64 = (1 << 43) - 1;
 
-/// Why a heap could not be opened.
+/// Why a heap could not be opened. Its printed text also says what to do.
 #[derive(Clone, Copy, Debug, PartialEq, Eq)]
 pub enum OpenFault {
     /// A number of the configuration is out of range. This is checked first.
@@ -52,7 +52,7 @@ pub enum OpenFault {
     NoMemory,
 }
 
-/// Why a command is refused. The heap is then unchanged.
+/// Why a command is refused. The heap is then unchanged. Its printed text also says what to do.
 #[derive(Clone, Copy, Debug, PartialEq, Eq)]
 pub enum Refused {
     /// A register, number, index, length or count of units is out of range on this heap, or the

@@ -1,9 +1,10 @@
-//! Why a call has no result.
+//! Why a call has no result, and the printed texts of the causes.
 
 ghost use Rattle.std.specs.Prelude.{◌≡◌};
-ghost use Rattle.control_heap.specs.Calls.{fault_of, fault_text};
+ghost use Rattle.control_heap.specs.Calls.{fault_of, fault_text, refused_text};
+ghost use Rattle.control_heap.specs.Refusals.{open_fault_text};
 
-use crate::Refused;
+use crate::{OpenFault, Refused};
 use std::error::Error;
 use std::fmt;
 
@@ -33,14 +34,14 @@ impl Fault {
     {
         match self {
             Fault::Full(_) =>
-                "full: more was live than the limit at the start of a cycle; let go of objects, and two cycles later there is room, or open a heap with a higher limit",
+                "full: more blocks were live than the limit; let go of objects, or raise the limit",
             Fault::Null => "null: the register is nil; put an object into it first",
             Fault::Kind => "kind: the register holds a number; name one that refers to an object",
-            Fault::Range => "range: the object has no such field; len tells how many it has",
+            Fault::Range => "range: the object has no such field; len returns how many it has",
             Fault::OutOfBounds =>
-                "out of bounds: a register, number, index, length or count of units is out of its range on this heap, or the command is none of its version; correct the call",
+                "out of bounds: this heap allows no such operand or command; correct the call",
             Fault::NoLifeLeft =>
-                "no life left: the heap has no room for one command more like this; open a new heap, and make there what is still needed",
+                "no life left: too little is left for this command; open a new heap",
         }
     }
 }
@@ -71,3 +72,56 @@ impl From<Refused> for Fault {
         }
     }
 }
+
+impl Refused {
+    /// The printed text: that of the `Fault` for the same cause.
+    pub fn text(self) -> &'static str
+        ensures { result.now ≡ refused_text self }
+    {
+        Fault::from(self).text()
+    }
+}
+
+impl fmt::Display for Refused {
+    ghost use Rattle.std.specs.Prelude.{Some};
+    ghost use Rattle.control_heap.specs.Calls.{refused_text};
+
+    ghost output = { λ refused. Some (refused_text refused) };
+
+    fn fmt<W: fmt::Write>(&self, f: &mut fmt::Formatter<W>) -> fmt::Result {
+        f.write_str(self.text())
+    }
+}
+
+impl Error for Refused {}
+
+impl OpenFault {
+    /// The printed text: what is wrong, and what to do.
+    pub fn text(self) -> &'static str
+        ensures { result.now ≡ open_fault_text self }
+    {
+        match self {
+            OpenFault::OutOfBounds => "a number of the configuration is out of range; correct it",
+            OpenFault::NotOneThread =>
+                "the configuration has more than one thread; set `threads` to 1",
+            OpenFault::LiveTooSmall =>
+                "the registers and the shared array exceed the live limit; raise `live`",
+            OpenFault::NoRate =>
+                "the live limit leaves too few blocks; raise `blocks`, or lower `live`",
+            OpenFault::NoMemory => "memory ran out; free memory, or open a smaller heap",
+        }
+    }
+}
+
+impl fmt::Display for OpenFault {
+    ghost use Rattle.std.specs.Prelude.{Some};
+    ghost use Rattle.control_heap.specs.Refusals.{open_fault_text};
+
+    ghost output = { λ fault. Some (open_fault_text fault) };
+
+    fn fmt<W: fmt::Write>(&self, f: &mut fmt::Formatter<W>) -> fmt::Result {
+        f.write_str(self.text())
+    }
+}
+
+impl Error for OpenFault {}

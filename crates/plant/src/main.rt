@@ -31,7 +31,7 @@ const NUMBER: u8 = 2;
 enum Failure {
     #[error("line {0} is not a whole number below 2^32")]
     BadLine(usize),
-    #[error("the heap does not open: {0:?}")]
+    #[error("the heap does not open: {0}")]
     NoHeap(#[from] OpenFault),
     #[error("{0}")]
     Heap(#[from] Fault),
