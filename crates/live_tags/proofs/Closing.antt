@@ -1,5 +1,5 @@
 -- A closed table has a linearization.
-use Rattle.std.proofs.Common.{◌≡◌, ℕ, zero, suc, ◌+◌, ◌<◌, ◌≤◌, inl, inr, refl, arith, subst, sym, ap, ◌∙◌, List, [], ◌++◌, length, map, get_or}
+use Rattle.std.proofs.Common.{◌≡◌, ℕ, zero, suc, ◌+◌, ◌<◌, ◌≤◌, inl, inr, refl, arith, subst, sym, ap, ◌∙◌, List, [], ◌∷◌, ◌++◌, length, map, get_or}
 use Rattle.std.specs.Prelude.{flat_map, slice_index_or}
 use Rattle.std.proofs.lemmas.Bool.{cases_lt}
 use Rattle.std.proofs.lemmas.List.{append_assoc, length-map, get_or_past}
@@ -15,14 +15,14 @@ use Rattle.never_heap.specs.Runs.{IsRun}
 use Rattle.operations.specs.Linearizations.{Call, IsLinearization, calls_of, replies_in, traces_of}
 use Rattle.operations.proofs.PartLogs.{logged}
 use Rattle.shared_heap.specs.Workers as heaps
-use Rattle.shared_heap.specs.Workers.{HeapState, WorkerState, HaveOneHistory, HasPart}
+use Rattle.shared_heap.specs.Workers.{HeapState, WorkerState, HaveOneHistory, HasPart, IsOfMachine}
 use Rattle.shared_heap.proofs.Crews.{get_or_map}
 use Rattle.shared_heap.proofs.Orders.{nobody}
 use Rattle.tag_table.specs.declared.operation.Operation.{Operation}
 use Rattle.tag_table.specs.Tables.{Tag, rows_of, command_at, decides, ends, answer, table_after, empty_table, answers_of, tag_config, AreInTable}
 use Rattle.tag_table.proofs.TableApplication.{tables_are_kept}
 use Rattle.live_tags.specs.Decoding.{operations_of}
-use Rattle.live_tags.specs.Live.{AreEachOnce, HasDone, HasScript, HasSeenAll, HaveOneTable, IsTagHeap, IsTagWorker, TagWorkerState, commands_of, replies, tag_worker, thread_of}
+use Rattle.live_tags.specs.Live.{AreEachOnce, HasDone, HasScript, HasSeenAll, HaveOneTable, IsTagHeap, IsTagWorker, TagWorkerState, commands_of, heap_worker, replies, tag_worker, thread_of}
 use Rattle.live_tags.specs.Behind.{StandsBehind}
 use Rattle.live_tags.proofs.Cuts.{stands}
 use Rattle.never_heap.proofs.HistoryGrowth.{part_append}
@@ -34,6 +34,11 @@ parts_count t (suc n) h = ap suc (parts_count (t + 1) n h)
 
 abbrev commands_in : List Entry → List Command
 commands_in es = map (λ (e : Entry). e.command) es
+
+-- the workers of the heap, again
+heap_workers : (ws : List WorkerState) → map heap_worker (map tag_worker ws) ≡ ws
+heap_workers [] = refl
+heap_workers (w ∷ ws) = ap (λ (us : List WorkerState). w ∷ us) (heap_workers ws)
 
 -- the operations of a part
 abbrev script_of : List Entry → List Operation
@@ -150,6 +155,10 @@ module _ (c : Config) (ws : List WorkerState) (cycles : ℕ) (tags : IsTagHeap c
               (script_had t low (get_or ws j.0 nobody) (j.2 nobody)),
         ));
     starts = one.starts;
+    least_units = one.least_units;
+    most_units = one.most_units;
+    machine = subst (λ (us : List WorkerState). IsOfMachine c us one.order) (sym (heap_workers ws))
+        one.machine;
   }
 
 -- the workers of the table are those of the heap

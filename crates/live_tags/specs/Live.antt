@@ -1,16 +1,16 @@
 -- A table of tags that running threads share, and its workers, as contracts see them.
-use Rattle.std.specs.Prelude.{ℕ, ◌<◌, ◌≤◌, ◌≡◌, ◌++◌, ◌*◌, List, [], ◌∷◌, length, map, flat_map, slice_index_or}
+use Rattle.std.specs.Prelude.{ℕ, ◌<◌, ◌≤◌, ◌≡◌, ◌++◌, ◌-◌, ◌*◌, List, [], ◌∷◌, length, map, flat_map, slice_index_or}
 use Rattle.block_store.specs.declared.Config.{Config}
 use Rattle.rate_plan.specs.Rates.{IsRate}
 use Rattle.never_heap.specs.declared.Command.{Command}
 use Rattle.never_heap.specs.declared.Entry.{Entry}
 use Rattle.never_heap.specs.declared.Reply.{Reply}
-use Rattle.never_heap.specs.Histories.{HistoryItem, part, starts_in}
+use Rattle.never_heap.specs.Histories.{HistoryItem, part, starts_in, work_in}
 use Rattle.never_heap.specs.Licensed.{NoFulls}
 use Rattle.never_heap.specs.Runs.{IsRun}
 use Rattle.operations.specs.Linearizations.{Call, calls_of, IsLinearization, traces_of}
 use Rattle.shared_heap.specs.Shared.{IsStartOf}
-use Rattle.shared_heap.specs.Workers.{AllStart, CanOpen, HeapState, IsSame, WorkerState}
+use Rattle.shared_heap.specs.Workers.{AllStart, CanOpen, HeapState, IsOfMachine, IsSame, WorkerState}
 use Rattle.tag_table.specs.declared.operation.Operation.{Operation}
 use Rattle.tag_table.specs.Tables.{Tag, rows_of, command_at, decides, ends, answer, table_after, empty_table, answers_of, tag_config, AreInTable, IsOperationInRange}
 use Rattle.live_tags.specs.declared.table.Refused.{Refused}
@@ -26,6 +26,10 @@ pub record TagWorkerState : Type 0 where
   pub worker : WorkerState
   pub done : List Operation
   pub answers : List Tag
+
+-- its worker of the heap
+abbrev pub heap_worker : TagWorkerState → WorkerState
+heap_worker w = w.worker
 
 -- the thread of a worker
 abbrev pub thread_of : TagWorkerState → ℕ
@@ -163,7 +167,8 @@ pub record HasScript (scripts : List (List Operation)) (history : List HistoryIt
 -- There is a history of the job of some scripts, with a linearization and with no allocation that
 -- was answered full. Each worker did the operations of one script, in its order. Its answers are
 -- those of a plain table in the order of the linearization. The number of cycles is that of the
--- history.
+-- history, whose units of work are within the bounds of so many cycles, and which is that of a run
+-- of the machine.
 pub record HaveOneTable (c : Config) (ws : List TagWorkerState) (cycles : ℕ) : Type 0 where
   pub scripts : List (List Operation)
   pub history : List HistoryItem
@@ -178,3 +183,6 @@ pub record HaveOneTable (c : Config) (ws : List TagWorkerState) (cycles : ℕ) :
   pub each : (t : ℕ) → t < c.threads → (j : ℕ) × (j < length ws)
       × ((d : TagWorkerState) → HasScript scripts history order t (slice_index_or ws j d))
   pub starts : cycles ≡ starts_in history
+  pub least_units : (cycles - 1) * c.blocks ≤ work_in history
+  pub most_units : work_in history ≤ 2 * c.blocks * cycles
+  pub machine : IsOfMachine c (map heap_worker ws) history

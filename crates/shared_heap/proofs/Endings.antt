@@ -1,5 +1,5 @@
 -- A seat that has all threads, each of them done, knows that there is one history.
-use Rattle.std.proofs.Common.{◌≡◌, ℕ, zero, suc, ◌<◌, true, arith, subst, sym, ap, ◌∙◌, List, [], ◌∷◌, length, get_or, map}
+use Rattle.std.proofs.Common.{◌≡◌, ℕ, zero, suc, ◌-◌, ◌*◌, ◌<◌, ◌≤◌, true, refl, arith, subst, sym, ap, ◌∙◌, List, [], ◌∷◌, length, get_or, map}
 use mathlib.Core.Option.{some, some-injective, some-ne-none}
 use lib.ListN.{get_elem?}
 use Rattle.atomic_table.specs.Table as table
@@ -7,21 +7,23 @@ use Rattle.block_store.specs.declared.Config.{Config}
 use Rattle.block_store.specs.Phases.{cycle_of}
 use Rattle.never_heap.specs.declared.Command.{Command}
 use Rattle.never_heap.specs.declared.Entry.{Entry}
-use Rattle.never_heap.specs.Histories.{part}
+use Rattle.never_heap.specs.Histories.{part, starts_in, work_in}
 use Rattle.heap_system.specs.Locals.{LocalState, is_done}
-use Rattle.heap_system.specs.Machines.{Run, local_in}
-use Rattle.heap_system.specs.Systems.{Whole}
+use Rattle.heap_system.specs.Costs.{units_so_far}
+use Rattle.heap_system.specs.Machines.{Run, IsAfterTurns, local_in}
+use Rattle.heap_system.specs.Systems.{AllDone, Whole}
 use Rattle.heap_system.proofs.Kept.{Kept}
 use Rattle.heap_system.proofs.LawsOf.{laws_of}
-use Rattle.heap_system.proofs.RunBounds.{licensed, never_full}
+use Rattle.heap_system.proofs.RunBounds.{all_done, least, licensed, most, never_full}
 use Rattle.heap_system.proofs.TalliesOf.{tallies_of}
 use Rattle.heap_system.proofs.TurnFacts.{right_work}
 use Rattle.shared_heap.specs.declared.rules.Held.{Held}
 use Rattle.shared_heap.specs.declared.rules.View.{View}
 use Rattle.shared_heap.specs.Shared.{Fits, AllFit, SharedKept, IsStartOf, held}
-use Rattle.shared_heap.specs.Workers.{HeapState, WorkerState, AreInOrder, AreOfWorkers, IsOfWorker, KnowsAll, HasPart, HaveOneHistory}
+use Rattle.shared_heap.specs.Workers.{HeapState, WorkerState, AreInOrder, AreOfWorkers, IsOfWorker, KnowsAll, HasPart, HaveOneHistory, IsOfMachine}
 use Rattle.shared_heap.proofs.Crews.{of_at, of_long}
 use Rattle.shared_heap.proofs.Grown.{here, kept_of}
+use Rattle.shared_heap.proofs.Orders.{nobody}
 use Rattle.shared_heap.proofs.Rests.{at_rest, said_when_done, told_at_rest}
 
 pub fit_at : (c : Config) (r : Run) (hs : List Held) (i : ℕ) (d : Held) → AllFit c r hs → i < length hs → Fits c r (get_or hs i d)
@@ -85,17 +87,54 @@ module _ (k : Whole) (s : table.State Command View) (kept : SharedKept k s) (id 
       seen = subst (λ x. IsStartOf x r.order) (sym its.1) fit.2;
     }
 
+    pub its_thread : w.thread ≡ local_in c r t
+    its_thread = its.0 ∙ is
+
+  abbrev after : IsAfterTurns c r
+  after = kept.by.after
+
+  finished : AllDone c r.state
+  finished = λ t tl. over t tl nobody
+
+  machine : IsOfMachine c ws r.order
+  machine = record {
+    run = r;
+    by = kept.by;
+    ordered = refl;
+    done = finished;
+    threads = λ t tl. (t, omega (arith, tl, count), λ d. its_thread t tl d);
+  }
+
+  -- the units of the turns are the works of the order
+  units : units_so_far c r ≡ work_in r.order
+  units = all_done c after.traces (laws_of c) (tallies_of c) after.job after.turns r after.by_turns after.by_turns.opening.rate after.by_turns.opening.planned finished
+
+  few : (cycles : ℕ) → cycles ≡ starts_in r.order → (cycles - 1) * c.blocks ≤ work_in r.order
+  few cycles started =
+      subst (λ n. (n - 1) * c.blocks ≤ work_in r.order) (sym started)
+      (subst (λ u. (starts_in r.order - 1) * c.blocks ≤ u) units (least c after.traces (laws_of c) (tallies_of c) after.job after.turns r after.by_turns after.by_turns.opening.rate after.by_turns.opening.planned))
+
+  many : (cycles : ℕ) → cycles ≡ starts_in r.order → work_in r.order ≤ 2 * c.blocks * cycles
+  many cycles started =
+      subst (λ n. work_in r.order ≤ 2 * c.blocks * n) (sym started)
+      (subst (λ u. u ≤ 2 * c.blocks * starts_in r.order) units (most c after.traces (laws_of c) (tallies_of c) after.job after.turns r after.by_turns after.by_turns.opening.rate after.by_turns.opening.planned))
+
   pub one_history : (cycles : ℕ) → cycles ≡ cycle_of (get_or s.words 0 0) → HaveOneHistory h.config ws cycles
-  one_history cycles read = subst (λ x. HaveOneHistory x ws cycles) (sym named) (record {
-    order = r.order;
-    legal = all.names.ordered.legal;
-    licensed = licensed c kept.by.after.traces (laws_of c) (tallies_of c) kept.by.after.job kept.by.after.turns r kept.by.after.by_turns kept.by.after.by_turns.opening.rate kept.by.after.by_turns.opening.planned;
-    never = never_full c kept.by.after.traces (laws_of c) (tallies_of c) kept.by.after.job kept.by.after.turns r kept.by.after.by_turns kept.by.after.by_turns.opening.rate kept.by.after.by_turns.opening.planned;
-    right = λ rate planned. right_work c kept.by.after.traces r all rate planned;
-    parts = λ t tl. (t, omega (arith, tl, count), λ d. its_part t tl d);
-    others = all.foreign;
-    starts = read ∙ ap (λ ws. cycle_of (get_or ws 0 0)) kept.words ∙ sym all.names.ordered.started;
-  })
+  one_history cycles read =
+      let started : cycles ≡ starts_in r.order = read ∙ ap (λ ws. cycle_of (get_or ws 0 0)) kept.words ∙ sym all.names.ordered.started in
+      subst (λ x. HaveOneHistory x ws cycles) (sym named) (record {
+        order = r.order;
+        legal = all.names.ordered.legal;
+        licensed = licensed c after.traces (laws_of c) (tallies_of c) after.job after.turns r after.by_turns after.by_turns.opening.rate after.by_turns.opening.planned;
+        never = never_full c after.traces (laws_of c) (tallies_of c) after.job after.turns r after.by_turns after.by_turns.opening.rate after.by_turns.opening.planned;
+        right = λ rate planned. right_work c after.traces r all rate planned;
+        parts = λ t tl. (t, omega (arith, tl, count), λ d. its_part t tl d);
+        others = all.foreign;
+        starts = started;
+        least_units = few cycles started;
+        most_units = many cycles started;
+        machine = machine;
+      })
 
 -- the word that is read at place 0 is the phase word
 first_word : (ws : List ℕ) (w : ℕ) → get_elem? ws 0 ≡ some w → get_or ws 0 0 ≡ w

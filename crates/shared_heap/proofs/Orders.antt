@@ -4,8 +4,9 @@ use Rattle.std.proofs.lemmas.Bool.{cases_eq}
 use Rattle.std.specs.List.{SwappedAt}
 use Rattle.block_store.specs.declared.Config.{Config}
 use Rattle.block_store.specs.declared.Width.TheVariants.{Four}
+use Rattle.never_heap.specs.Histories.{HistoryItem}
 use Rattle.heap_system.specs.Machines.{no_local}
-use Rattle.shared_heap.specs.Workers.{HeapState, WorkerState, AreInOrder, AreEachOnce, HasWorker, AreAmong, HasPart, HaveOneHistory}
+use Rattle.shared_heap.specs.Workers.{HeapState, WorkerState, AreInOrder, AreEachOnce, HasWorker, AreAmong, HasPart, HaveOneHistory, IsOfMachine}
 
 abbrev pub nobody : WorkerState
 nobody = record {
@@ -77,7 +78,19 @@ ordered_each b n hs ys same crew count order among = record {
   each = λ t d low. (let j = among t low in (ap (λ (h : WorkerState). h.heap) (j.2 d) ∙ crew.own j.0 d j.1, order t d (omega arith)));
 }
 
--- a fact of all workers of the second list holds of those of the first
+-- facts of all workers of the second list hold of those of the first
+ordered_machine : (c : Config) (hs ys : List WorkerState) (order : List HistoryItem) → AreAmong ys hs → IsOfMachine c ys order → IsOfMachine c hs order
+ordered_machine c hs ys order among is = record {
+  run = is.run;
+  by = is.by;
+  ordered = is.ordered;
+  done = is.done;
+  threads = λ t tl.
+      (let i = is.threads t tl in
+      let j = among i.0 i.1 in
+      (j.0, j.1, λ d. ap (λ (w : WorkerState). w.thread) (sym (j.2 d)) ∙ i.2 d));
+}
+
 pub ordered_history : (c : Config) (hs ys : List WorkerState) (cycles : ℕ) → AreAmong ys hs → HaveOneHistory c ys cycles → HaveOneHistory c hs cycles
 ordered_history c hs ys cycles among is = record {
   order = is.order;
@@ -91,6 +104,9 @@ ordered_history c hs ys cycles among is = record {
       (j.0, j.1, λ d. subst (HasPart is.order t) (j.2 d) (i.2 d)));
   others = is.others;
   starts = is.starts;
+  least_units = is.least_units;
+  most_units = is.most_units;
+  machine = ordered_machine c hs ys is.order among is.machine;
 }
 
 -- workers in thread order are all workers, each once

@@ -1,5 +1,5 @@
 -- A heap that several threads share, and its workers, as contracts see them.
-use Rattle.std.specs.Prelude.{ℕ, ◌+◌, ◌<◌, ◌≤◌, ◌≡◌, ◌++◌, true, List, [], ◌∷◌, length, map, slice_index_or}
+use Rattle.std.specs.Prelude.{ℕ, ◌+◌, ◌-◌, ◌*◌, ◌<◌, ◌≤◌, ◌≡◌, ◌++◌, true, List, [], ◌∷◌, length, map, slice_index_or}
 use Rattle.atomic_table.specs.Table as table
 use Rattle.atomic_table.specs.Seated.{TableId}
 use Rattle.block_store.specs.declared.Config.{Config}
@@ -10,12 +10,14 @@ use Rattle.never_heap.specs.declared.Command.{Command}
 use Rattle.never_heap.specs.declared.Command.TheVariants as commands
 use Rattle.never_heap.specs.declared.Entry.{Entry}
 use Rattle.never_heap.specs.declared.Reply.{Reply}
-use Rattle.never_heap.specs.Histories.{HistoryItem, Started, Legal, part, starts_in}
+use Rattle.never_heap.specs.Histories.{HistoryItem, Started, Legal, part, starts_in, work_in}
 use Rattle.never_heap.specs.Licensed.{Licensed, NoFulls, StartsSmall}
 use Rattle.never_heap.specs.RightWork.{RightWork, units_owed}
 use Rattle.heap_system.specs.Lives.{sum_after, objects_of, most_commands, most_objects, most_units}
 use Rattle.heap_system.specs.Locals.{LocalState, is_done, works}
-use Rattle.control_heap.specs.Controls.{with_history}
+use Rattle.heap_system.specs.Machines.{Run, local_in}
+use Rattle.heap_system.specs.Systems.{AllDone}
+use Rattle.control_heap.specs.Controls.{IsByEvents, with_history}
 use Rattle.shared_heap.specs.declared.rules.Held.{Held}
 use Rattle.shared_heap.specs.declared.rules.Moment.{Moment}
 use Rattle.shared_heap.specs.declared.rules.View.{View}
@@ -149,11 +151,23 @@ pub record HasPart (order : List HistoryItem) (t : ℕ) (w : WorkerState) : Type
   pub asked : map (λ (e : Entry). e.command) (part t order) ≡ asked w
   pub seen : IsStartOf w.seen order
 
+-- The history is the order of a run of the machine, each turn of which was an event. At its end
+-- each thread has finished its commands, and is the thread of its worker.
+pub record IsOfMachine (c : Config) (ws : List WorkerState) (order : List HistoryItem) : Type 0
+  where
+    pub run : Run
+    pub by : IsByEvents c run
+    pub ordered : order ≡ run.order
+    pub done : AllDone c run.state
+    pub threads : (t : ℕ) → t < c.threads → (j : ℕ) × (j < length ws)
+        × ((d : WorkerState) → (slice_index_or ws j d).thread ≡ local_in c run t)
+
 -- There is one history of the heap that never frees. An allocation is answered full only if more
 -- was live than the limit at the start of the cycle that it names; none is, if every cycle began
 -- within the limit. Each entry has the work that its command owes. The entries of each thread are,
 -- in order, those of its worker, and there are no other entries. The number of cycles is that of
--- its starts.
+-- its starts. On m blocks, all entries of C cycles together have at least (C - 1) m units of work
+-- and at most 2 m C. The history is that of a run of the machine.
 pub record HaveOneHistory (c : Config) (ws : List WorkerState) (cycles : ℕ) : Type 0 where
   pub order : List HistoryItem
   pub legal : Legal c order
@@ -164,6 +178,9 @@ pub record HaveOneHistory (c : Config) (ws : List WorkerState) (cycles : ℕ) : 
       × ((d : WorkerState) → HasPart order t (slice_index_or ws j d))
   pub others : (u : ℕ) → c.threads ≤ u → part u order ≡ []
   pub starts : cycles ≡ starts_in order
+  pub least_units : (cycles - 1) * c.blocks ≤ work_in order
+  pub most_units : work_in order ≤ 2 * c.blocks * cycles
+  pub machine : IsOfMachine c ws order
 
 -- ---- within a worker
 
