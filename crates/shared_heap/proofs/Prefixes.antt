@@ -46,6 +46,10 @@ one_at_most : (t : ℕ) (k : Command) (work : ℕ) (a : Option Reply) → length
 one_at_most t k work None = omega arith
 one_at_most t k work (Some r) = omega arith
 
+hand_of : (t : ℕ) (k : Command) (work : ℕ) (a : Option Reply) → map (λ (e : Entry). e.command) (entries_of t k work a) ≡ take (length (entries_of t k work a)) (k ∷ [])
+hand_of t k work None = refl
+hand_of t k work (Some r) = refl
+
 module _ (k : Whole) (s : table.State Command View) (kept : SharedKept k s) where
   abbrev c : Config
   c = k.config
@@ -68,6 +72,7 @@ module _ (k : Whole) (s : table.State Command View) (kept : SharedKept k s) wher
         told = told;
         rest = λ done. ap (λ p. entries_of l.thread (command_of l) l.spent (waiting (replay c r.order) p)) (rest_is l.part (at_rest l done));
         asked = subst (λ (x : LocalState). map (λ (e : Entry). e.command) x.log ≡ take (length x.log) x.trace) (sym is) own.said;
+        hand = hand_of l.thread (command_of l) l.spent (waiting (replay c r.order) l.part);
       }
 
   parts_of : (hs : List Held) → AllFit c r hs → AllHaveParts r.order hs
@@ -81,7 +86,13 @@ module _ (k : Whole) (s : table.State Command View) (kept : SharedKept k s) wher
     licensed = licensed c kept.by.after.traces (laws_of c) (tallies_of c) kept.by.after.job kept.by.after.turns r kept.by.after.by_turns kept.by.after.by_turns.opening.rate kept.by.after.by_turns.opening.planned;
     right = λ rate planned. right_work c kept.by.after.traces r all rate planned;
     parts = λ id v at. (parts_of v.threads (kept.each id v at).0, seen_fits c r v.threads (kept.each id v at).0, (kept.each id v at).1);
+    once = kept.once;
+    others = all.foreign;
   }
+
+  pub fits_order : fits_one.order ≡ r.order
+  unfolding fits_one
+  fits_order = refl
 
   -- each thread is in some view
   in_view : (t : ℕ) → t < c.threads → (hs : List Held) → 0 < threads_of t hs → AllFit c r hs → AllDone hs → is_done (local_in c r t) ≡ true

@@ -21,11 +21,12 @@ ghost use Rattle.shared_heap.specs.Prefixes.{FitsOneHistory, AllAreDone, EndsInT
 
 /// Wherever the rule of the table holds, and so between any two steps of any threads, the replies
 /// of all workers so far fit one history. It is legal and licensed, and each entry has the work
-/// that its command owes. The part of each thread is the entries of its finished commands, and at
-/// most one entry more while it executes a command.
+/// that its command owes. The part of each thread is the entries of its finished commands, and
+/// while it executes a command at most one entry more, of that command; there are no other entries.
+/// The history is the order of the run of the rule.
 pub fn what_was_answered_fits_one_history()
-    ensures { (k : Whole) (s : table.State Command View) → SharedKept k s
-        → FitsOneHistory k.config s }
+    ensures { (k : Whole) (s : table.State Command View) → (kept : SharedKept k s)
+        → (fits : FitsOneHistory k.config s) × (fits.order ≡ kept.run.order) }
 {}
 
 /// Suppose that the rule of the table holds and that every thread has finished its commands. Then
