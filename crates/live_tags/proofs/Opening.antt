@@ -68,12 +68,17 @@ pub all_fresh : (c : Config) (ws : List WorkerState) → heaps.AreFresh c ws
 all_fresh c ws fresh = λ i d low.
     (let il : i < length ws = omega (arith, low, length-map ws tag_worker) in
     let same = get_or_map tag_worker ws i d d.worker il in
-    let none = (fresh i d.worker il).asked in (
-      ap (λ (w : TagWorkerState). w.done) same ∙ ap operations_of none,
-      ap (λ (w : TagWorkerState). w.answers) same
+    let its = fresh i d.worker il in
+    let own : heaps.IsFresh (get_or ws i d.worker).thread.config (get_or ws i d.worker) =
+    subst (λ (k : Config). heaps.IsFresh k (get_or ws i d.worker)) (sym its.config) its in
+    record {
+      done = ap (λ (w : TagWorkerState). w.done) same ∙ ap operations_of its.asked;
+      answers = ap (λ (w : TagWorkerState). w.answers) same
           ∙ ap (λ (ks : List Command). answers_of (operations_of ks)
-          (replies (get_or ws i d.worker).thread.log)) none,
-    ))
+          (replies (get_or ws i d.worker).thread.log)) its.asked;
+      worker = subst (λ (w : TagWorkerState). heaps.IsFresh w.worker.thread.config w.worker)
+          (sym same) own;
+    })
 
 -- one worker more
 pub all_more : (ws : List WorkerState) (w : WorkerState) → AllByRecursion IsTagWorker ws

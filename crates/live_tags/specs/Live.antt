@@ -10,6 +10,7 @@ use Rattle.never_heap.specs.Licensed.{NoFulls}
 use Rattle.never_heap.specs.Runs.{IsRun}
 use Rattle.operations.specs.Linearizations.{Call, calls_of, IsLinearization, traces_of}
 use Rattle.shared_heap.specs.Shared.{IsStartOf}
+use Rattle.shared_heap.specs.Workers as heaps
 use Rattle.shared_heap.specs.Workers.{AllStart, CanOpen, HeapState, IsOfMachine, IsSame, WorkerState}
 use Rattle.tag_table.specs.declared.operation.Operation.{Operation}
 use Rattle.tag_table.specs.Tables.{Tag, rows_of, command_at, decides, ends, answer, table_after, empty_table, answers_of, tag_config, AreInTable, IsOperationInRange}
@@ -100,10 +101,15 @@ pub record AreEachOnce (t : HeapState) (ws : List TagWorkerState) : Type 0 where
   pub own : (i : ℕ) (d : TagWorkerState) → i < length ws → IsOf t (slice_index_or ws i d)
   pub each : (u : ℕ) → u < t.config.threads → HasWorker u ws
 
--- each has done no operation
+-- It has done no operation, and its worker of the heap has executed no command, has seen the start
+-- of cycle 1, and has learned no note.
+pub record IsFresh (w : TagWorkerState) : Type 0 where
+  pub done : w.done ≡ []
+  pub answers : w.answers ≡ []
+  pub worker : heaps.IsFresh w.worker.thread.config w.worker
+
 abbrev pub AreFresh : List TagWorkerState → Type 0
-AreFresh ws = (i : ℕ) (d : TagWorkerState) → i < length ws
-    → ((slice_index_or ws i d).done ≡ []) × ((slice_index_or ws i d).answers ≡ [])
+AreFresh ws = (i : ℕ) (d : TagWorkerState) → i < length ws → IsFresh (slice_index_or ws i d)
 
 -- the worker's lifetime allows all commands of an operation
 abbrev pub HasLife : TagWorkerState → Operation → Type 0

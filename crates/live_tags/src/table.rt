@@ -162,6 +162,7 @@ fn opened(alloc: Global, tags: u32, threads: u32) -> Option<(LiveTags, Vec<TagWo
     ensures can { CanOpen (opened_config threads tags) }
     ensures config { IfSome result (λ r. r.0.config ≡ opened_config threads tags) }
     ensures workers { IfSome result (λ r. AreInOrder r.0 r.1.items) }
+    ensures each { IfSome result (λ r. AreEachOnce r.0 r.1.items) }
     ensures fresh { IfSome result (λ r. AreFresh r.1.items) }
 {
     let (heap, workers) = opened_heap(alloc, tags, threads)?;
@@ -191,6 +192,7 @@ impl LiveTags {
         ensures can { OnOk result (IsTableInRange tags threads) }
         ensures config { IfOk result (λ r. r.0.config ≡ opened_config threads tags) }
         ensures workers { IfOk result (λ r. AreInOrder r.0 r.1.items) }
+        ensures each { IfOk result (λ r. AreEachOnce r.0 r.1.items) }
         ensures fresh { IfOk result (λ r. AreFresh r.1.items) }
         ensures refused { IfErr result (IsOpenFault tags threads) }
     {

@@ -117,6 +117,7 @@ fn opened(alloc: Global, c: Config) -> Result<(SharedHeap, Vec<Worker>), OutOfMe
     requires { CanOpen c }
     ensures config { IfOk result (λ r. r.0.config ≡ c) }
     ensures workers { IfOk result (λ r. AreInOrder r.0 r.1.items) }
+    ensures each { IfOk result (λ r. AreEachOnce r.0 r.1.items) }
     ensures fresh { IfOk result (λ r. AreFresh c r.1.items) }
 {
     let traces = first_traces(alloc, &c)?;
@@ -256,6 +257,7 @@ impl SharedHeap {
         ensures can { OnOk result (CanOpen c) }
         ensures config { IfOk result (λ r. r.0.config ≡ c) }
         ensures workers { IfOk result (λ r. AreInOrder r.0 r.1.items) }
+        ensures each { IfOk result (λ r. AreEachOnce r.0 r.1.items) }
         ensures fresh { IfOk result (λ r. AreFresh c r.1.items) }
         ensures refused { IfErr result (IsOpenFault c) }
     {

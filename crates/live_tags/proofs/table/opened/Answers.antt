@@ -2,6 +2,7 @@ use Rattle.std.proofs.Common.{refl, subst, sym}
 use Rattle.block_store.specs.declared.Config.{Config}
 use Rattle.shared_heap.specs.Workers as heaps
 use Rattle.live_tags.specs.Live.{AreFresh, AreInOrder, opened_config}
+use Rattle.live_tags.proofs.Crews.{in_order_each}
 use Rattle.live_tags.proofs.Opening.{all_fresh, all_tags, in_order}
 use Rattle.live_tags.proofs.table.opened.Goals as goal
 
@@ -17,6 +18,10 @@ returns-clause-workers c =
     (sym c.in_ok-heap.ensures.config) c.in_ok-heap.ensures.fresh in
     subst (λ ws. AreInOrder c.in_ok-heap.heap ws) (sym c.in_ok-crew.ensures)
     (in_order c.in_ok-heap.heap c.in_ok-heap.workers.items c.in_ok-heap.ensures.workers fresh)
+
+pub returns-clause-each : goal.returns-clause-each
+returns-clause-each c =
+    in_order_each c.in_ok-heap.heap c.in_ok-crew.crew.items (returns-clause-workers c)
 
 pub returns-clause-fresh : goal.returns-clause-fresh
 returns-clause-fresh c =

@@ -5,6 +5,7 @@ use Rattle.heap_system.specs.Machines.{IsJob}
 use Rattle.shared_heap.specs.Workers.{IsDealt, start_worker}
 use Rattle.shared_heap.proofs.Openings.{config_at, dealt_at, first_job, opens_of}
 use Rattle.shared_heap.proofs.Crews.{fresh, in_order}
+use Rattle.shared_heap.proofs.Orders.{in_order_each}
 use Rattle.shared_heap.proofs.heap.opened.Goals as goal
 
 abbrev items_of : Vec Command Global → List Command
@@ -36,6 +37,9 @@ returns-clause-workers c =
     in_order c.args.c (map items_of c.in_ok-traces.traces.items) job c.in_ok-system.system.state c.in_ok-system.ensures.opening c.in_ok-traces.ensures.1 c.in_ok-table.table.shared.table_id c.dealt-workers.result.items
     (c.dealt-workers.ensures ∙ ap (map (start_worker c.in_ok-table.table.shared.table_id)) c.into_locals.ensures)
     (record { id = c.in_ok-table.table.shared.table_id; config = c.args.c }) (λ i. record { id = c.in_ok-table.table.shared.table_id; config = c.args.c })
+
+pub returns-clause-each : goal.returns-clause-each
+returns-clause-each c = in_order_each (record { id = c.in_ok-table.table.shared.table_id; config = c.args.c }) c.dealt-workers.result.items (returns-clause-workers c)
 
 pub returns-clause-fresh : goal.returns-clause-fresh
 returns-clause-fresh c =
