@@ -214,7 +214,7 @@ fn ordered(who: Vec<Worker>, threads: usize) -> Vec<Worker>
 
 // The first of the workers, and the others.
 #[tactic(auto, using(crate::proofs::Crews::taken_first))]
-fn first_and_rest(who: Vec<Worker>) -> (Worker, Vec<Worker>)
+pub(crate) fn first_and_rest(who: Vec<Worker>) -> (Worker, Vec<Worker>)
     requires { 0 < length who.items }
     ensures { result.0 ∷ result.1.items ≡ who.items }
 {

@@ -1,8 +1,10 @@
-//! Threads that share one heap: names of new objects, counting by `cas`, refusals and notes.
+//! Threads that share one heap: names of new objects, counting by `cas`, refusals and notes. Some
+//! heaps are closed with their workers out of order.
 
 ghost use Rattle.std.specs.Prelude.{◌≡◌, IfOk};
-ghost use Rattle.shared_heap.specs.Workers.{AreInOrder, IsSame};
+ghost use Rattle.shared_heap.specs.Workers.{AreEachOnce, AreInOrder, IsSame};
 
+use crate::heap::first_and_rest;
 use crate::{OpenFault, Refused, SharedHeap, Worker};
 use block_store::{Config, Name, OutOfMemory, Value, Width};
 use never_heap::{Command, Reply};
@@ -16,7 +18,9 @@ const OBJECTS: u32 = 20_000;
 
 const TRIES: u32 = 20_000;
 
-fn heap_of(threads: u32) -> Config {
+fn heap_of(threads: u32) -> Config
+    ensures { result.threads ≡ threads }
+{
     Config {
         width: Width::Eight,
         threads,
@@ -131,7 +135,7 @@ fn all_count<R: Threads + Wait + Sync>(
 // allocation is refused.
 #[test]
 fn threads_make_objects_beside_each_other(rt: HostRuntime) -> Result<(), OutOfMemory> {
-    for threads in [1, 2, 4] {
+    for threads in [1, 2, 3, 4] {
         let Ok((heap, workers)) = SharedHeap::open(rt.alloc(), heap_of(threads)) else {
             assert!(rt; false, "it opens");
             return Ok(());
@@ -151,22 +155,65 @@ fn threads_make_objects_beside_each_other(rt: HostRuntime) -> Result<(), OutOfMe
     Ok(())
 }
 
-// The shared element ends at the number of successful tries.
+// Lets each worker read the shared element in a thread of its own, and counts those that got this
+// number.
+fn all_read<R: Threads + Wait + Sync>(
+    rt: &R,
+    heap: &SharedHeap,
+    workers: Vec<Worker>,
+    number: u64,
+    right: &AtomicU64,
+) -> Result<Vec<Worker>, OutOfMemory>
+    requires { AreInOrder heap.now workers.items }
+    ensures { IfOk result (λ v. AreInOrder heap.now v.items) }
+{
+    let done = thread::map_vec(
+        rt,
+        workers,
+        &|who: Worker| -> Worker
+            requires { who.heap ≡ heap.now.id }
+            ensures { IsSame who result }
+        {
+            let mut who = who;
+            let get = Command::Get { d: 1, s: 0, i: 0 };
+            if heap.ask(rt, &mut who, get) == Ok(Reply::Val(Value::Int(number))) {
+                right.fetch_add(1, Ordering::SeqCst);
+            }
+            who
+        },
+    )?;
+    Ok(done)
+}
+
+// The same workers, with the first and the last exchanged.
+fn ends_exchanged(heap: &SharedHeap, workers: Vec<Worker>) -> Vec<Worker>
+    requires { AreEachOnce heap.now workers.items }
+    ensures { AreEachOnce heap.now result.items }
+{
+    let mut who = workers;
+    let count = who.len();
+    if count > 1 {
+        who.swap(0, count - 1);
+    }
+    who
+}
+
+// The shared element ends at the number of successful tries. The workers are closed out of order.
 #[test]
 fn threads_count_by_cas(rt: HostRuntime) -> Result<(), OutOfMemory> {
-    for threads in [2, 4] {
+    for threads in [2, 3, 4] {
         let Ok((heap, workers)) = SharedHeap::open(rt.alloc(), heap_of(threads)) else {
             assert!(rt; false, "it opens");
             return Ok(());
         };
         let yes = AtomicU64::new(0);
         let done = all_count(&rt, &heap, workers, &yes)?;
-        let number = Value::Int(yes.load(Ordering::SeqCst));
-        for who in done {
-            let mut who = who;
-            let get = Command::Get { d: 1, s: 0, i: 0 };
-            assert_eq!(rt; heap.ask(&rt, &mut who, get), Ok(Reply::Val(number)));
-        }
+        let right = AtomicU64::new(0);
+        let read = all_read(&rt, &heap, done, yes.load(Ordering::SeqCst), &right)?;
+        assert_eq!(rt; right.load(Ordering::SeqCst), u64::from(threads));
+        let workers = ends_exchanged(&heap, read);
+        // No object was made, so no work was done and no second cycle began.
+        assert_eq!(rt; heap.close(workers), 1);
     }
     Ok(())
 }
@@ -200,6 +247,54 @@ fn each_refusal_of_a_configuration_has_its_cause(rt: HostRuntime) {
             Ok(_) => assert!(rt; false, "it opens"),
             Err(found) => assert_eq!(rt; found, fault),
         }
+    }
+}
+
+// One worker writes the shared element and makes a note. The other learns the note and reads.
+#[tactic(auto, using(crate::proofs::Crews::same_here, crate::proofs::Crews::same_on))]
+fn passes_on<R: Wait>(
+    rt: &R,
+    heap: &SharedHeap,
+    writer: &mut Worker,
+    reader: &mut Worker,
+) -> Result<Reply, Refused>
+    requires writer { writer.old.heap ≡ heap.now.id }
+    requires reader { reader.old.heap ≡ heap.now.id }
+    ensures writer { IsSame writer.old writer.new }
+    ensures reader { IsSame reader.old reader.new }
+{
+    let _set = heap.ask(rt, writer, Command::Set { d: 1, value: 41 });
+    let _put = heap.ask(rt, writer, Command::Put { s: 0, i: 0, v: 1 });
+    let note = heap.note(writer);
+    heap.learn(reader, note);
+    heap.ask(rt, reader, Command::Get { d: 2, s: 0, i: 0 })
+}
+
+// A worker learns the note of another. Then the two are closed in the opposite order.
+#[test]
+fn a_note_passes_between_workers(rt: HostRuntime) -> Result<(), OutOfMemory> {
+    let Ok((heap, workers)) = SharedHeap::open(rt.alloc(), heap_of(2)) else {
+        assert!(rt; false, "it opens");
+        return Ok(());
+    };
+    let (first, rest) = first_and_rest(workers);
+    let (second, _none) = first_and_rest(rest);
+    let mut writer = first;
+    let mut reader = second;
+    let read = passes_on(&rt, &heap, &mut writer, &mut reader);
+    assert_eq!(rt; read, Ok(Reply::Val(Value::Int(41))));
+    let back = vec![in rt.alloc(); reader, writer]?;
+    assert_eq!(rt; heap.close(back), 1);
+    Ok(())
+}
+
+// It opens, or memory is refused: `rt try --test --fail-alloc N` runs it with the Nth allocation
+// refused.
+#[test]
+fn a_heap_opens_or_is_refused_memory(rt: HostRuntime) {
+    match SharedHeap::open(rt.alloc(), heap_of(3)) {
+        Ok((_, workers)) => assert_eq!(rt; workers.len(), 3),
+        Err(fault) => assert_eq!(rt; fault, OpenFault::NoMemory),
     }
 }
 
