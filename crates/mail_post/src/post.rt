@@ -220,8 +220,8 @@ impl Post {
         push_letter(rt, &self.line, &mut who.pass, Letter { thread, number });
     }
 
-    /// Takes one letter. `None` comes only where the queue was empty: so, once the senders were
-    /// gathered, only where all was taken. Where memory runs out nothing was taken. The taker is of
+    /// Takes one letter. With `None` nothing was taken, and once the senders were gathered, it
+    /// comes only where all was taken. Where memory runs out nothing was taken. The taker is of
     /// this post.
     pub fn take<R: Wait>(&self, rt: &R, who: &mut Taker) -> Result<Option<Letter>, OutOfMemory>
         requires { who.old.post ≡ self.now.id }

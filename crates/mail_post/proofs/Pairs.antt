@@ -1,0 +1,11 @@
+-- Two senders are all of a post for two, in the other order too.
+use Rattle.std.proofs.Common.{ℕ, ◌≡◌, ◌+◌, ◌==◌, cond, nat_lt, [], ◌∷◌, ◌∙◌, arith}
+use Rattle.std.proofs.lemmas.Bool.Decides.{nat_tests}
+use Rattle.mail_post.specs.Ends.{SenderState, AreAll}
+
+one_of_two : (t : ℕ) → (0 + cond (1 == t) 1 0) + cond (0 == t) 1 0 ≡ cond (nat_lt t 2) 1 0
+one_of_two t = grind (arith, nat_tests)
+
+pub two_are_all : (a b : SenderState) → a.thread ≡ 0 → b.thread ≡ 1 → AreAll 2 (b ∷ a ∷ [])
+two_are_all a b first second t =
+    (λ i. (0 + cond (second i == t) 1 0) + cond (first i == t) 1 0) ∙ one_of_two t
