@@ -14,7 +14,7 @@ pub const CLASSES: u32 = 63;
 const MARKS: u64 = 60;
 
 /// How many times are at least a number and below its double, and how many are so in the fullest
-/// row. As text it is a row of marks in proportion, at least one where there are times.
+/// row. As text it is a row of marks in proportion, rounded up, so that no row with times is bare.
 #[derive(Clone, Copy, Debug)]
 pub struct Bar {
     pub least: u64,
@@ -64,6 +64,11 @@ impl fmt::Display for Bar {
     }
 }
 
-fn marks(count: u64, most: u64) -> u64 {
+/// How many marks a row has with so many times, where the fullest has so many.
+fn marks(count: u64, most: u64) -> u64
+    ensures few { result ≤ MARKS }
+    ensures enough { MARKS * count < 2 ^ 64 → count ≤ most → MARKS * count ≤ result * most }
+    ensures least { (m : ℕ) → MARKS * count ≤ m * most → result ≤ m }
+{
     count.saturating_mul(MARKS).div_ceil(most.max(1)).min(MARKS)
 }

@@ -3,6 +3,8 @@
 
 mod bars;
 mod counting;
+#[cfg(test)]
+mod tests;
 
 pub use bars::{Bar, CLASSES, bar_of, fullest, power};
 pub use counting::{Times, count_below};
