@@ -3,8 +3,8 @@
 use crate::Bar;
 use std::test::Fail;
 
-/// Rows beside a fullest row of 200 times: how many times each has, and how many marks. 60 marks
-/// stand for 200 times, so a mark that is begun stands for each 3 and a third.
+/// How many times a row has, and how many marks beside a fullest row of 200 times: 0.3 times as
+/// many, rounded up.
 const ROWS: [(usize, usize); 8] = [
     (0, 0),
     (1, 1),

@@ -1,2 +1,4 @@
-pub mod Turns
 pub mod Calls
+pub mod Kinds
+pub mod Lines
+pub mod Turns

@@ -1,7 +1,11 @@
 //! The kinds of commands that are told apart.
 
 ghost use Rattle.std.specs.Prelude.{◌≡◌, ◌≤◌};
+ghost use Rattle.std.specs.List.{count_by};
+ghost use Rattle.block_store.specs.declared.Width.{Width};
+ghost use Rattle.never_heap.specs.declared.Command.{Command};
 ghost use Rattle.never_heap.specs.Steps.{length_made, blocks_of as blocks};
+ghost use Rattle.timed_runs.specs.Kinds.{is_of_kind};
 
 use block_store::Width;
 use never_heap::Command;
@@ -40,7 +44,9 @@ pub const KINDS: [Kind; 14] = [
 
 impl Kind {
     /// Whether the command, on blocks of this width, is of this kind.
-    pub fn has(self, width: Width, command: &Command) -> bool {
+    pub fn has(self, width: Width, command: &Command) -> bool
+        ensures { length_made command.now ≤ 65535 → result ≡ is_of_kind width command.now self }
+    {
         match self {
             Kind::Allocation { blocks } => {
                 let asked = blocks_of(width, command);
@@ -75,7 +81,15 @@ impl Kind {
     }
 }
 
-fn is_other(width: Width, command: &Command) -> bool {
+/// Each command of a job is of just one of the kinds, since it allocates at most 1,024 blocks.
+pub fn a_command_is_of_one_kind()
+    ensures { (w : Width) (k : Command) → blocks w k ≤ 1024 → count_by (is_of_kind w k) KINDS ≡ 1 }
+{}
+
+fn is_other(width: Width, command: &Command) -> bool
+    ensures { length_made command.now ≤ 65535
+        → result ≡ is_of_kind width command.now Kind.Other }
+{
     match command {
         Command::Get { .. } | Command::Put { .. } | Command::Idle { .. } => false,
         _ => blocks_of(width, command) == 0,

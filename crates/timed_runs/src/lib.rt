@@ -14,6 +14,6 @@ mod top;
 
 pub use bounds::turns_alone;
 pub use counted::Counted;
-pub use kinds::Kind;
+pub use kinds::{KINDS, Kind, a_command_is_of_one_kind};
 pub use stamps::Stamps;
 pub use top::{TimedExit, timed};

@@ -1,5 +1,8 @@
 //! The times of a run, by kinds of commands and by threads.
 
+ghost use Rattle.std.specs.Prelude.{◌≡◌, ◌<◌, ◌^◌, length};
+ghost use Rattle.timed_runs.specs.Lines.{line_in};
+
 use crate::kinds::Kind;
 use crate::stamps::Stamps;
 use block_store::{OutOfMemory, Width};
@@ -140,16 +143,17 @@ pub fn count_commands<L: Logs>(width: Width, run: &L, which: Which) -> u64 {
     count
 }
 
-/// The line of the job that has this command: behind the header, each thread has a line, and then
+/// The line of the job that has this command: after the header, each thread has a line, and then
 /// those of its commands.
-pub fn line_of<L: Logs>(run: &L, thread: u32, number: usize) -> u64 {
+pub fn line_of<L: Logs>(run: &L, thread: u32, number: usize) -> u64
+    ensures { let line = line_in (L.logs run.now) thread number in
+        thread < length (L.logs run.now) → line < 2 ^ 64 → result ≡ line }
+{
     let mut line: u64 = 3;
-    for other in 0..run.threads() {
-        if other < thread {
-            line = line
-                .saturating_add(run.entries(other).len() as u64)
-                .saturating_add(1);
-        }
+    for other in 0..thread.min(run.threads()) {
+        line = line
+            .saturating_add(run.entries(other).len() as u64)
+            .saturating_add(1);
     }
     line.saturating_add(number as u64)
 }

@@ -1,5 +1,8 @@
 //! The report of what was measured.
 
+ghost use Rattle.std.specs.Prelude.{◌≡◌, ◌<◌, ◌^◌, ◌⊎◌, length, IfSome, IfNone};
+ghost use Rattle.time_counts.specs.Counts.{IsPercentile};
+
 use crate::bounds::turns_alone;
 use crate::kinds::{KINDS, Kind};
 use crate::samples::{Longest, Sample, Which, count_commands, line_of, sample_of};
@@ -94,7 +97,7 @@ fn add_group<C: Clock + Sync>(
 
 /// The titles of the columns of a row.
 const TITLES: &str =
-    "kind                commands     median      99.9%    longest  thread  command      \
+    "kind                commands  median ns   99.9% ns longest ns  thread  command      \
 line  most turns\n";
 
 /// Adds the row of a kind, where there are commands of it.
@@ -135,7 +138,14 @@ struct Figures {
     longest: u64,
 }
 
-fn figures_of(sample: &Sample) -> Option<Figures> {
+fn figures_of(sample: &Sample) -> Option<Figures>
+    ensures median { IfSome result (λ f. IsPercentile 500 sample.now.times f.median) }
+    ensures most { IfSome result (λ f. IsPercentile 999 sample.now.times f.most_of_thousand) }
+    ensures longest { IfSome result (λ f.
+        IfSome sample.now.longest (λ one. f.longest ≡ one.nanoseconds)) }
+    ensures none { IfNone result ((sample.now.longest ≡ None) ⊎ ((length sample.now.times ≡ 0)
+        ⊎ (2 ^ 32 < length sample.now.times))) }
+{
     let longest = sample.longest?;
     Some(Figures {
         median: sample.times.percentile(500)?,

@@ -1,5 +1,4 @@
-//! Whole calls over sources and sinks in memory, by a clock that goes on by a microsecond at each
-//! reading.
+//! Whole calls over sources and sinks in memory, by clocks whose readings are known.
 
 use crate::timed;
 use std::alloc::Global;
@@ -12,6 +11,7 @@ use std::thread::Threads;
 use std::time::{Clock, Duration};
 use trace_text::{MemSink, MemSource};
 
+/// A clock that advances by a microsecond at each reading.
 #[derive(Drop)]
 struct Ticks {
     count: AtomicU64,
@@ -27,7 +27,25 @@ impl Clock for Ticks {
     }
 }
 
-/// A job with commands of each kind, and what is told of it.
+/// A clock whose steps grow: reading n is n (n + 1) / 2 nanoseconds, which is n more than the one
+/// before it, so no two times are equal.
+#[derive(Drop)]
+struct Growing {
+    count: AtomicU64,
+}
+
+impl Clock for Growing {
+    fn monotonic(&self) -> io::Result<Duration> {
+        let n = self.count.fetch_add(1, Ordering::SeqCst);
+        Ok(Duration::from_nanos(n.saturating_mul(n.saturating_add(1)) / 2))
+    }
+
+    fn since_1970(&self) -> io::Result<Duration> {
+        self.monotonic()
+    }
+}
+
+/// A job with commands of several kinds, and its report.
 const JOB: &str = "rtheap 1 threads 1 blocks 64 live 20 object 2 shared 0
 thread 0
 new 1 4
@@ -38,11 +56,11 @@ say 3
 end
 ";
 
-const TOLD: &str = "clock: one reading takes 1000 ns, and is in each time
+const REPORT: &str = "clock: one reading takes 1000 ns, and is in each time
 switches: std does not tell when a thread is switched away; the times have it in them
 
 all threads
-kind                commands     median      99.9%    longest  thread  command      line  most turns
+kind                commands  median ns   99.9% ns longest ns  thread  command      line  most turns
 1 block                    1       1000       1000       1000       0        4         6         139
 2 blocks                   1       1000       1000       1000       0        1         3         252
 get and put                2       1000       1000       1000       0        2         4          66
@@ -51,36 +69,119 @@ all                        5       1000       1000       1000       0        1  
              512 ns          4 ############################################################
 ";
 
-/// Runs the job of this input, and compares the status and what is written.
-fn tells(
+/// A job of two threads of which the first does nothing, so that its report is the same in every
+/// schedule. Each allocation takes as many blocks as its kind has at most.
+const LATER: &str = "rtheap 1 threads 2 blocks 128 live 40 object 8 shared 0
+thread 0
+thread 1
+new 1 4
+put 1 0 1
+get 2 1 0
+new 3 1
+new 4 12
+new 5 24
+say 3
+say 3
+say 3
+say 3
+say 3
+say 3
+say 3
+say 3
+say 3
+say 3
+say 3
+say 3
+say 3
+say 3
+say 3
+say 3
+say 3
+say 3
+say 3
+say 3
+end
+";
+
+/// Worked out by hand. The clock is read 1,002 times before the run: the differences are 2 to 1,002
+/// ns, and their median is 502. Each of the 26 commands then has the next reading before it, so all
+/// but the last take 1,004 to 1,028 ns, in their order. The turns of an allocation are those of
+/// `near_bound` in `lone_bound` at rate 10; those of another command are the largest object and 64.
+const LATER_REPORT: &str = "clock: one reading takes 502 ns, and is in each time
+switches: std does not tell when a thread is switched away; the times have it in them
+
+all threads
+kind                commands  median ns   99.9% ns longest ns  thread  command      line  most turns
+1 block                    1       1007       1007       1007       1        4         7         188
+2 blocks                   1       1004       1004       1004       1        1         4         346
+3 to 4 blocks              1       1008       1008       1008       1        5         8         662
+5 to 8 blocks              1       1009       1009       1009       1        6         9        1294
+get and put                2       1005       1006       1006       1        3         6          72
+others                    20       1019       1028       1028       1       25        28          72
+all                       26       1016       1028       1028       1       25        28          72
+             512 ns         20 ############################################################
+            1024 ns          5 ###############
+
+thread 0
+kind                commands  median ns   99.9% ns longest ns  thread  command      line  most turns
+
+thread 1
+kind                commands  median ns   99.9% ns longest ns  thread  command      line  most turns
+1 block                    1       1007       1007       1007       1        4         7         188
+2 blocks                   1       1004       1004       1004       1        1         4         346
+3 to 4 blocks              1       1008       1008       1008       1        5         8         662
+5 to 8 blocks              1       1009       1009       1009       1        6         9        1294
+get and put                2       1005       1006       1006       1        3         6          72
+others                    20       1019       1028       1028       1       25        28          72
+all                       26       1016       1028       1028       1       25        28          72
+             512 ns         20 ############################################################
+            1024 ns          5 ###############
+";
+
+/// Runs the job of this input by this clock, and compares the status and what is written.
+fn answers<C: Clock + Sync>(
     rt: &(impl Abort + Threads + Wait + Sync),
     alloc: Global,
+    clock: &C,
     input: &str,
     status: u8,
-    told: &str,
+    written: &str,
 ) -> Result<(), Fail> {
-    let clock = Ticks {
-        count: AtomicU64::new(1),
-    };
     let bytes = Vec::from_slice(alloc, input.as_bytes())?;
     let mut source = MemSource::new(bytes, 100, Vec::new(alloc));
     let mut sink = MemSink::new(alloc, 4000, Vec::new(alloc))
         .ok()
         .ok_or("memory")?;
-    let exit = timed(rt, &clock, alloc, &[], &mut source, &mut sink)
+    let exit = timed(rt, clock, alloc, &[], &mut source, &mut sink)
         .ok()
         .ok_or("memory")?;
+    let text = std::str::from_utf8(sink.bytes()).ok().ok_or("no text")?;
     assert_eq!(rt; exit.status, status);
-    assert_eq!(rt; sink.bytes(), told.as_bytes());
+    assert_eq!(rt; text, written);
     Ok(())
 }
 
 #[test]
 fn times_are_told_by_kind(rt: HostRuntime) -> Result<(), Fail> {
-    tells(&rt, rt.alloc(), JOB, 0, TOLD)
+    let clock = Ticks {
+        count: AtomicU64::new(1),
+    };
+    answers(&rt, rt.alloc(), &clock, JOB, 0, REPORT)
+}
+
+#[test]
+fn times_that_differ_are_told(rt: HostRuntime) -> Result<(), Fail> {
+    let clock = Growing {
+        count: AtomicU64::new(1),
+    };
+    answers(&rt, rt.alloc(), &clock, LATER, 0, LATER_REPORT)
 }
 
 #[test]
 fn a_refusal_is_written_in_place_of_times(rt: HostRuntime) -> Result<(), Fail> {
-    tells(&rt, rt.alloc(), "rtheap 1\n", 3, "rtheap: line 1: header\n")
+    let clock = Ticks {
+        count: AtomicU64::new(1),
+    };
+    let refusal = "rtheap: line 1: header\n";
+    answers(&rt, rt.alloc(), &clock, "rtheap 1\n", 3, refusal)
 }
