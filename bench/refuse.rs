@@ -1,8 +1,9 @@
-//! A library for `bench/refuse` that stands in front of the C library's allocations and starts of
-//! threads (LD_PRELOAD), and refuses one of them: the allocation whose number, counted from 1,
-//! stands in REFUSE_ALLOCATION, or the start whose number stands in REFUSE_THREAD. Where that one
-//! comes, descriptor 9 gets the line `refused`, and the line `again` where the next allocation is
-//! of no more bytes: a vector that can't double asks for just what it needs.
+//! A library for `bench/refuse` that replaces the C library's allocations and starts of threads
+//! (LD_PRELOAD), and refuses some of them: the allocation whose number, counted from 1, stands in
+//! REFUSE_ALLOCATION, the start whose number stands in REFUSE_THREAD, and each start from the one
+//! whose number stands in REFUSE_THREADS_FROM. Where one is refused, descriptor 9 gets the line
+//! `refused`, and the line `again` where the next allocation is of no more bytes: a vector that
+//! can't double asks for just what it needs.
 
 use std::ffi::{c_char, c_int, c_void};
 use std::sync::atomic::{AtomicU64, AtomicUsize, Ordering};
@@ -47,18 +48,15 @@ fn tell(line: &[u8]) {
     unsafe { write(9, line.as_ptr(), line.len()) };
 }
 
-/// Counts a call, and says whether it is the one to be refused.
-fn is_refused(count: &AtomicU64, name: &'static [u8]) -> bool {
-    let at = count.fetch_add(1, Ordering::SeqCst) + 1;
-    if at == number(name) {
-        tell(b"refused\n");
-    }
-    at == number(name)
+/// The number of a call, counted from 1.
+fn counted(count: &AtomicU64) -> u64 {
+    count.fetch_add(1, Ordering::SeqCst) + 1
 }
 
 /// Whether an allocation is the one to be refused; then `errno` says so, as the C library has it.
 fn no_memory(size: usize) -> bool {
-    if is_refused(&ALLOCATIONS, b"REFUSE_ALLOCATION\0") {
+    if counted(&ALLOCATIONS) == number(b"REFUSE_ALLOCATION\0") {
+        tell(b"refused\n");
         REFUSED.store(size, Ordering::SeqCst);
         unsafe { *__errno_location() = NO_MEMORY };
         return true;
@@ -120,7 +118,9 @@ pub unsafe extern "C" fn pthread_create(
     start: *const c_void,
     argument: *mut c_void,
 ) -> c_int {
-    if is_refused(&THREADS, b"REFUSE_THREAD\0") {
+    let (at, from) = (counted(&THREADS), number(b"REFUSE_THREADS_FROM\0"));
+    if at == number(b"REFUSE_THREAD\0") || (from > 0 && at >= from) {
+        tell(b"refused\n");
         return TRY_AGAIN;
     }
     let create = dlsym(NEXT, b"pthread_create\0".as_ptr().cast());
