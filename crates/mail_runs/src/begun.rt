@@ -11,6 +11,7 @@ use never_heap::Pace;
 use std::alloc::Global;
 use std::snapshot::Snapshot;
 use std::sync::Wait;
+use std::sync::atomic::Ordering;
 use std::thread::{Promise, PromisedHandle, Scope, Threads};
 
 /// What the speaker of a thread of an office comes back as.
@@ -52,7 +53,11 @@ fn begin<'s, 'e, R: Threads + Wait + Sync, Q: Pace>(
         promise,
         move ||
             requires { IsSpeaker office.now who.mutator.local.thread who }
-        { who.speak(rt, office, pace) },
+        {
+            let spoken = who.speak(rt, office, pace);
+            office.ended.fetch_add(1, Ordering::SeqCst);
+            spoken
+        },
     );
     match started {
         Ok(handle) => Begun::Running(handle),

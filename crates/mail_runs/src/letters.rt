@@ -19,16 +19,18 @@ use never_heap::Pace;
 use said_numbers::says_of;
 use std::alloc::Global;
 use std::sync::Wait;
+use std::sync::atomic::AtomicU64;
 use std::thread::Threads;
 use trace_text::Job;
 
 /// Runs a job of one or two threads to its end, and tells the pace before each command. Each thread
-/// sends the numbers that it says, in order, and the caller takes them while the threads run. Gives
-/// the board, closed, and the letters: of each thread just the numbers that its log shows by `say`.
+/// sends the numbers that it says, in order, and the caller takes them until all threads have ended,
+/// and then what is left. Gives the board, closed, and the letters: of each thread just the numbers
+/// that its log shows by `say`.
 ///
 /// A thread that cannot be made is run by the caller at once. The queue has room for all letters of
 /// the job, so that no thread waits for the caller. That the threads come to their ends is not
-/// promised.
+/// promised, and that letters are taken while they run is tested alone.
 ///
 /// # Errors
 ///
@@ -56,7 +58,8 @@ pub fn deliver<R: Threads + Wait + Sync, Q: Pace>(
     Ok(closed(office, mutators, taker))
 }
 
-/// The board of a job and its post, with a speaker for each thread, before the first turn.
+/// The board of a job and its post, with a speaker for each thread, before the first turn. The
+/// queue has room for all letters of the job.
 fn opened(alloc: Global, job: Job) -> Result<(Office, Vec<Speaker>, Taker), OutOfMemory>
     requires bounds { IsJobInBounds job }
     requires admitted { IsAdmitted job.config }
@@ -67,12 +70,32 @@ fn opened(alloc: Global, job: Job) -> Result<(Office, Vec<Speaker>, Taker), OutO
     ensures taker { IfOk result (λ r. IsFirst r.0 r.2) }
     ensures room { IfOk result (λ r. r.0.post.room ≡ room_of job.traces) }
 {
-    let threads = job.config.threads;
     let room = room_for(&job);
+    opened_for(alloc, job, room)
+}
+
+/// The same with so much room, at least 1.
+pub(crate) fn opened_for(
+    alloc: Global,
+    job: Job,
+    room: usize,
+) -> Result<(Office, Vec<Speaker>, Taker), OutOfMemory>
+    requires bounds { IsJobInBounds job }
+    requires admitted { IsAdmitted job.config }
+    requires few { job.config.threads ≤ 2 }
+    requires room { 1 ≤ room }
+    ensures board { IfOk result (λ r. (r.0.board.config ≡ job.config)
+        × (r.0.board.traces ≡ job.traces)) }
+    ensures speakers { IfOk result (λ r. AreSpeakers r.0 r.1.items) }
+    ensures taker { IfOk result (λ r. IsFirst r.0 r.2) }
+    ensures room { IfOk result (λ r. r.0.post.room ≡ room) }
+{
+    let threads = job.config.threads;
     let (board, mutators) = AtomBoard::new(alloc, job.config, job.traces)?;
     let (post, senders, taker) = Post::new(alloc, threads, room)?;
     let speakers = paired(alloc, mutators, senders)?;
-    Ok((Office { board, post }, speakers, taker))
+    let ended = AtomicU64::new(0);
+    Ok((Office { board, post, ended }, speakers, taker))
 }
 
 /// The room for the letters of a job: as many as it has `say` commands, and one at least.

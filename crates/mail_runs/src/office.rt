@@ -1,4 +1,4 @@
-//! A board and its post.
+//! A board, its post, and how many of its speakers have ended.
 
 ghost use Rattle.std.specs.Prelude.{◌≡◌, length, map, IfOk};
 ghost use Rattle.said_numbers.specs.Said.{numbers_said};
@@ -10,12 +10,14 @@ use atom_board::{AtomBoard, Closed, Mutator};
 use block_store::OutOfMemory;
 use mail_post::{Post, Sender, Taken, Taker};
 use std::alloc::Global;
+use std::sync::atomic::AtomicU64;
 
-/// The board of a job, and the post by which its threads send.
+/// The board of a job, the post by which its threads send, and how many of them have ended.
 #[derive(Drop)]
 pub(crate) struct Office {
     pub(crate) board: AtomBoard,
     pub(crate) post: Post,
+    pub(crate) ended: AtomicU64,
 }
 
 /// Each mutator with a sender, in order.
@@ -45,6 +47,10 @@ pub(crate) fn closed(office: Office, mutators: Vec<Mutator>, taker: Taker) -> (C
     ensures taken { result.1.taken ≡ map numbers_said result.0.logs }
     ensures sent { result.1.sent ≡ map numbers_said result.0.logs }
 {
-    let Office { board, post } = office;
+    let Office {
+        board,
+        post,
+        ended: _,
+    } = office;
     (board.close(mutators), post.close(taker))
 }

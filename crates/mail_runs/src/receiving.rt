@@ -10,10 +10,12 @@ use crate::office::Office;
 use crate::speaker::Speaker;
 use atom_board::Mutator;
 use block_store::OutOfMemory;
+use crossbeam_utils::Backoff;
 use mail_post::{Post, Sender, Taker};
 use never_heap::Pace;
 use std::alloc::Global;
 use std::sync::Wait;
+use std::sync::atomic::Ordering;
 use std::thread;
 use std::thread::Threads;
 
@@ -29,6 +31,32 @@ fn take_all<R: Wait>(rt: &R, post: &Post, who: &mut Taker) -> Result<(), OutOfMe
     for _ in rt.forever() {
         if post.take(rt, who)?.is_none() {
             return Ok(());
+        }
+    }
+    unreachable!()
+}
+
+/// Takes what the speakers send until so many have ended. What they sent last may be left.
+fn take_while_they_speak<R: Wait>(
+    rt: &R,
+    office: &Office,
+    speakers: usize,
+    who: &mut Taker,
+) -> Result<(), OutOfMemory>
+    requires { who.old.post ≡ office.now.post.id }
+    ensures post { who.new.post ≡ who.old.post }
+    ensures sent { who.new.sent ≡ who.old.sent }
+    ensures size { length who.new.taken ≡ length who.old.taken }
+{
+    let backoff = Backoff::new();
+    for _ in rt.forever() {
+        if office.post.take(rt, who)?.is_some() {
+            backoff.reset();
+        } else if office.ended.load(Ordering::SeqCst) >= speakers as u64 {
+            return Ok(());
+        } else {
+            backoff.snooze();
+            thread::yield_now();
         }
     }
     unreachable!()
@@ -69,7 +97,7 @@ fn parted(alloc: Global, speakers: Vec<Speaker>) -> Result<(Vec<Mutator>, Vec<Se
     Ok((mutators, senders))
 }
 
-/// Takes while the threads speak, and what is left when they have ended.
+/// Takes what the threads send while they run, and what is left when they have ended.
 fn receive<R: Threads + Wait>(
     rt: &R,
     alloc: Global,
@@ -82,7 +110,7 @@ fn receive<R: Threads + Wait>(
     ensures { IfOk result (λ r. IsReceived office.now r.0.items r.1) }
 {
     let mut taker = taker;
-    take_all(rt, &office.post, &mut taker)?;
+    take_while_they_speak(rt, office, begun.len(), &mut taker)?;
     let speakers = finish_all(rt, alloc, begun)?;
     let (mutators, senders) = parted(alloc, speakers)?;
     take_rest(rt, &office.post, &mut taker, senders)?;

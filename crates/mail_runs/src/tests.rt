@@ -1,28 +1,34 @@
 //! Whole jobs, from their texts to their letters.
 
-ghost use Rattle.std.specs.Prelude.{◌≡◌, map, IfOk};
+ghost use Rattle.std.specs.Prelude.{◌≡◌, ◌≤◌, map, IfOk};
+ghost use Rattle.rate_plan.specs.Rates.{IsAdmitted};
 ghost use Rattle.said_numbers.specs.Said.{numbers_said};
+ghost use Rattle.trace_text.specs.Jobs.{IsJobInBounds};
 
 use crate::deliver;
+use crate::letters::opened_for;
+use crate::office::closed;
+use crate::receiving::delivered as received;
 use atom_board::Closed;
 use board_jobs::Meeting;
 use mail_post::Taken;
 use never_heap::{Logs, NoPace, Pace};
 use rate_plan::plan;
 use std::alloc::{AllocError, Global};
+use std::process::Abort;
+use std::rt::Clock;
 use std::sync::Wait;
+use std::sync::atomic::{AtomicU64, Ordering};
 use std::test::Fail;
-use std::thread::Threads;
-use trace_text::{MemSource, read_trace};
+use std::thread::{self, Threads};
+use std::time::Duration;
+use trace_text::{Job, MemSource, read_trace};
 
-/// What comes of a job of one or two threads that a text spells.
-fn delivered<R: Threads + Wait + Sync, Q: Pace>(
-    rt: &R,
-    alloc: Global,
-    text: &str,
-    pace: &Q,
-) -> Result<(Closed, Taken), Fail>
-    ensures { IfOk result (λ r. r.1.taken ≡ map numbers_said r.0.logs) }
+/// The job of one or two threads that a text spells.
+fn job_of(alloc: Global, text: &str) -> Result<Job, Fail>
+    ensures bounds { IfOk result IsJobInBounds }
+    ensures admitted { IfOk result (λ job. IsAdmitted job.config) }
+    ensures few { IfOk result (λ job. job.config.threads ≤ 2) }
 {
     let bytes = Vec::from_slice(alloc, text.as_bytes())?;
     let mut source = MemSource::new(bytes, 4096, Vec::new(alloc));
@@ -32,6 +38,19 @@ fn delivered<R: Threads + Wait + Sync, Q: Pace>(
     if plan(&job.config).is_err() || job.config.threads > 2 {
         return Err("no job of two threads with a rate".into());
     }
+    Ok(job)
+}
+
+/// What comes of it.
+fn delivered<R: Threads + Wait + Sync, Q: Pace>(
+    rt: &R,
+    alloc: Global,
+    text: &str,
+    pace: &Q,
+) -> Result<(Closed, Taken), Fail>
+    ensures { IfOk result (λ r. r.1.taken ≡ map numbers_said r.0.logs) }
+{
+    let job = job_of(alloc, text)?;
     match deliver(rt, alloc, job, pace) {
         Ok(mail) => Ok(mail),
         Err(_) => Err("no memory".into()),
@@ -112,7 +131,6 @@ fn often_said(alloc: Global) -> Result<String, AllocError> {
     Ok(text)
 }
 
-// With a queue of less room a thread could wait for a caller that waits for it.
 #[test]
 fn threads_that_say_thousands_of_numbers_end(rt: HostRuntime) -> Result<(), Fail> {
     let alloc = rt.alloc();
@@ -148,5 +166,66 @@ end
     let (closed, taken) = delivered(&rt, rt.alloc(), text, &pace)?;
     assert!(rt; are_taken(&closed, &taken, &[&[], &[]]));
     assert!(rt; pace.took_place());
+    Ok(())
+}
+
+/// What comes of a job whose queue has room for one letter alone.
+fn through_one<R: Threads + Wait + Sync>(
+    rt: &R,
+    alloc: Global,
+    text: &str,
+) -> Result<(Closed, Taken), Fail>
+    ensures { IfOk result (λ r. r.1.taken ≡ map numbers_said r.0.logs) }
+{
+    let job = job_of(alloc, text)?;
+    let (office, speakers, taker) = opened_for(alloc, job, 1).ok().ok_or("memory")?;
+    let (mutators, taker) = received(rt, alloc, &office, &NoPace, speakers, taker)
+        .ok()
+        .ok_or("memory")?;
+    Ok(closed(office, mutators, taker))
+}
+
+/// Stops the process unless a run ends within half a minute.
+fn watch<R: Clock + Abort>(rt: &R, ended: &AtomicU64) {
+    for _ in 0..3000 {
+        if ended.load(Ordering::SeqCst) == 1 {
+            return;
+        }
+        thread::sleep(rt, Duration::from_millis(10));
+    }
+    panic!(rt; "the caller takes no letter while the threads run");
+}
+
+// A thread sends its second letter once the caller has taken the first, so a caller that joins the
+// threads before it takes waits for ever.
+#[test]
+fn letters_are_taken_while_threads_run(rt: HostRuntime) -> Result<(), Fail> {
+    let text = "rtheap 2 threads 2 blocks 64 live 20 object 2 shared 4
+thread 0
+set 1 5
+say 1
+set 1 6
+say 1
+set 1 7
+say 1
+thread 1
+set 1 8
+say 1
+set 1 9
+say 1
+end
+";
+    let ended = AtomicU64::new(0);
+    let (_, came) = thread::join(
+        &rt,
+        || watch(&rt, &ended),
+        || {
+            let came = through_one(&rt, rt.alloc(), text);
+            ended.store(1, Ordering::SeqCst);
+            came
+        },
+    );
+    let (closed, taken) = came?;
+    assert!(rt; are_taken(&closed, &taken, &[&[5, 6, 7], &[8, 9]]));
     Ok(())
 }

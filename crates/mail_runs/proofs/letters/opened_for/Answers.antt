@@ -7,7 +7,7 @@ use Rattle.trace_text.specs.Jobs.{Job}
 use Rattle.mail_runs.specs.declared.office.Office.{Office}
 use Rattle.mail_runs.specs.Speakers.{AreSpeakers}
 use Rattle.mail_runs.proofs.FreshSpeakers.{ready_count, speakers_ready}
-use Rattle.mail_runs.proofs.letters.opened.Goals as goal
+use Rattle.mail_runs.proofs.letters.opened_for.Goals as goal
 
 pub new-requires : goal.new-requires
 new-requires c =
@@ -22,7 +22,11 @@ paired-requires c =
 
 pub returns-clause-speakers : goal.returns-clause-speakers
 returns-clause-speakers c =
-    let o : Office = record { board = c.in_ok-board.board; post = c.in_ok-post.post } in
+    let o : Office = record {
+      board = c.in_ok-board.board;
+      post = c.in_ok-post.post;
+      ended = c.new-ended.result;
+    } in
     subst (AreSpeakers o) (sym c.in_ok-speakers.ensures)
     (speakers_ready o _ _ c.in_ok-board.mutators.items c.in_ok-post.senders.items
     c.in_ok-board.ensures.mutators c.in_ok-board.ensures.start
