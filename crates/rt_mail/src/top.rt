@@ -20,10 +20,10 @@ use std::thread::Threads;
 use trace_text::{Sink, Source, WRITE_FAULT};
 
 /// Joins two heaps by a queue: reads a job of one or two threads and runs them beside each other on
-/// the first heap. Whenever a thread is answered a number by `say`, it sends that number, and what
-/// is sent is taken beside them. The second heap keeps the last eight numbers of each thread, and a
-/// line is written for each: how many numbers came of it, and which were the last. The pace is told
-/// before each command on the first heap. Words are refused with the line `rt_mail: usage`.
+/// the first heap. Whenever a thread is answered a number by `say`, it sends that number, and the
+/// caller takes it. The second heap keeps the last eight numbers of each thread, and a line is
+/// written for each: how many numbers came of it, and which were the last. The pace is told before
+/// each command on the first heap. Words are refused with the line `rt_mail: usage`.
 ///
 /// A job of more than two threads is refused, and then one in which a thread has more than 30,000
 /// `say` commands.
