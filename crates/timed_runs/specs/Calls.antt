@@ -1,14 +1,27 @@
 -- What the call of a timed run is, and how it ends.
-use Rattle.std.specs.Prelude.{ℕ, ◌⊎◌, List, [], ◌∷◌, codes, Option, None, Some}
+use Rattle.std.specs.Prelude.{ℕ, ◌⊎◌, List, [], ◌∷◌, codes, if◌then◌else◌, Option, None, Some}
+use Rattle.std.specs.Str.{bytes_eq}
 use Rattle.call_exits.specs.Exits.{IsToldBy}
 use Rattle.call_exits.specs.Sides.{Sides}
+use Rattle.timed_runs.specs.declared.telling.Form.{Form}
+use Rattle.timed_runs.specs.declared.telling.Form.TheVariants.{Table, Csv}
 use Rattle.rtheap_core.specs.declared.exit.RunEnd.{RunEnd}
 use Rattle.rtheap_core.specs.declared.exit.RunEnd.TheVariants.{Replayed, Ran}
 
--- the words of the run that is timed: `run` where there are no words, and else none
+-- the form of the report that the words ask for: a table where there are none, and comma separated
+-- values where there is `--csv` alone
+abbrev pub form_asked : List (List ℕ) → Option Form
+form_asked [] = Some Table
+form_asked (w ∷ []) = if bytes_eq w (codes "--csv") then Some Csv else None
+form_asked (w ∷ v ∷ ws) = None
+
+-- the words of the run that is timed: `run` where a report is asked for, and else none
+abbrev pub words_for : Option Form → List (List ℕ)
+words_for (Some form) = codes "run" ∷ []
+words_for None = []
+
 abbrev pub run_words : List (List ℕ) → List (List ℕ)
-run_words [] = codes "run" ∷ []
-run_words (w ∷ ws) = []
+run_words words = words_for (form_asked words)
 
 -- a sink that tells nothing, and has no fault
 abbrev pub silent : Sides

@@ -23,12 +23,22 @@ const READINGS: usize = 1_001;
 const SWITCHES: &str =
     "switches: std does not tell when a thread is switched away; the times have it in them\n";
 
+/// The form of a report.
+#[derive(Clone, Copy, Debug, PartialEq, Eq)]
+pub enum Form {
+    /// A table for all threads and each of several, with bars.
+    Table,
+    /// The rows of all tables as comma separated values, after a line of titles.
+    Csv,
+}
+
 /// A run, with what its times are told by.
 #[derive(Drop)]
 pub struct Told<'a, C> {
     pub run: &'a Closed,
     pub stamps: &'a Stamps<'a, C>,
     pub rate: Option<u64>,
+    pub form: Form,
 }
 
 /// The median of the times between two readings of the clock, one directly behind the other.
@@ -53,6 +63,7 @@ pub fn report_of<C: Clock + Sync>(
     reading: u64,
     run: &Closed,
     stamps: &Stamps<'_, C>,
+    form: Form,
 ) -> Result<String, OutOfMemory> {
     let config = run.config();
     let rate = if config.in_bounds() {
@@ -60,11 +71,13 @@ pub fn report_of<C: Clock + Sync>(
     } else {
         None
     };
-    let mut report = format!(in alloc;
-        "clock: one reading takes {reading} ns, and is in each time\n"
-    )?;
-    report.push_str(SWITCHES)?;
-    let told = Told { run, stamps, rate };
+    let told = Told {
+        run,
+        stamps,
+        rate,
+        form,
+    };
+    let mut report = head_of(alloc, reading, form)?;
     add_group(alloc, &told, None, &mut report)?;
     if run.threads() > 1 {
         for thread in 0..run.threads() {
@@ -74,31 +87,52 @@ pub fn report_of<C: Clock + Sync>(
     Ok(report)
 }
 
-/// Adds what was measured of the commands of one thread, or of all: a row for each kind, and the
-/// histogram of all kinds.
+/// The lines before the rows: what one reading of the clock takes, or the titles of the values.
+fn head_of(alloc: Global, reading: u64, form: Form) -> Result<String, OutOfMemory> {
+    match form {
+        Form::Table => Ok(format!(in alloc;
+            "clock: one reading takes {reading} ns, and is in each time\n{SWITCHES}"
+        )?),
+        Form::Csv => Ok(String::from_str(alloc, CSV_TITLES)?),
+    }
+}
+
+/// Adds what was measured of the commands of one thread, or of all: a row for each kind, and in a
+/// table the histogram of all kinds.
 fn add_group<C: Clock + Sync>(
     alloc: Global,
     told: &Told<'_, C>,
     thread: Option<u32>,
     report: &mut String,
 ) -> Result<(), OutOfMemory> {
-    let head = match thread {
-        Some(thread) => format!(in alloc; "\nthread {thread}\n")?,
-        None => format!(in alloc; "\nall threads\n")?,
-    };
-    report.push_str(head.as_str())?;
-    report.push_str(TITLES)?;
+    if told.form == Form::Table {
+        report.push_str(title_of(alloc, thread)?.as_str())?;
+        report.push_str(TITLES)?;
+    }
     for kind in KINDS {
         add_kind(alloc, told, thread, Some(kind), report)?;
     }
     let all = add_kind(alloc, told, thread, None, report)?;
-    add_histogram(alloc, all.times.as_slice(), report)
+    match told.form {
+        Form::Table => add_histogram(alloc, all.times.as_slice(), report),
+        Form::Csv => Ok(()),
+    }
+}
+
+fn title_of(alloc: Global, thread: Option<u32>) -> Result<String, OutOfMemory> {
+    match thread {
+        Some(thread) => Ok(format!(in alloc; "\nthread {thread}\n")?),
+        None => Ok(format!(in alloc; "\nall threads\n")?),
+    }
 }
 
 /// The titles of the columns of a row.
 const TITLES: &str =
     "kind                commands  median ns   99.9% ns longest ns  thread  command      \
 line  most turns\n";
+
+const CSV_TITLES: &str =
+    "of,kind,commands,median ns,99.9% ns,longest ns,thread,command,line,most turns\n";
 
 /// Adds the row of a kind, where there are commands of it.
 fn add_kind<C: Clock + Sync>(
@@ -112,13 +146,18 @@ fn add_kind<C: Clock + Sync>(
     let which = Which { thread, kind };
     let sample = sample_of(alloc, width, told.run, told.stamps, which)?;
     let row = Row {
+        of: thread,
         name: name_of(kind),
         commands: count_commands(width, told.run, which),
         figures: figures_of(&sample),
+        place: place_of(told, &sample),
     };
     if row.commands > 0 {
-        report.push_str(format!(in alloc; "{row}")?.as_str())?;
-        report.push_str(longest_text(alloc, told, &sample)?.as_str())?;
+        let text = match told.form {
+            Form::Table => format!(in alloc; "{row}")?,
+            Form::Csv => csv_text(alloc, &row)?,
+        };
+        report.push_str(text.as_str())?;
     }
     Ok(sample)
 }
@@ -154,43 +193,83 @@ fn figures_of(sample: &Sample) -> Option<Figures>
     })
 }
 
+/// Which command took the longest, and how many turns it has at most when it alone has them.
+#[derive(Clone, Copy, Debug)]
+struct Place {
+    thread: u32,
+    number: usize,
+    line: u64,
+    turns: Option<u64>,
+}
+
+fn place_of<C: Clock + Sync>(told: &Told<'_, C>, sample: &Sample) -> Option<Place> {
+    let one = sample.longest?;
+    Some(Place {
+        thread: one.thread,
+        number: one.number.saturating_add(1),
+        line: line_of(told.run, one.thread, one.number),
+        turns: turns_of(told, &one),
+    })
+}
+
+/// What is told of the commands of a kind, of one thread or of all.
 #[derive(Clone, Copy, Debug)]
 struct Row {
+    /// The thread, where it is of one.
+    of: Option<u32>,
     name: &'static str,
     commands: u64,
     figures: Option<Figures>,
+    place: Option<Place>,
 }
 
 impl fmt::Display for Row {
     fn fmt<W: fmt::Write>(&self, f: &mut fmt::Formatter<W>) -> fmt::Result {
         let (name, commands) = (self.name, self.commands);
         write!(f, "{name:<18}{commands:>10}")?;
-        match self.figures {
-            Some(figures) => {
-                let (median, most) = (figures.median, figures.most_of_thousand);
-                let longest = figures.longest;
-                write!(f, " {median:>10} {most:>10} {longest:>10}")
-            }
-            None => Ok(()),
+        if let Some(figures) = self.figures {
+            let (median, most) = (figures.median, figures.most_of_thousand);
+            let longest = figures.longest;
+            write!(f, " {median:>10} {most:>10} {longest:>10}")?;
         }
+        if let Some(place) = self.place {
+            let (thread, number, line) = (place.thread, place.number, place.line);
+            write!(f, " {thread:>7} {number:>8} {line:>9}")?;
+            if let Some(turns) = place.turns {
+                write!(f, " {turns:>11}")?;
+            }
+        }
+        f.write_str("\n")
     }
 }
 
-/// Which command took the longest, and how many turns it has at most when it alone has them.
-fn longest_text<C: Clock + Sync>(
-    alloc: Global,
-    told: &Told<'_, C>,
-    sample: &Sample,
-) -> Result<String, OutOfMemory> {
-    let Some(one) = &sample.longest else {
-        return Ok(format!(in alloc; "\n")?);
+/// The row as comma separated values. What a table leaves out is empty.
+fn csv_text(alloc: Global, row: &Row) -> Result<String, OutOfMemory> {
+    let (name, commands) = (row.name, row.commands);
+    let of = match row.of {
+        Some(thread) => format!(in alloc; "{thread}")?,
+        None => format!(in alloc; "all")?,
     };
-    let (thread, number) = (one.thread, one.number.saturating_add(1));
-    let line = line_of(told.run, thread, one.number);
-    let place = format!(in alloc; " {thread:>7} {number:>8} {line:>9}")?;
-    match turns_of(told, one) {
-        Some(turns) => Ok(format!(in alloc; "{place} {turns:>11}\n")?),
-        None => Ok(format!(in alloc; "{place}\n")?),
+    let figures = match row.figures {
+        Some(figures) => {
+            let (median, most) = (figures.median, figures.most_of_thousand);
+            let longest = figures.longest;
+            format!(in alloc; "{median},{most},{longest}")?
+        }
+        None => format!(in alloc; ",,")?,
+    };
+    let place = match row.place {
+        Some(place) => place_text(alloc, &place)?,
+        None => format!(in alloc; ",,,")?,
+    };
+    Ok(format!(in alloc; "{of},{name},{commands},{figures},{place}\n")?)
+}
+
+fn place_text(alloc: Global, place: &Place) -> Result<String, OutOfMemory> {
+    let (thread, number, line) = (place.thread, place.number, place.line);
+    match place.turns {
+        Some(turns) => Ok(format!(in alloc; "{thread},{number},{line},{turns}")?),
+        None => Ok(format!(in alloc; "{thread},{number},{line},")?),
     }
 }
 

@@ -138,11 +138,40 @@ all                       26       1016       1028       1028       1       25  
             1024 ns          5 ###############
 ";
 
-/// Runs the job of this input by this clock, and compares the status and what is written.
+/// The reports of the two jobs as comma separated values.
+const VALUES: &str = "of,kind,commands,median ns,99.9% ns,longest ns,thread,command,line,most turns
+all,1 block,1,1000,1000,1000,0,4,6,139
+all,2 blocks,1,1000,1000,1000,0,1,3,252
+all,get and put,2,1000,1000,1000,0,2,4,66
+all,others,1,,,,,,,
+all,all,5,1000,1000,1000,0,1,3,252
+";
+
+const LATER_VALUES: &str =
+    "of,kind,commands,median ns,99.9% ns,longest ns,thread,command,line,most turns
+all,1 block,1,1007,1007,1007,1,4,7,188
+all,2 blocks,1,1004,1004,1004,1,1,4,346
+all,3 to 4 blocks,1,1008,1008,1008,1,5,8,662
+all,5 to 8 blocks,1,1009,1009,1009,1,6,9,1294
+all,get and put,2,1005,1006,1006,1,3,6,72
+all,others,20,1019,1028,1028,1,25,28,72
+all,all,26,1016,1028,1028,1,25,28,72
+1,1 block,1,1007,1007,1007,1,4,7,188
+1,2 blocks,1,1004,1004,1004,1,1,4,346
+1,3 to 4 blocks,1,1008,1008,1008,1,5,8,662
+1,5 to 8 blocks,1,1009,1009,1009,1,6,9,1294
+1,get and put,2,1005,1006,1006,1,3,6,72
+1,others,20,1019,1028,1028,1,25,28,72
+1,all,26,1016,1028,1028,1,25,28,72
+";
+
+/// Runs the job of this input with these words and by this clock, and compares the status and what
+/// is written.
 fn answers<C: Clock + Sync>(
     rt: &(impl Abort + Threads + Wait + Sync),
     alloc: Global,
     clock: &C,
+    words: &[String],
     input: &str,
     status: u8,
     written: &str,
@@ -152,7 +181,7 @@ fn answers<C: Clock + Sync>(
     let mut sink = MemSink::new(alloc, 4000, Vec::new(alloc))
         .ok()
         .ok_or("memory")?;
-    let exit = timed(rt, clock, alloc, &[], &mut source, &mut sink)
+    let exit = timed(rt, clock, alloc, words, &mut source, &mut sink)
         .ok()
         .ok_or("memory")?;
     let text = std::str::from_utf8(sink.bytes()).ok().ok_or("no text")?;
@@ -166,7 +195,7 @@ fn times_are_told_by_kind(rt: HostRuntime) -> Result<(), Fail> {
     let clock = Ticks {
         count: AtomicU64::new(1),
     };
-    answers(&rt, rt.alloc(), &clock, JOB, 0, REPORT)
+    answers(&rt, rt.alloc(), &clock, &[], JOB, 0, REPORT)
 }
 
 #[test]
@@ -174,7 +203,20 @@ fn times_that_differ_are_told(rt: HostRuntime) -> Result<(), Fail> {
     let clock = Growing {
         count: AtomicU64::new(1),
     };
-    answers(&rt, rt.alloc(), &clock, LATER, 0, LATER_REPORT)
+    answers(&rt, rt.alloc(), &clock, &[], LATER, 0, LATER_REPORT)
+}
+
+#[test]
+fn times_are_written_as_values(rt: HostRuntime) -> Result<(), Fail> {
+    let words = vec![in rt.alloc(); String::from_str(rt.alloc(), "--csv")?]?;
+    let ticks = Ticks {
+        count: AtomicU64::new(1),
+    };
+    answers(&rt, rt.alloc(), &ticks, &words, JOB, 0, VALUES)?;
+    let growing = Growing {
+        count: AtomicU64::new(1),
+    };
+    answers(&rt, rt.alloc(), &growing, &words, LATER, 0, LATER_VALUES)
 }
 
 #[test]
@@ -183,5 +225,5 @@ fn a_refusal_is_written_in_place_of_times(rt: HostRuntime) -> Result<(), Fail> {
         count: AtomicU64::new(1),
     };
     let refusal = "rtheap: line 1: header\n";
-    answers(&rt, rt.alloc(), &clock, "rtheap 1\n", 3, refusal)
+    answers(&rt, rt.alloc(), &clock, &[], "rtheap 1\n", 3, refusal)
 }

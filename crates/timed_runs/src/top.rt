@@ -1,15 +1,16 @@
 //! The top call.
 
-ghost use Rattle.std.specs.Prelude.{◌≡◌, ◌≢◌, map, string_bytes, IfOk, OnErr, IfSome};
+ghost use Rattle.std.specs.Prelude.{◌≡◌, ◌≢◌, ◌∷◌, [], map, string_bytes, IfOk, OnErr, IfSome};
 ghost use Rattle.rtheap_core.specs.Calls.{IsCarriedOut, IsComplete};
 ghost use Rattle.rtheap_core.specs.Exits.{NeverFull};
 ghost use Rattle.call_exits.specs.Exits.{IsToldBy};
 ghost use Rattle.call_exits.specs.Sides.{sides, IsUntouched};
-ghost use Rattle.timed_runs.specs.Calls.{run_words, silent, IsReported, IsTimed};
+ghost use Rattle.timed_runs.specs.Calls.{form_asked, run_words, words_for};
+ghost use Rattle.timed_runs.specs.Calls.{silent, IsReported, IsTimed};
 
 use crate::counted::Counted;
 use crate::stamps::Stamps;
-use crate::telling::{reading_time, report_of};
+use crate::telling::{Form, reading_time, report_of};
 use block_store::OutOfMemory;
 use call_exits::{Refusal, refused};
 use rtheap_core::{Exit, RunEnd, rtheap};
@@ -27,8 +28,9 @@ pub struct TimedExit {
 }
 
 /// Runs the job of the source as `rtheap run` does, puts the replies into a sink that counts, and
-/// writes how long the commands took, as one report by one `put`. Of the times nothing is proved:
-/// they are what the clock read. A refusal of the run is written in place of them.
+/// writes how long the commands took, as one report by one `put`: with no words as tables, and with
+/// the word `--csv` as comma separated values. Of the times nothing is proved: they are what the
+/// clock read. A refusal of the run is written in place of them.
 ///
 /// The status is 0 where the report was written, 6 where the sink failed, and 7 where there was no
 /// memory for the report; and where no run came to its end, that of the run, or 6.
@@ -64,27 +66,50 @@ pub fn timed<R: Threads + Wait + Sync, C: Clock + Sync, S: Source, K: Sink>(
     ensures unread { OnErr result (IsUntouched (sides S.left S.faults source.old source.new)) }
     ensures unwritten { OnErr result (IsUntouched (sides K.held K.faults sink.old sink.new)) }
 {
-    let asked = asked(alloc, words)?;
+    let form = form_of(words);
+    let asked = asked(alloc, form)?;
     let stamps = Stamps::new(alloc, clock)?;
     let reading = reading_time(alloc, clock)?;
     let mut counted = Counted::new(alloc);
     let exit = rtheap(rt, alloc, &asked, source, &mut counted, &stamps);
     let status = match &exit.run {
-        Some(RunEnd::Ran(run)) => reported(report_of(alloc, reading, run, &stamps), sink),
+        Some(RunEnd::Ran(run)) => {
+            let form = form.unwrap_or(Form::Table);
+            reported(report_of(alloc, reading, run, &stamps, form), sink)
+        }
         Some(RunEnd::Replayed(_)) => retold(exit.status, &counted, sink),
         None => retold(exit.status, &counted, sink),
     };
     Ok(TimedExit { status, exit })
 }
 
-/// The words of the run: `run` where there are none, and else none, which asks for nothing.
-fn asked(alloc: Global, words: &[String]) -> Result<Vec<String>, OutOfMemory>
-    ensures { IfOk result (λ v. map (λ w. string_bytes w) v.items
-        ≡ run_words (map (λ w. string_bytes w) words.now)) }
+/// The form of the report that the words ask for.
+fn form_of(words: &[String]) -> Option<Form>
+    ensures { result ≡ form_asked (map (λ w. string_bytes w) words.now) }
 {
     match words {
-        [] => Ok(vec![in alloc; String::from_str(alloc, "run")?]?),
-        _ => Ok(Vec::new(alloc)),
+        [] => Some(Form::Table),
+        [word] => form_of_word(word.as_str()),
+        _ => None,
+    }
+}
+
+fn form_of_word(word: &str) -> Option<Form>
+    ensures { result ≡ form_asked (word.now ∷ []) }
+{
+    match word {
+        "--csv" => Some(Form::Csv),
+        _ => None,
+    }
+}
+
+/// The words of the run: `run` where a report is asked for, and else none, which ask for nothing.
+fn asked(alloc: Global, form: Option<Form>) -> Result<Vec<String>, OutOfMemory>
+    ensures { IfOk result (λ v. map (λ w. string_bytes w) v.items ≡ words_for form) }
+{
+    match form {
+        Some(_) => Ok(vec![in alloc; String::from_str(alloc, "run")?]?),
+        None => Ok(Vec::new(alloc)),
     }
 }
 

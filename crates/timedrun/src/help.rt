@@ -1,8 +1,9 @@
 //! What the program prints about itself.
 
 pub const HELP: &str = "\
-usage: timedrun < JOB   runs a job on real threads, as `rtheap run` does, and prints how long its
-                        commands took: by kind and by blocks, of all threads and of each
+usage: timedrun < JOB         runs a job on real threads, as `rtheap run` does, and prints how long
+                              its commands took: by kind and by blocks, of all threads and of each
+       timedrun --csv < JOB   prints the rows of its tables as comma separated values
 
 Times are what the clock read, in nanoseconds: measured, not proved. The last column is the most
 turns that the command of the longest time takes, by a theorem, if no other thread has turns. The
