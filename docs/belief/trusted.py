@@ -37,9 +37,11 @@ def axioms_in(log):
     for line in log.splitlines():
         if line.startswith("== "):
             name = line[3:] if line[3:] in linked() else None
-        got = re.match(r"axioms \w+: (.*) \(\d+ of the \d+ declared\)$", line)
+        got = re.match(r"axioms (\w+): (.*) \((\d+) of the \d+ declared\)$", line)
         if got and name:
-            found.setdefault(name, []).extend(got[1].split(", "))
+            library, shown, count = got.groups()
+            names = [it for it in shown.replace(f"{library}::", "").split(", ") if it != "..."]
+            found.setdefault(name, []).append(f"{library}={count}:{','.join(names)}")
     return found
 
 
@@ -218,7 +220,16 @@ def trusted():
 
 
 def axioms_text(axioms):
-    return " ".join(f"`{axiom}`" for axiom in axioms) if axioms else "not recorded"
+    return "; ".join(map(library_text, axioms)) if axioms else "not recorded"
+
+
+def library_text(axioms):
+    """How many functions of a library, and the first of them, as `rt ci` names them."""
+    library, count, names = re.match(r"(\w+)=(\d+):(.*)$", axioms).groups()
+    shown = [f"`{name}`" for name in names.split(",")]
+    if len(shown) < int(count):
+        shown.append("..")
+    return f"{count} of {library}: {', '.join(shown)}"
 
 
 def table_text(heads, rows):
