@@ -9,8 +9,9 @@
 //!     machine measure [serial]        as run or serial, but prints turns, units and waits, and the
 //!                                     most turns of a command by the blocks that it asks for, and
 //!                                     of an idle by its units
-//!     machine worst CYCLES            the most turns of an allocation of 1 block and more in a job that
-//!                                     is made for the worst, of this header (bench/worst.rs)
+//!     machine worst CYCLES            the most turns of an allocation of 1 block and more, and of
+//!                                     each other command, in a job that is made for the worst, of
+//!                                     this header (bench/worst.rs)
 
 use std::cell::Cell;
 use std::collections::BTreeMap;
@@ -149,6 +150,24 @@ impl Command {
             Command::New { fields, .. } => blocks_of_record(width, fields as usize),
             Command::Arr { elements, .. } => blocks_of_array(width, elements as usize),
             _ => 0,
+        }
+    }
+
+    fn word(&self) -> &'static str {
+        match *self {
+            Command::New { .. } => "new",
+            Command::Arr { .. } => "arr",
+            Command::Set { .. } => "set",
+            Command::Nil { .. } => "nil",
+            Command::Mov { .. } => "mov",
+            Command::Get { .. } => "get",
+            Command::Put { .. } => "put",
+            Command::Len { .. } => "len",
+            Command::Same { .. } => "same",
+            Command::Say { .. } => "say",
+            Command::Swap { .. } => "swap",
+            Command::Cas { .. } => "cas",
+            Command::Idle { .. } => "idle",
         }
     }
 
@@ -1516,6 +1535,9 @@ fn main() -> ExitCode {
             let worst = worst::worst(read_job().config, cycles.parse().unwrap());
             for (blocks, turns) in (1..).zip(worst.most_turns) {
                 println!("blocks {blocks} most turns {turns} rate {}", worst.rate);
+            }
+            for (command, turns) in worst.others {
+                println!("{} {} most turns {turns}", command.word(), command.told());
             }
         }
         _ => {

@@ -38,32 +38,30 @@ static void boehm_new(void) {
 #else
 
 static rtheap heap = RTHEAP_CLOSED;
-static rtheap_reply reply;
 
-/* Ends the program unless the command was answered as it should be. */
-static void wanted(rtheap_status status, rtheap_kind kind) {
-    if (status != RTHEAP_OK || reply.kind != (uint32_t)kind) {
-        fprintf(stderr, "bench: %s, reply %lu\n", rtheap_text(status), (unsigned long)reply.kind);
-        exit(1);
-    }
+/* Ends the program if a command was not done. */
+static void must(rtheap_status status) {
+    if (status == RTHEAP_OK) return;
+    fprintf(stderr, "bench: %s\n", rtheap_text(status));
+    exit(1);
 }
 
 /* Register 1 has the newest record, and 2 the first of a list through fields 0. */
-static void heap_new(void) { wanted(rtheap_new(&heap, 1, 2, &reply), RTHEAP_NEW); }
+static void heap_new(void) { must(rtheap_new(&heap, 1, 2)); }
 
-static void heap_get(void) { wanted(rtheap_get(&heap, 3, 2, 0, &reply), RTHEAP_REF); }
+static void heap_get(void) { must(rtheap_get(&heap, 3, 2, 0, NULL)); }
 
-static void heap_put(void) { wanted(rtheap_put(&heap, 1, 1, 2, &reply), RTHEAP_STORED); }
+static void heap_put(void) { must(rtheap_put(&heap, 1, 1, 2)); }
 
-static void heap_set(void) { wanted(rtheap_set(&heap, 4, 7, &reply), RTHEAP_STORED); }
+static void heap_set(void) { must(rtheap_set(&heap, 4, 7)); }
 
 static void open_heap(void) {
     int i;
-    if (rtheap_open(&heap, 2, 4096, 1024, 32, 40) != RTHEAP_OK) exit(1);
+    must(rtheap_open(&heap, 2, 4096, 1024, 32, 40));
     for (i = 0; i < LIVE; i++) {
         heap_new();
-        wanted(rtheap_put(&heap, 1, 0, 2, &reply), RTHEAP_STORED);
-        wanted(rtheap_mov(&heap, 2, 1, &reply), RTHEAP_STORED);
+        must(rtheap_put(&heap, 1, 0, 2));
+        must(rtheap_mov(&heap, 2, 1));
     }
 }
 

@@ -1,18 +1,30 @@
-/* Opens a heap, stores a new record in its shared array and closes the heap. Prints
-   `done, stored: 1`. */
+/* Makes a record of two fields, stores the reading 1250 in its field 0 and the record in element 7
+   of a table of 80, reads it back and prints it. */
+#include <inttypes.h>
 #include <stdio.h>
+#include <stdlib.h>
 #include "rtheap.h"
+
+enum { TABLE = 0, RECORD = 1, NUMBER = 2 }; /* registers */
+
+/* Ends the program if a call was refused or failed. */
+static void must(rtheap_status status) {
+    if (status == RTHEAP_OK) return;
+    fprintf(stderr, "%s\n", rtheap_text(status));
+    exit(1);
+}
 
 int main(void) {
     rtheap heap = RTHEAP_CLOSED;
-    rtheap_reply reply = {0, 0, 0};
-    /* version 2, 512 blocks, at most 128 of them live; register 0: an array of 80 elements */
-    rtheap_status status = rtheap_open(&heap, 2, 512, 128, 1, 80);
-    /* register 1: a new record with 2 fields */
-    if (status == RTHEAP_OK) status = rtheap_new(&heap, 1, 2, &reply);
-    /* element 7 of the array: what register 1 holds */
-    if (status == RTHEAP_OK && reply.kind == RTHEAP_NEW)
-        status = rtheap_put(&heap, 0, 7, 1, &reply);
-    printf("%s, stored: %d\n", rtheap_text(status), reply.kind == RTHEAP_STORED);
-    return rtheap_close(&heap) == RTHEAP_OK ? 0 : 1;
+    rtheap_value value;
+    must(rtheap_open(&heap, 2, 512, 128, 1, 80)); /* 512 blocks, 128 live */
+    must(rtheap_new(&heap, RECORD, 2));
+    must(rtheap_set(&heap, NUMBER, 1250));
+    must(rtheap_put(&heap, RECORD, 0, NUMBER));
+    must(rtheap_put(&heap, TABLE, 7, RECORD));
+    must(rtheap_get(&heap, RECORD, TABLE, 7, NULL));
+    must(rtheap_get(&heap, NUMBER, RECORD, 0, &value));
+    printf("%" PRIu64 "\n", value.number);
+    rtheap_close(&heap);
+    return 0;
 }

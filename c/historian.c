@@ -10,51 +10,36 @@
 enum { KEPT = 40 };
 
 /* Registers. Elements 0 to 39 of the table are the readings, and 40 to 79 the alarms among them. */
-enum { TABLE = 0, RECORD = 1, NUMBER = 2, FOUND = 3, VALUE = 4, NONE = 5 };
+enum { TABLE = 0, RECORD = 1, NUMBER = 2, FOUND = 3, NONE = 4 };
 
 static rtheap heap = RTHEAP_CLOSED;
 
-/* Ends the program unless the reply has this kind. */
-static rtheap_reply wanted(rtheap_status status, rtheap_reply reply, rtheap_kind kind) {
-    if (status != RTHEAP_OK) {
-        fprintf(stderr, "historian: %s\n", rtheap_text(status));
-        exit(9);
-    }
-    if (reply.kind != (uint32_t)kind) {
-        fprintf(stderr, "historian: reply %" PRIu32 "\n", reply.kind);
-        exit(9);
-    }
-    return reply;
+/* Ends the program if a command was not done. */
+static void must(rtheap_status status) {
+    if (status == RTHEAP_OK) return;
+    fprintf(stderr, "historian: %s\n", rtheap_text(status));
+    exit(9);
 }
 
-static void keep(uint64_t count, uint64_t reading, int alarm) {
-    rtheap_reply r = {0, 0, 0};
-    rtheap_status s = rtheap_new(&heap, RECORD, 1, &r);
-    wanted(s, r, RTHEAP_NEW);
-    s = rtheap_set(&heap, NUMBER, reading, &r);
-    wanted(s, r, RTHEAP_STORED);
-    s = rtheap_put(&heap, RECORD, 0, NUMBER, &r);
-    wanted(s, r, RTHEAP_STORED);
-    s = rtheap_put(&heap, TABLE, count % KEPT, RECORD, &r);
-    wanted(s, r, RTHEAP_STORED);
-    s = rtheap_put(&heap, TABLE, KEPT + count % KEPT, alarm ? RECORD : NONE, &r);
-    wanted(s, r, RTHEAP_STORED);
+static void keep(uint64_t count, uint64_t reading, bool alarm) {
+    must(rtheap_new(&heap, RECORD, 1));
+    must(rtheap_set(&heap, NUMBER, reading));
+    must(rtheap_put(&heap, RECORD, 0, NUMBER));
+    must(rtheap_put(&heap, TABLE, count % KEPT, RECORD));
+    must(rtheap_put(&heap, TABLE, KEPT + count % KEPT, alarm ? RECORD : NONE));
 }
 
 static uint64_t reading_at(uint64_t i) {
-    rtheap_reply r = {0, 0, 0};
-    rtheap_status s = rtheap_get(&heap, FOUND, TABLE, i % KEPT, &r);
-    wanted(s, r, RTHEAP_REF);
-    s = rtheap_get(&heap, VALUE, FOUND, 0, &r);
-    return wanted(s, r, RTHEAP_INT).value;
+    rtheap_value value;
+    must(rtheap_get(&heap, FOUND, TABLE, i % KEPT, NULL));
+    must(rtheap_get(&heap, NUMBER, FOUND, 0, &value));
+    return value.number;
 }
 
-static int is_alarm(uint64_t i) {
-    rtheap_reply r = {0, 0, 0};
-    rtheap_status s = rtheap_get(&heap, FOUND, TABLE, KEPT + i % KEPT, &r);
-    if (s == RTHEAP_OK && r.kind == RTHEAP_NIL) return 0;
-    wanted(s, r, RTHEAP_REF);
-    return 1;
+static bool is_alarm(uint64_t i) {
+    rtheap_value value;
+    must(rtheap_get(&heap, FOUND, TABLE, KEPT + i % KEPT, &value));
+    return value.kind == RTHEAP_REF;
 }
 
 int main(void) {

@@ -73,24 +73,22 @@ static void open_with_failures(rtheap *heap) {
 /* Commands of each kind, through some cycles of collection. */
 static void work(rtheap *heap) {
     unsigned long n;
-    rtheap_reply reply;
     for (n = 0; n < 3000; n++) {
-        rtheap_status status = RTHEAP_OK;
-        if (!status) status = rtheap_new(heap, 1, 20, &reply);
-        if (!status) status = rtheap_set(heap, 2, n, &reply);
-        if (!status) status = rtheap_put(heap, 1, 19, 2, &reply);
-        if (!status) status = rtheap_arr(heap, 3, 9, &reply);
-        if (!status) status = rtheap_put(heap, 0, n % 40, 3, &reply);
-        if (!status) status = rtheap_swap(heap, 0, n % 40, 1, &reply);
-        if (!status) status = rtheap_cas(heap, 0, n % 40, 2, 3, &reply);
-        if (!status) status = rtheap_get(heap, 4, 0, n % 40, &reply);
-        if (!status) status = rtheap_len(heap, 4, &reply);
-        if (!status) status = rtheap_mov(heap, 5, 4, &reply);
-        if (!status) status = rtheap_same(heap, 4, 5, &reply);
-        if (!status) status = rtheap_say(heap, 5, &reply);
-        if (!status) status = rtheap_nil(heap, 5, &reply);
-        if (!status) status = rtheap_idle(heap, 10, &reply);
-        check(status == RTHEAP_OK, "a command was refused", n);
+        rtheap_status status = rtheap_new(heap, 1, 20);
+        if (!status) status = rtheap_set(heap, 2, n);
+        if (!status) status = rtheap_put(heap, 1, 19, 2);
+        if (!status) status = rtheap_arr(heap, 3, 9);
+        if (!status) status = rtheap_put(heap, 0, n % 40, 3);
+        if (!status) status = rtheap_swap(heap, 0, n % 40, 1, NULL);
+        if (!status) status = rtheap_cas(heap, 0, n % 40, 2, 3, NULL);
+        if (!status) status = rtheap_get(heap, 4, 0, n % 40, NULL);
+        if (!status) status = rtheap_len(heap, 4, NULL);
+        if (!status) status = rtheap_mov(heap, 5, 4);
+        if (!status) status = rtheap_same(heap, 4, 5, NULL);
+        if (!status) status = rtheap_say(heap, 5, NULL);
+        if (!status) status = rtheap_nil(heap, 5);
+        if (!status) status = rtheap_idle(heap, 10);
+        check(status == RTHEAP_OK, "a command failed", n);
         check(rtheap_asked(heap) == 14 * (n + 1), "commands counted", n);
     }
 }

@@ -1,5 +1,6 @@
 /* Carries out the commands of a job of one thread one by one, and prints each reply as `rtheap run`
-   does, with the units of collection that the command did. */
+   does, with the units of collection that the command did. It takes whole replies, so it calls the
+   exports of the library. */
 #include <inttypes.h>
 #include <stdio.h>
 #include <string.h>
@@ -9,19 +10,19 @@
 static void print_reply(const rtheap_reply *r, uint64_t work, int pays) {
     printf("0 ");
     switch (r->kind) {
-    case RTHEAP_NEW: printf("new %" PRIu32 ".%" PRIu64, r->thread, r->value); break;
-    case RTHEAP_FULL: printf("full %" PRIu64, r->value); break;
-    case RTHEAP_STORED: printf("ok"); break;
-    case RTHEAP_NIL: printf("nil"); break;
-    case RTHEAP_INT: printf("int %" PRIu64, r->value); break;
-    case RTHEAP_REF: printf("ref %" PRIu32 ".%" PRIu64, r->thread, r->value); break;
-    case RTHEAP_LEN: printf("len %" PRIu64, r->value); break;
-    case RTHEAP_YES: printf("yes"); break;
-    case RTHEAP_NO: printf("no"); break;
-    case RTHEAP_NULL: printf("null"); break;
-    case RTHEAP_KIND: printf("kind"); break;
-    case RTHEAP_RANGE: printf("range"); break;
-    case RTHEAP_IDLED: printf("idle"); break;
+    case RTHEAP_REPLY_NEW: printf("new %" PRIu32 ".%" PRIu64, r->thread, r->value); break;
+    case RTHEAP_REPLY_FULL: printf("full %" PRIu64, r->value); break;
+    case RTHEAP_REPLY_STORED: printf("ok"); break;
+    case RTHEAP_REPLY_NIL: printf("nil"); break;
+    case RTHEAP_REPLY_INT: printf("int %" PRIu64, r->value); break;
+    case RTHEAP_REPLY_REF: printf("ref %" PRIu32 ".%" PRIu64, r->thread, r->value); break;
+    case RTHEAP_REPLY_LEN: printf("len %" PRIu64, r->value); break;
+    case RTHEAP_REPLY_YES: printf("yes"); break;
+    case RTHEAP_REPLY_NO: printf("no"); break;
+    case RTHEAP_REPLY_NULL: printf("null"); break;
+    case RTHEAP_REPLY_KIND: printf("kind"); break;
+    case RTHEAP_REPLY_RANGE: printf("range"); break;
+    case RTHEAP_REPLY_IDLED: printf("idle"); break;
     default: printf("unknown reply"); break;
     }
     if (pays) printf(" work %" PRIu64, work);
@@ -46,23 +47,25 @@ int main(void) {
     while (scanf("%15s", word) == 1 && strcmp(word, "end") != 0) {
         uint64_t n[4] = {0, 0, 0, 0}, before = rtheap_units_left(&heap), work;
         int i = 0, pays = !strcmp(word, "new") || !strcmp(word, "arr") || !strcmp(word, "idle");
+        uint32_t done;
         rtheap_reply r;
         while (i < 4 && scanf("%" SCNu64, &n[i]) == 1) i++;
 #define R(k) (n[k] > UINT32_MAX ? UINT32_MAX : (uint32_t)n[k])
-        if (!strcmp(word, "new")) status = rtheap_new(&heap, R(0), R(1), &r);
-        else if (!strcmp(word, "arr")) status = rtheap_arr(&heap, R(0), R(1), &r);
-        else if (!strcmp(word, "set")) status = rtheap_set(&heap, R(0), n[1], &r);
-        else if (!strcmp(word, "nil")) status = rtheap_nil(&heap, R(0), &r);
-        else if (!strcmp(word, "mov")) status = rtheap_mov(&heap, R(0), R(1), &r);
-        else if (!strcmp(word, "get")) status = rtheap_get(&heap, R(0), R(1), n[2], &r);
-        else if (!strcmp(word, "put")) status = rtheap_put(&heap, R(0), n[1], R(2), &r);
-        else if (!strcmp(word, "len")) status = rtheap_len(&heap, R(0), &r);
-        else if (!strcmp(word, "same")) status = rtheap_same(&heap, R(0), R(1), &r);
-        else if (!strcmp(word, "say")) status = rtheap_say(&heap, R(0), &r);
-        else if (!strcmp(word, "swap")) status = rtheap_swap(&heap, R(0), n[1], R(2), &r);
-        else if (!strcmp(word, "cas")) status = rtheap_cas(&heap, R(0), n[1], R(2), R(3), &r);
-        else if (!strcmp(word, "idle")) status = rtheap_idle(&heap, n[0], &r);
+        if (!strcmp(word, "new")) done = rtheap_raw_new(&heap, R(0), R(1), &r);
+        else if (!strcmp(word, "arr")) done = rtheap_raw_arr(&heap, R(0), R(1), &r);
+        else if (!strcmp(word, "set")) done = rtheap_raw_set(&heap, R(0), n[1], &r);
+        else if (!strcmp(word, "nil")) done = rtheap_raw_nil(&heap, R(0), &r);
+        else if (!strcmp(word, "mov")) done = rtheap_raw_mov(&heap, R(0), R(1), &r);
+        else if (!strcmp(word, "get")) done = rtheap_raw_get(&heap, R(0), R(1), n[2], &r);
+        else if (!strcmp(word, "put")) done = rtheap_raw_put(&heap, R(0), n[1], R(2), &r);
+        else if (!strcmp(word, "len")) done = rtheap_raw_len(&heap, R(0), &r);
+        else if (!strcmp(word, "same")) done = rtheap_raw_same(&heap, R(0), R(1), &r);
+        else if (!strcmp(word, "say")) done = rtheap_raw_say(&heap, R(0), &r);
+        else if (!strcmp(word, "swap")) done = rtheap_raw_swap(&heap, R(0), n[1], R(2), &r);
+        else if (!strcmp(word, "cas")) done = rtheap_raw_cas(&heap, R(0), n[1], R(2), R(3), &r);
+        else if (!strcmp(word, "idle")) done = rtheap_raw_idle(&heap, n[0], &r);
         else return 3;
+        status = rtheap_status_of(done);
         if (status != RTHEAP_OK) {
             printf("%s: %s\n", word, rtheap_text(status));
             return 5;

@@ -1,6 +1,6 @@
 """The page docs/TRUST.md."""
 from clauses import belief_of
-from printing import counted, place, shown, sum_of, table, words_by_crate, wrapped
+from printing import counted, place, sum_of, table, words_by_crate, wrapped
 from promises import PROMISES
 from trusted import trusted
 
@@ -9,9 +9,10 @@ HEAD = """# What must be believed
 `docs/believed` prints this page; do not edit it. `.ci/run` fails if the two differ.
 
 The kit proves that a clause holds. That the clause says what is wanted is for a reader to judge.
-For that he reads what it cites: the definitions of `crates/*/specs/` and the types of
-`crates/*/src/` in these tables, down to words of the kit. `docs/believed --text history` prints all
-definitions of one promise, each after those that it cites. The last section lists what must be
+For that he reads what it cites: definitions of `crates/*/specs/` and types of `crates/*/src/`, down
+to words of the kit. This page has, for each promise, the files with the number of lines that it
+needs of each. `docs/believed history` lists the definitions of one promise, and `docs/believed
+--text history` prints them, each after those that it cites. The last section lists what must be
 believed besides definitions.
 
 **What is listed.** The clauses of a promised call, with all that it requires, the types of its
@@ -20,9 +21,9 @@ trait comes with its supertraits, a constant with the macros of its value, a typ
 fields. Of a record that makes a claim all fields are read, or those that a promise names. Of a
 record of values only fields that a listed definition reads are listed; what is put into the others
 is not followed. If clauses see a type by a model, only the line that names the model is listed. If
-a listed definition cites a name of `proofs/`, `docs/believed` fails. Each table has the definitions
-that no table above has. Lines are of code, without blanks, comments, `use` lines and attributes,
-and then with the comments above and between them."""
+a listed definition cites a name of `proofs/`, `docs/believed` fails. Each section has the lines
+that no section above has. Lines are of code, without blanks, comments, `use` lines and attributes;
+the table has them also with the comments above and between them."""
 
 
 def rows_of(belief):
@@ -75,22 +76,19 @@ def clauses_line(promise):
 
 
 def section(promise, belief, before):
-    """A promise with the definitions that no earlier table has."""
-    rows, shared = [], [0, 0]
+    """A promise with the files of which no earlier section has all lines that it needs."""
+    files, shared = [], [0, 0]
     for row, kept in rows_of(belief):
-        fresh = [(it, parts, belief.lines(it, parts) - before.get(it, set())) for it, parts in kept]
-        fresh = [one for one in fresh if one[2]]
-        code, whole = map(sum, zip((0, 0), *(counted(it, lines) for it, _, lines in fresh)))
-        if fresh:
-            names = ", ".join(shown(belief, it, parts) for it, parts, _ in fresh)
-            rows.append((f"`{row}`", code, whole, names))
+        fresh = [(it, belief.lines(it, parts) - before.get(it, set())) for it, parts in kept]
+        code = sum(counted(it, lines)[0] for it, lines in fresh if lines)
+        if code:
+            files.append(f"`{short(row)}` {code}")
         known = sum_of(belief, kept)[0] - code
         shared = [shared[0] + (known > 0), shared[1] + known]
     lines = ["", f"## {promise.head}", promise.said.rstrip(), "", wrapped(clauses_line(promise)),
-             "", *table(["File", "Lines", "With comments", "Definitions"], rows)]
+             "", wrapped("Lines by file: " + ", ".join(files) + ".")]
     if shared[1]:
-        lines += ["", f"From the tables above: {shared[1]} lines of {shared[0]} files "
-                      f"(`docs/believed {promise.name}` lists them)."]
+        lines += ["", f"From the sections above: {shared[1]} lines of {shared[0]} files."]
     return lines
 
 

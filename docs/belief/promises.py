@@ -44,10 +44,10 @@ limit were live when that cycle began. If no cycle began with more, no entry is 
             {**PRINTED, "HasHistory": "is_run", "IsRun": "legal traces_whole licensed"}),
     Promise("bound", "Bound of a lone thread", """
 If nobody is inside the heap, the gate is open and from then on one thread alone has turns, its
-command ends within the bound, and none of those turns waits. That holds for each command
-(`command_bound`), and for an allocation with the tighter bound too (`near_bound`).""",
+command ends within the bound, and none of those turns waits. That holds with the stated bound
+(`command_bound`) and with the tighter one (`command_near`).""",
             ["heap_system::a_lone_thread_ends_its_command",
-             "heap_system::a_lone_allocation_ends_near_its_bound"]),
+             "heap_system::a_lone_command_ends_near_its_bound"]),
     Promise("checker", "Order checker", """
 If the source reveals its bytes, `due` is 0 only if they are a job that has a rate, followed by the
 lines, in order, of a history of that job in which a cycle may start anywhere; and 9 only if a line

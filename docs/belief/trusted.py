@@ -13,7 +13,8 @@ KIT = Path(__file__).resolve().parent / "kit.txt"
 # what is trusted and no executable file at the top of the repository, and what it is for
 OTHERS = {
     "c/rtheap.h": "declares the calls from C, and refuses null handles",
-    "c/build": "makes the static library",
+    "c/lent_memory.c": "gives the heap from C lent words, in place of `malloc`",
+    "c/build": "makes the static libraries",
     ".ci/run": "runs the gate",
     "docs/believed": "makes this page, with docs/belief/",
     "docs/steps": "checks the text of the code that makes events",
@@ -208,10 +209,13 @@ def trusted():
     """The lines of the section."""
     kit, kept = kept_kit()
     libraries = ", ".join(f"`{name}`" for name in kit_libraries())
-    axioms = [(f"`{name}`", axioms_text(kept.get(name))) for name in linked()]
+    alike = {}
+    for name in linked():
+        alike.setdefault(axioms_text(kept.get(name)), []).append(f"`{name}`")
+    axioms = [(" ".join(names), said) for said, names in alike.items()]
     text = TEXT.format(
         kit=kit, libraries=libraries, lemmas=lemmas_text(),
-        axioms=table_text(["Program", "Functions outside of Rattle"], axioms),
+        axioms=table_text(["Programs", "Functions outside of Rattle"], axioms),
         programs=table_text(["Program", "Lines", "Streams and buffers, by lines", "Calls"],
                             [program_row(name) for name in linked() if main_of(name).exists()]),
         streams=table_text(["Stream", "File", "Lines of the file"], stream_rows()),

@@ -1,7 +1,7 @@
 //! Whole calls of `handles`: the lines that they write, their statuses, and threads beside each
 //! other.
 
-use crate::calling::{Program, ends, made, meets};
+use crate::calling::{Program, ends, made, meets, reads_no_more, records_at};
 use lent_calls::Call;
 use never_heap::NoPace;
 use std::alloc::Global;
@@ -61,6 +61,25 @@ fn slots_are_kept_where_their_heap_has_a_rate(rt: HostRuntime) -> Result<(), Fai
         )?;
     }
     Ok(())
+}
+
+#[test]
+fn each_make_makes_two_records_and_pays_the_rate(rt: HostRuntime) -> Result<(), Fail> {
+    let alloc = rt.alloc();
+    for (blocks, rate) in [(128, 6), (29, 58)] {
+        let input = format!(in alloc; "handles 1 threads 1 slots 1 blocks {blocks}\n{OPERATIONS}")?;
+        let ended = made(&rt, alloc, HANDLES, &Call::of(input.as_bytes()), &NoPace)?;
+        let run = ended.run.ok_or("refused")?;
+        assert_eq!(rt; records_at(&run, rate), Some(6));
+    }
+    Ok(())
+}
+
+#[test]
+fn an_input_has_16_777_216_bytes_and_no_more(rt: HostRuntime) -> Result<(), Fail> {
+    let script = "handles 1 threads 1 slots 1 blocks 128\nthread 0\ntake 0\nend\n";
+    let lines = ("rt_handles: line 5\n", "rt_handles: input too long\n");
+    reads_no_more(&rt, rt.alloc(), HANDLES, script, lines)
 }
 
 #[test]
@@ -126,7 +145,7 @@ take 0
 end
 ";
     let lines = "0 none\n0 none\n1 none\n1 none\n";
-    meets(&rt, rt.alloc(), HANDLES, input, lines)
+    meets(&rt, rt.alloc(), HANDLES, input, 8, lines)
 }
 
 /// How often each of sixteen threads makes and drops a handle.

@@ -1,6 +1,6 @@
 //! Whole calls of `tags`: the lines that they write, their statuses, and threads beside each other.
 
-use crate::calling::{Program, ends, made, meets};
+use crate::calling::{Program, ends, made, meets, reads_no_more, records_at};
 use lent_calls::Call;
 use never_heap::NoPace;
 use std::alloc::Global;
@@ -45,6 +45,25 @@ fn a_table_is_kept_where_its_heap_has_a_rate(rt: HostRuntime) -> Result<(), Fail
         )?;
     }
     Ok(())
+}
+
+#[test]
+fn each_write_makes_a_record_and_pays_the_rate(rt: HostRuntime) -> Result<(), Fail> {
+    let alloc = rt.alloc();
+    for (blocks, rate) in [(64, 5), (11, 22)] {
+        let input = format!(in alloc; "tags 1 threads 1 tags 2 blocks {blocks}\n{OPERATIONS}")?;
+        let ended = made(&rt, alloc, TAGS, &Call::of(input.as_bytes()), &NoPace)?;
+        let run = ended.run.ok_or("refused")?;
+        assert_eq!(rt; records_at(&run, rate), Some(2));
+    }
+    Ok(())
+}
+
+#[test]
+fn an_input_has_16_777_216_bytes_and_no_more(rt: HostRuntime) -> Result<(), Fail> {
+    let script = "tags 1 threads 1 tags 2 blocks 64\nthread 0\nread 0\nend\n";
+    let lines = ("rt_tags: line 5\n", "rt_tags: input too long\n");
+    reads_no_more(&rt, rt.alloc(), TAGS, script, lines)
 }
 
 #[test]
@@ -96,7 +115,7 @@ read 0
 end
 ";
     let lines = "0 none\n0 none\n1 none\n1 none\n";
-    meets(&rt, rt.alloc(), TAGS, input, lines)
+    meets(&rt, rt.alloc(), TAGS, input, 6, lines)
 }
 
 /// Whether writes by threads beside each other, each of a pair that nobody else writes, show no

@@ -5,6 +5,32 @@ use board_jobs::Meeting;
 use std::alloc::Global;
 use std::test::Fail;
 
+/// Two threads that each show the shared array twice, on a heap whose rate is 8.
+const TWO_SAYS: &str = "rtheap 1 threads 2 blocks 64 live 20 object 2 shared 4
+thread 0
+say 0
+say 0
+thread 1
+say 0
+say 0
+end
+";
+
+// Each thread waits at its second command until the other has come there, and the pace is told of
+// each command once.
+#[test]
+fn two_threads_meet(rt: HostRuntime) -> Result<(), Fail> {
+    let pace = Meeting::new();
+    let (exit, sink) = made_at(&rt, rt.alloc(), &Call::run(TWO_SAYS), &pace)?;
+    assert_eq!(rt; (exit.status, exit.due), (0, 0));
+    assert_eq!(rt;
+        sink.bytes(),
+        b"0 ref 2.0\n0 ref 2.0\n1 ref 2.0\n1 ref 2.0\nend cycles 1 work 0\n".as_slice()
+    );
+    assert!(rt; pace.took_place());
+    Ok(())
+}
+
 /// A job in which each of so many threads shows the shared array twice, and what is written.
 fn meeting(alloc: Global, threads: u32) -> Result<(String, String), Fail> {
     let header = "blocks 128 live 40 object 2 shared 4\n";
@@ -24,7 +50,7 @@ fn meeting(alloc: Global, threads: u32) -> Result<(String, String), Fail> {
 #[test]
 fn threads_run_beside_each_other(rt: HostRuntime) -> Result<(), Fail> {
     let alloc = rt.alloc();
-    for threads in 2..=4_u32 {
+    for threads in 3..=4_u32 {
         let pace = Meeting::of(threads);
         let (text, written) = meeting(alloc, threads)?;
         let (exit, sink) = made_at(&rt, alloc, &Call::run(text.as_str()), &pace)?;

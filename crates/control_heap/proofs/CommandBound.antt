@@ -1,5 +1,5 @@
 -- A command is served within its bound, and what the heap stands for then.
-use Rattle.std.proofs.Common.{◌≡◌, ℕ, zero, suc, ◌+◌, ◌*◌, ◌^◌, ◌<◌, ◌≤◌, Bool, true, false, cond, ltb, ◌&&◌, eqb, eqb-true, subst, List, [], ◌∷◌, ◌++◌, length, length-append, append-nil, get_or, map, take, refl, sym, ap, ◌∙◌, arith, inl, inr}
+use Rattle.std.proofs.Common.{◌≡◌, ℕ, zero, suc, ◌+◌, ◌*◌, ◌^◌, ◌≤◌, Bool, true, false, cond, ltb, ◌&&◌, eqb, eqb-true, subst, List, [], ◌∷◌, ◌++◌, length, length-append, append-nil, get_or, map, take, refl, sym, ap, ◌∙◌, arith, inl, inr}
 use Rattle.std.proofs.lemmas.Bool.{cases_lt, and_parts}
 use Rattle.std.proofs.lemmas.List.{append_cancel_left}
 use Rattle.std.proofs.Math.Seq.{take-length}
@@ -25,7 +25,7 @@ use Rattle.lone_bound.specs.Prices.{allocation_bound, idle_bound, other_bound}
 use Rattle.heap_system.specs.Parts.{Rest}
 use Rattle.heap_system.specs.declared.Turn.{Turn}
 use Rattle.heap_system.specs.declared.Turn.TheVariants.{Went, Done}
-use Rattle.heap_system.specs.Alone.{IsQuiet, HasCommand, EndsWithin, after_alone, command_bound}
+use Rattle.heap_system.specs.Alone.{IsQuiet, HasCommand, EndsWithin, after_alone, command_bound, command_near}
 use Rattle.heap_system.specs.Locals.{LocalState, begun, command_of, entries_of, is_done, is_rest, owed, turn_of, works, IsLocal}
 use Rattle.heap_system.specs.Machines.{Run, IsAfterTurns, local_in, next_effect}
 use Rattle.heap_system.specs.Pictures.{waiting}
@@ -36,7 +36,7 @@ use Rattle.heap_system.proofs.SeenAndKept.{IsSettled}
 use Rattle.heap_system.proofs.SystemStart.{one_rate}
 use Rattle.heap_system.proofs.alone.Near.{near_ends}
 use Rattle.heap_system.proofs.alone.Runs.{lone_ends}
-use Rattle.control_heap.specs.Controls.{ControlOf, Stands, Answers, allocation_near, Machine, Served, GoesOn, asked, HasLeft, given_to, moved_times, entries_in}
+use Rattle.control_heap.specs.Controls.{ControlOf, Stands, Answers, Machine, Served, GoesOn, asked, HasLeft, given_to, moved_times, entries_in}
 use Rattle.control_heap.specs.Growth.{run_grown, given}
 use Rattle.control_heap.proofs.Behind.{behind, behind_done, command_same, given_behind, history_of}
 use Rattle.control_heap.proofs.HeapAsRun.{Carries, IsSafe, carried, events_grown, kept_of, low, safe}
@@ -231,12 +231,12 @@ module _ {M : Type 0} (h : ControlOf M) (r : Run) (st : Stands h r) where
     over = done_at (command_bound h.config rate (command_of (local_in h.config grown 0))) ends (goes turns (omega arith))
 
     -- an end in fewer turns would be an end before the last
-    pub turns_near : (p : ℕ) → IsRate h.config p → 0 < blocks_of h.config.width k → turns ≤ allocation_near h.config p k
-    turns_near p is some =
-        let near = near_ends h.config begins.run.after.traces begins.run.after.job p is 0 (low h.config st.single) grown (kept_of h.config st.single grown begins.run.after) quiet has (subst (λ x. 0 < blocks_of h.config.width x) (sym command_is) some) in
-        let few : near.turns ≤ allocation_near h.config p k = subst (λ x. near.turns ≤ allocation_near h.config p x) command_is near.few in
+    pub turns_near : (p : ℕ) → IsRate h.config p → turns ≤ command_near h.config p k
+    turns_near p is =
+        let near = near_ends h.config begins.run.after.traces begins.run.after.job p is 0 (low h.config st.single) grown (kept_of h.config st.single grown begins.run.after) quiet has in
+        let few : near.turns ≤ command_near h.config p k = subst (λ x. near.turns ≤ command_near h.config p x) command_is near.few in
         elim (cases_lt near.turns turns) [
-          | inl fewer ↦ (let z : false ≡ true = sym (goes turns (omega arith) near.turns fewer) ∙ done_at (allocation_near h.config p (command_of (local_in h.config grown 0))) near (goes near.turns (omega arith)) in cc)
+          | inl fewer ↦ (let z : false ≡ true = sym (goes turns (omega arith) near.turns fewer) ∙ done_at (command_near h.config p (command_of (local_in h.config grown 0))) near (goes near.turns (omega arith)) in cc)
           | inr more ↦ omega (arith, few, more)
         ]
 
@@ -332,5 +332,5 @@ module _ {M : Type 0} (h : ControlOf M) (r : Run) (st : Stands h r) where
       pub events_few : (n : ℕ) → is.events ≡ n → (p : ℕ) → IsRate h.config p → n ≤ command_bound h.config p k
       events_few n counted p planned = subst (λ x. x ≤ command_bound h.config p k) (sym events_are ∙ counted) (turns_few p planned)
 
-      pub events_near : (n : ℕ) → is.events ≡ n → (p : ℕ) → IsRate h.config p → 0 < blocks_of h.config.width k → n ≤ allocation_near h.config p k
-      events_near n counted p planned some = subst (λ x. x ≤ allocation_near h.config p k) (sym events_are ∙ counted) (turns_near p planned some)
+      pub events_near : (n : ℕ) → is.events ≡ n → (p : ℕ) → IsRate h.config p → n ≤ command_near h.config p k
+      events_near n counted p planned = subst (λ x. x ≤ command_near h.config p k) (sym events_are ∙ counted) (turns_near p planned)

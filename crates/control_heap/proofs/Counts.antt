@@ -3,7 +3,7 @@ use Rattle.std.proofs.Common.{◌≡◌, ℕ, ◌+◌, ◌-◌, ◌^◌, ◌≤�
 use Rattle.rate_plan.specs.Rates.{IsRate}
 use Rattle.never_heap.specs.declared.Command.{Command}
 use Rattle.never_heap.specs.declared.Reply.{Reply}
-use Rattle.heap_system.specs.Alone.{command_bound}
+use Rattle.heap_system.specs.Alone.{command_bound, command_near}
 use Rattle.control_heap.specs.declared.counted.Counted.{Counted}
 use Rattle.control_heap.specs.Calls.{HasAsked, MayAnswer}
 use Rattle.control_heap.specs.Controls.{ControlOf}
@@ -42,3 +42,11 @@ few_counted h z k n is rate planned =
     let few = is.done.made.few rate planned in
     let exact = is.exact in
     omega (arith, exact, few)
+
+-- and no more than the near one
+pub near_counted : (h z : ControlOf Counted) (k : Command) (n : ℕ) → HasCounted h k n z → (rate : ℕ)
+    → IsRate h.config rate → n ≤ command_near h.config rate k
+near_counted h z k n is rate planned =
+    let near = is.done.made.near rate planned in
+    let exact = is.exact in
+    omega (arith, exact, near)

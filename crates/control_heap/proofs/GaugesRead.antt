@@ -1,6 +1,5 @@
 -- What the gauges read.
-use Rattle.std.proofs.Common.{◌≡◌, ◌⊎◌, inl, inr, ℕ, zero, suc, ◌+◌, ◌-◌, ◌*◌, ◌/◌, ◌<◌, ◌≤◌, Bool, true, false, cond, ltb, lt-ltb, length, refl, sym, ap, ◌∙◌, subst, arith}
-use Rattle.std.proofs.lemmas.Bool.{ltb-true}
+use Rattle.std.proofs.Common.{◌≡◌, ℕ, ◌+◌, ◌-◌, ◌*◌, ◌<◌, ◌≤◌, true, length, refl, sym, ap, ◌∙◌, subst, arith}
 use Rattle.block_store.specs.declared.Config.{Config}
 use Rattle.block_store.specs.declared.Width.{Width}
 use Rattle.block_store.specs.declared.Width.TheVariants.{Four, Eight}
@@ -20,18 +19,19 @@ use Rattle.never_heap.specs.Histories.{replay, starts_in}
 use Rattle.never_heap.specs.LiveBlocks.{live_blocks}
 use Rattle.never_heap.specs.RightWork.{units_owed, units_told}
 use Rattle.never_heap.specs.Steps.{blocks_of}
-use Rattle.lone_bound.specs.Near.{changes_cost, farthest, near_bound}
+use Rattle.never_heap.proofs.StepAnswers.{owes_told}
+use Rattle.lone_bound.specs.Near.{near_bound, near_other_bound}
 use Rattle.heap_machine.specs.FreeBlocks.{FreeKept, count_free}
 use Rattle.heap_machine.specs.Holdings.{free_held, holds_nothing}
 use Rattle.heap_system.specs.Locals.{is_rest}
 use Rattle.heap_system.specs.Machines.{Run, heap_in, local_in}
 use Rattle.heap_system.specs.Pictures.{holding, holdings_in}
-use Rattle.heap_system.specs.Alone.{command_bound}
+use Rattle.heap_system.specs.Alone.{most_events}
 use Rattle.heap_system.proofs.Kept.{Kept}
-use Rattle.heap_system.proofs.OwedAndPaid.{told_apart}
 use Rattle.heap_system.proofs.SystemStart.{one_rate}
 use Rattle.heap_system.proofs.TurnFacts.{rest_is}
-use Rattle.control_heap.specs.Controls.{ControlOf, Stands, allocation_near}
+use Rattle.heap_system.proofs.alone.Near.{makes_near, owes_blocks, serves_near}
+use Rattle.control_heap.specs.Controls.{ControlOf, Stands}
 use Rattle.control_heap.specs.Gauges.{most_operations}
 use Rattle.control_heap.proofs.CommandBound.{config_is, rate_is, rests}
 use Rattle.control_heap.proofs.HeapAsRun.{kept_of}
@@ -98,58 +98,45 @@ module _ {M : Type 0} (h : ControlOf M) (r : Run) (st : Stands h r) where
 
 -- ---- the most operations
 
-far_none : (p : ℕ) → farthest 1 p ≡ 0
-far_none zero = refl
-far_none (suc p) = refl
-
-changes_one : (m u : ℕ) → changes_cost 1 m u ≡ 18 + 18 * ((u - 1) / m)
-changes_one m u = let none = far_none (u - 1) in omega (arith, none)
-
-near_one : (w m u k : ℕ) → near_bound 1 w m u k ≡ u * (2 * w + 7) + (18 + 18 * ((u - 1) / m)) + ((w + 4) * k + 8)
-near_one w m u k = let e = changes_one m u in omega (arith, e)
-
-abbrev formula : ℕ → ℕ → ℕ → ℕ → ℕ
-formula w m u k = u * (2 * w + 7) + (18 + 18 * ((u - 1) / m)) + ((w + 4) * k + 8)
-
-none_told : (w : Width) (k : Command) → 0 < blocks_of w k → units_told k ≡ 0
-none_told w k some = by (told_apart w k)
-  where
-    by : (units_told k ≡ 0) ⊎ (blocks_of w k ≡ 0) → units_told k ≡ 0
-    by (inl e) = e
-    by (inr e) = absurd (omega (arith, e, some))
-
 module _ {M : Type 0} (h : ControlOf M) (r : Run) (st : Stands h r) (k : Command) where
+  -- what the command owes at the heap's rate
+  owed_here : (units : ℕ) → units ≡ units_owed h.thread.config.width h.thread.rate k → (p : ℕ) → IsRate h.config p
+      → units ≡ units_owed h.config.width p k
+  owed_here units owed p planned =
+      owed ∙ ap (λ c. units_owed c.width h.thread.rate k) (config_is h r st)
+      ∙ ap (λ q. units_owed h.config.width q k) (one_rate h.config h.thread.rate p (rate_is h r st) planned)
+
   near_here : (units taken n : ℕ) → units ≡ units_owed h.thread.config.width h.thread.rate k → taken ≡ blocks_of h.config.width k → 0 < taken
-      → n ≡ formula (payloads h.config.width) h.config.blocks units taken
+      → n ≡ near_bound 1 (payloads h.config.width) h.config.blocks units taken
       → (p : ℕ) → IsRate h.config p → n ≡ most_operations h.config p k
   near_here units taken n owed blocks some is p planned =
       let there : 0 < blocks_of h.config.width k = subst (λ x. 0 < x) blocks some in
-      let told : units_told k ≡ 0 = none_told h.config.width k there in
-      let same : h.thread.rate ≡ p = one_rate h.config h.thread.rate p (rate_is h r st) planned in
-      let units_is : units ≡ p * blocks_of h.config.width k =
-      owed ∙ ap (λ c. units_owed c.width h.thread.rate k) (config_is h r st)
-      ∙ ap (λ q. q * blocks_of h.config.width k + units_told k) same
-      ∙ ap (λ t. p * blocks_of h.config.width k + t) told ∙ omega arith in
-      let near : allocation_near h.config p k ≡ formula (payloads h.config.width) h.config.blocks (p * blocks_of h.config.width k) (blocks_of h.config.width k) =
-      ap (λ t. near_bound t (payloads h.config.width) h.config.blocks (p * blocks_of h.config.width k) (blocks_of h.config.width k)) st.single
-      ∙ near_one (payloads h.config.width) h.config.blocks (p * blocks_of h.config.width k) (blocks_of h.config.width k) in
-      let made : most_operations h.config p k ≡ allocation_near h.config p k =
-      ap (λ t. cond t (allocation_near h.config p k) (command_bound h.config p k)) (lt-ltb 0 (blocks_of h.config.width k) there) in
-      is ∙ (λ i. formula (payloads h.config.width) h.config.blocks (units_is i) (blocks i)) ∙ sym near ∙ sym made
+      let units_is : units ≡ p * blocks_of h.config.width k = owed_here units owed p planned ∙ owes_blocks h.config p k there in
+      is ∙ (λ i. near_bound (sym st.single i) (payloads h.config.width) h.config.blocks (units_is i) (blocks i))
+      ∙ sym (makes_near h.config k p there)
+
+  other_here : (units taken n : ℕ) → units ≡ units_owed h.thread.config.width h.thread.rate k → taken ≡ blocks_of h.config.width k → taken ≤ 0
+      → n ≡ near_other_bound 1 (payloads h.config.width) h.config.blocks units (most_events h.config k)
+      → (p : ℕ) → IsRate h.config p → n ≡ most_operations h.config p k
+  other_here units taken n owed blocks none is p planned =
+      let zero_is : blocks_of h.config.width k ≡ 0 = sym blocks ∙ omega (arith, none) in
+      let units_is : units ≡ units_told k = owed_here units owed p planned ∙ owes_told h.config.width p k zero_is in
+      is ∙ (λ i. near_other_bound (sym st.single i) (payloads h.config.width) h.config.blocks (units_is i) (most_events h.config k))
+      ∙ sym (serves_near h.config k p zero_is)
 
   pub near_told : (now : ControlOf M) → h ≡ now → (units taken n : ℕ) → units ≡ units_owed h.thread.config.width h.thread.rate k → taken ≡ blocks_of h.config.width k → 0 < taken
-      → n ≡ formula (payloads h.config.width) h.config.blocks units taken
+      → n ≡ near_bound 1 (payloads h.config.width) h.config.blocks units taken
       → (p : ℕ) → IsRate now.config p → n ≡ most_operations now.config p k
   near_told now same units taken n owed blocks some is p planned =
       subst (λ (x : ControlOf M). n ≡ most_operations x.config p k) same
       (near_here units taken n owed blocks some is p (subst (λ (x : ControlOf M). IsRate x.config p) (sym same) planned))
 
-pub told_most : (c : Config) (p : ℕ) (k : Command) (n : ℕ) → n ≤ command_bound c p k → (0 < blocks_of c.width k → n ≤ allocation_near c p k) → n ≤ most_operations c p k
-told_most c p k n few near = by (ltb 0 (blocks_of c.width k)) refl
-  where
-    by : (b : Bool) → ltb 0 (blocks_of c.width k) ≡ b → n ≤ cond b (allocation_near c p k) (command_bound c p k)
-    by true e = near (ltb-true 0 (blocks_of c.width k) e)
-    by false e = few
+  pub other_told : (now : ControlOf M) → h ≡ now → (units taken n : ℕ) → units ≡ units_owed h.thread.config.width h.thread.rate k → taken ≡ blocks_of h.config.width k → taken ≤ 0
+      → n ≡ near_other_bound 1 (payloads h.config.width) h.config.blocks units (most_events h.config k)
+      → (p : ℕ) → IsRate now.config p → n ≡ most_operations now.config p k
+  other_told now same units taken n owed blocks none is p planned =
+      subst (λ (x : ControlOf M). n ≡ most_operations x.config p k) same
+      (other_here units taken n owed blocks none is p (subst (λ (x : ControlOf M). IsRate x.config p) (sym same) planned))
 
 -- ---- the blocks in use
 

@@ -1,9 +1,8 @@
 -- A heap of one thread that is asked one command at a time: the runs for which it stands, and how
 -- it answers a command.
-use Rattle.std.specs.Prelude.{ℕ, zero, suc, ◌+◌, ◌*◌, ◌<◌, ◌≤◌, ◌≡◌, ◌++◌, true, false, List, [], ◌∷◌, length, map, slice_index}
+use Rattle.std.specs.Prelude.{ℕ, zero, suc, ◌+◌, ◌<◌, ◌≤◌, ◌≡◌, ◌++◌, true, false, List, [], ◌∷◌, length, map, slice_index}
 use Rattle.block_store.specs.declared.Config.{Config}
 use Rattle.block_store.specs.Configs.{IsInBounds}
-use Rattle.block_store.specs.Widths.{payloads}
 use Rattle.rate_plan.specs.Rates.{IsRate, IsAdmitted}
 use Rattle.never_heap.specs.declared.Command.{Command}
 use Rattle.never_heap.specs.declared.Entry.{Entry}
@@ -11,12 +10,10 @@ use Rattle.never_heap.specs.declared.Reply.{Reply}
 use Rattle.never_heap.specs.Bounds.{IsCommandInBounds}
 use Rattle.never_heap.specs.Histories.{HistoryItem, Started, Did}
 use Rattle.never_heap.specs.RightWork.{units_owed}
-use Rattle.never_heap.specs.Steps.{blocks_of}
-use Rattle.lone_bound.specs.Near.{near_bound}
 use Rattle.heap_machine.specs.Memories.{Acts}
 use Rattle.heap_machine.specs.Operations.{op_place, words_after}
 use Rattle.heap_system.specs.declared.Turn.TheVariants.{Went}
-use Rattle.heap_system.specs.Alone.{IsQuiet, after_alone, command_bound}
+use Rattle.heap_system.specs.Alone.{IsQuiet, after_alone, command_bound, command_near}
 use Rattle.heap_system.specs.Courses.{Ran}
 use Rattle.heap_system.specs.Lives.{sum_after, objects_of, most_commands, most_objects, most_units}
 use Rattle.heap_system.specs.Locals.{LocalState, begun, is_done, local_got, op_wanted, works}
@@ -90,20 +87,13 @@ entries_in [] = []
 entries_in (Started ∷ h) = entries_in h
 entries_in (Did e ∷ h) = e ∷ entries_in h
 
--- the near bound of an allocation, at this rate
-abbrev pub allocation_near : Config → ℕ → Command → ℕ
-allocation_near c rate k =
-    near_bound c.threads (payloads c.width) c.blocks (rate * blocks_of c.width k)
-    (blocks_of c.width k)
-
 -- Run z is run r followed by command k with this reply. The thread had at most as many more turns
--- as the bound of a lone thread and, for an allocation, the near bound allow; none of them waited.
--- The order of z is that of r followed by cycle starts and the entry of k, and by no other entry.
+-- as the bound of a lone thread and the near bound allow; none of them waited. The order of z is
+-- that of r followed by cycle starts and the entry of k, and by no other entry.
 pub record Answers (c : Config) (k : Command) (a : Reply) (r z : Run) : Type 0 where
   pub turns : ℕ
   pub few : (rate : ℕ) → IsRate c rate → turns ≤ command_bound c rate k
-  pub near : (rate : ℕ) → IsRate c rate → 0 < blocks_of c.width k
-      → turns ≤ allocation_near c rate k
+  pub near : (rate : ℕ) → IsRate c rate → turns ≤ command_near c rate k
   pub went : (i : ℕ) → i < turns → answer c 0 (after_alone c 0 (run_grown 0 k r) i).state ≡ Went
   pub after : z ≡ after_alone c 0 (run_grown 0 k r) turns
   pub items : List HistoryItem
@@ -118,17 +108,17 @@ abbrev pub HasAnswered : {M : Type 0} → ControlOf M → Command → Reply → 
 HasAnswered old k reply new =
     (r : Run) → Stands old r → (z : Run) × Stands new z × Answers old.config k reply r z
 
--- A memory made the operations of a command and no others. Each read one of these words, and is the
--- operation that the thread's row names next. They lead from the memory before to the memory after,
--- and from the thread that begins the command to the one that has done it. There are at most as
--- many as the bound of a lone thread and, for an allocation, the near bound allow.
+-- A memory made the operations of a command one after the other. Each read one of these words, and
+-- is the operation that the thread's row names next. They lead from the memory before to the memory
+-- after, and from the thread that begins the command to the one that has done it. A body of which
+-- this is proved for any memory makes no other operation, since one more might change the memory.
+-- There are at most as many as the bound of a lone thread and the near bound allow.
 pub record HasMade {M : Type 0} (acts : Acts M (Unit {0})) (old : ControlOf M) (k : Command)
     (new : ControlOf M) : Type 0 where
   pub words : List ℕ
   pub ran : Ran acts tt old.memory (begun k old.thread) words new.memory new.thread
   pub few : (rate : ℕ) → IsRate old.config rate → length words ≤ command_bound old.config rate k
-  pub near : (rate : ℕ) → IsRate old.config rate → 0 < blocks_of old.config.width k
-      → length words ≤ allocation_near old.config rate k
+  pub near : (rate : ℕ) → IsRate old.config rate → length words ≤ command_near old.config rate k
 
 -- a heap did these commands one after the other, with these replies, and is then z
 abbrev pub AllAnswered : {M : Type 0} → ControlOf M → List Command → List Reply → ControlOf M
@@ -177,8 +167,8 @@ pub record Served (m z : Machine) : Type 0 where
   pub after : z ≡ moved_times events m
   pub done : is_done z.thread ≡ true
 
--- a memory made as many events as it takes and no other operation, and its words changed as those
--- of a machine do
+-- a memory made as many events as it takes, one after the other, and its words changed as those of
+-- a machine do
 pub record ServedBy {M : Type 0} (acts : Acts M (Unit {0})) (shows : M → List ℕ) (m : M)
     (l : LocalState) (n : M) (k : LocalState) : Type 0 where
   pub words : List ℕ

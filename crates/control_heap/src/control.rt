@@ -20,7 +20,7 @@ ghost use Rattle.control_heap.specs.Gauges.{most_operations};
 ghost use Rattle.control_heap.specs.Refusals.{IsOpenFault, IsRefused};
 
 use crate::Store;
-use crate::gauges::{allocation_operations, cycle_in, free_in};
+use crate::gauges::{allocation_operations, cycle_in, free_in, other_operations};
 use block_store::{Config, OutOfMemory};
 use heap_machine::Words;
 use heap_system::{Local, opening};
@@ -281,10 +281,8 @@ impl<M: Store> ControlHeap<M> {
         let taken = command.blocks(self.config.width);
         if taken > 0 {
             allocation_operations(self.config.width, self.config.blocks, units, taken)
-        } else if let Command::Idle { units } = *command {
-            (units + 1) * 72
         } else {
-            u64::from(self.config.object) + 64
+            other_operations(&self.config, command, units)
         }
     }
 
@@ -302,7 +300,8 @@ impl<M: Store> ControlHeap<M> {
 
     /// Does a command and returns its reply. The command is in bounds, and the life has room for
     /// it. Whichever run the heap stood for, it then stands for that run followed by this command
-    /// with this reply. It makes the operations on the memory that the command takes, no others.
+    /// with this reply. The operations that the command takes lead from the memory before to that
+    /// after.
     pub fn request(&mut self, command: Command) -> Reply
         requires bounds { IsCommandInBounds self.old.config command }
         requires left { HasLeft self.old command }

@@ -2,7 +2,7 @@
 
 ghost use Rattle.std.specs.Prelude.{◌≡◌, IfSome, ◌≤◌, ℕ};
 ghost use Rattle.rate_plan.specs.Rates.{IsRate};
-ghost use Rattle.heap_system.specs.Alone.{command_bound};
+ghost use Rattle.heap_system.specs.Alone.{command_bound, command_near};
 ghost use Rattle.control_heap.specs.Counting.{IsCountOf};
 
 use crate::{ControlHeap, Store};
@@ -69,6 +69,8 @@ pub fn operations_of(heap: &mut ControlHeap<Counted>, command: Command) -> Optio
     ensures counted { IsCountOf heap.old command heap.new result }
     ensures few { IfSome result (λ n. (rate : ℕ) → IsRate heap.old.config rate
         → n ≤ command_bound heap.old.config rate command) }
+    ensures near { IfSome result (λ n. (rate : ℕ) → IsRate heap.old.config rate
+        → n ≤ command_near heap.old.config rate command) }
 {
     let before = heap.memory().made();
     match heap.ask(command) {

@@ -1,8 +1,8 @@
 //! Laws about the runs for which a heap stands. Each is the contract of a function that does
 //! nothing.
 
-ghost use Rattle.std.specs.Prelude.{◌≡◌, ◌<◌, ◌≤◌, ℕ, List};
-ghost use Rattle.rate_plan.specs.Rates.{IsRate};
+ghost use Rattle.std.specs.Prelude.{◌≡◌, ◌≤◌, ℕ, List};
+ghost use Rattle.rate_plan.specs.Rates.{IsAdmitted, IsRate};
 ghost use Rattle.never_heap.specs.declared.Command.{Command};
 ghost use Rattle.never_heap.specs.declared.Reply.{Reply};
 ghost use Rattle.never_heap.specs.Histories.{Legal, work_in};
@@ -10,9 +10,9 @@ ghost use Rattle.never_heap.specs.Licensed.{Licensed, StartsSmall, NoFulls};
 ghost use Rattle.never_heap.specs.RightWork.{RightWork};
 ghost use Rattle.heap_system.specs.Machines.{Run};
 ghost use Rattle.block_store.specs.declared.Config.{Config};
-ghost use Rattle.never_heap.specs.Steps.{blocks_of};
-ghost use Rattle.heap_system.specs.Alone.{command_bound};
-ghost use Rattle.control_heap.specs.Controls.{Control, Stands, AllAnswered, HasHistory, allocation_near, units};
+ghost use Rattle.block_store.specs.Configs.{IsInBounds};
+ghost use Rattle.heap_system.specs.Alone.{command_bound, command_near};
+ghost use Rattle.control_heap.specs.Controls.{Control, Stands, AllAnswered, HasHistory, units};
 ghost use Rattle.control_heap.specs.Gauges.{most_operations};
 ghost use Rattle.control_heap.specs.WayBack.{AllDone, HasWayBack};
 
@@ -49,10 +49,11 @@ pub fn full_heaps_come_back()
         → Stands h r → AllDone h ks a y → AllDone y js b z → HasWayBack h y z ks a js b r }
 {}
 
-/// No command takes more operations than `most_operations` returns: a number within both bounds of
-/// `HasMade` is at most that.
+/// No command takes more operations than `most_operations` returns: a number within the near bound
+/// of `HasMade` is at most that, and what it returns is within the stated bound of a lone thread.
 pub fn commands_take_what_is_told()
-    ensures { (c : Config) (rate : ℕ) (k : Command) (n : ℕ) → n ≤ command_bound c rate k
-        → (0 < blocks_of c.width k → n ≤ allocation_near c rate k)
+    ensures most { (c : Config) (rate : ℕ) (k : Command) (n : ℕ) → n ≤ command_near c rate k
         → n ≤ most_operations c rate k }
+    ensures stated { (c : Config) (rate : ℕ) (k : Command) → IsInBounds c → IsAdmitted c
+        → most_operations c rate k ≤ command_bound c rate k }
 {}

@@ -213,6 +213,27 @@ fn each_refusal_of_a_configuration_has_its_cause(rt: HostRuntime) {
     }
 }
 
+#[test]
+fn the_largest_heap_opens_and_keeps_the_largest_object(rt: HostRuntime) {
+    for (width, fields, last) in [(Width::Four, 3072, 3071), (Width::Eight, 7168, 7167)] {
+        let c = Config {
+            blocks: 65_535,
+            live: 5000,
+            object: 1024,
+            ..small(width)
+        };
+        let mut heap = ControlHeap::open(rt.alloc(), c).expect(&rt, "it opens");
+        let name = Name {
+            thread: 0,
+            serial: 1,
+        };
+        assert_eq!(rt; heap.record(1, fields), Ok(name));
+        assert_eq!(rt; heap.put(1, last, 1), Ok(()));
+        assert_eq!(rt; heap.get(2, 1, last), Ok(Value::Ref(name)));
+        assert_eq!(rt; heap.get(2, 1, u64::from(fields)), Err(Fault::Range));
+    }
+}
+
 // A heap that counts its operations.
 fn counted(alloc: Global, c: Config) -> Option<ControlHeap<Counted>> {
     if !c.in_bounds() || c.threads != 1 || plan(&c).is_err() {
@@ -344,8 +365,11 @@ fn gauges_tell_of_the_heap(rt: HostRuntime) {
     assert_eq!(rt; (heap.rate(), heap.cycle(), heap.free_blocks()), (7, 1, 60));
     let record = Command::New { d: 1, fields: 7 };
     assert_eq!(rt; most_of(&heap, &record), 7 * 23 + 18 + 12 + 8);
-    assert_eq!(rt; most_of(&heap, &Command::Nil { d: 1 }), 66);
-    assert_eq!(rt; most_of(&heap, &Command::Idle { units: 9 }), 720);
+    assert_eq!(rt; most_of(&heap, &Command::Nil { d: 1 }), 4);
+    assert_eq!(rt;
+        most_of(&heap, &Command::Idle { units: 9 }),
+        9 * 23 + 18 + 4
+    );
     assert!(rt; heap.ask(record).is_ok());
     assert_eq!(rt; (heap.free_blocks(), heap.blocks_in_use()), (59, 5));
     assert_eq!(rt; heap.idle(64 * 4), Ok(()));

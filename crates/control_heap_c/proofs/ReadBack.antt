@@ -142,3 +142,9 @@ one_thread w blocks live object shared old new o =
     let t = opened_not w (λ x. config_of x blocks live object shared) old new 8 o in
     not_for_threads w blocks live object shared old
     (subst (λ (e : OpenRefusal). IsNotOpened old w (λ x. config_of x blocks live object shared) e) (sym (ap cause t.1)) t.2)
+
+-- no cause has status 15
+pub enough : (w : Option Width) (c : Width → Config) (old new : Option Control) → ¬ Opened w c old new 15
+enough w c old new o =
+    let t = opened_not w c old new 14 o in
+    let z : None ≡ Some t.0 = t.1 in cc

@@ -1,8 +1,9 @@
 -- What a call from C does to the heap of its handle, and the numbers that it returns.
-use Rattle.std.specs.Prelude.{ℕ, ◌+◌, ◌-◌, ◌≡◌, ◌==◌, if◌then◌else◌, Option, Some, None, Result, Ok, Err, min, List, [], ◌∷◌}
+use Rattle.std.specs.Prelude.{ℕ, ◌+◌, ◌-◌, ◌*◌, ◌/◌, ◌≡◌, ◌==◌, if◌then◌else◌, Option, Some, None, Result, Ok, Err, min, List, [], ◌∷◌}
 use Rattle.block_store.specs.declared.Config.{Config}
 use Rattle.block_store.specs.declared.Width.{Width}
 use Rattle.block_store.specs.declared.Width.TheVariants.{Four, Eight}
+use Rattle.block_store.specs.Widths.{payloads}
 use Rattle.block_store.specs.declared.Name.{Name}
 use Rattle.block_store.specs.declared.Value.TheVariants as values
 use Rattle.never_heap.specs.declared.Command.{Command}
@@ -34,8 +35,8 @@ acts_on_words ws none op word after = HasActed ws op word after
 
 -- The heap carried the command out, as `ControlHeap::ask` ensures: the command was in bounds, the
 -- life had room for it, and it is counted. Each run of the heap before is extended by this command
--- and this reply. The memory made the operations of the command and no others, and the reply is one
--- that the command can have.
+-- and this reply. The memory made the operations of the command, one after the other, and the reply
+-- is one that the command can have.
 pub record Answered (old new : Control) (k : Command) (a : Reply) : Type 0 where
   pub config : new.config ≡ old.config
   pub bounds : IsCommandInBounds old.config k
@@ -220,6 +221,14 @@ pub record Opened (w : Option Width) (c : Width → Config) (old new : Option Co
   pub refusal : Option OpenRefusal
   pub became : BecameOpen old w c refusal new
   pub status_is : status ≡ open_status refusal
+
+-- ---- lent memory
+
+-- how many words of 64 bits a heap takes, if there is such a version: those of its blocks, half a
+-- word for each block of the largest object, and 128 more
+abbrev pub lent_words : Option Width → ℕ → ℕ → ℕ
+lent_words None blocks object = 0
+lent_words (Some w) blocks object = 128 + (3 + payloads w) * blocks + (object + 1) / 2
 
 -- ---- counts: what is left of the life, and how many commands it was asked
 

@@ -1,12 +1,12 @@
 //! The calls for a program in C. Each takes a handle, open or closed, and a command also the struct
 //! for its reply. A call that is refused changes nothing, and its status gives the cause.
 
-ghost use Rattle.std.specs.Prelude.{◌≡◌, is_some, None, if◌then◌else◌};
+ghost use Rattle.std.specs.Prelude.{◌≡◌, ◌≤◌, ◌<◌, is_some, None, if◌then◌else◌};
 ghost use Rattle.never_heap.specs.declared.Command.TheVariants as commands;
-ghost use Rattle.control_heap_c.specs.Outcomes.{Called, Opened, config_of, counts_of, register, width_of};
+ghost use Rattle.control_heap_c.specs.Outcomes.{Called, Opened, config_of, counts_of, lent_words, register, width_of};
 
 use crate::answer::{Answer, register, tell};
-use crate::handle::{Handle, ask, close, counts_at, open, open_told};
+use crate::handle::{Handle, ask, close, counts_at, lent_words, open, open_told};
 use never_heap::Command;
 use std::alloc::Global;
 
@@ -24,6 +24,39 @@ pub extern "C" fn rtheap_raw_open(
     ensures { Opened (width_of version) (λ w. config_of w blocks live object shared)
         handle.old.link.heap handle.new.link.heap result }
 {
+    open_told(open(alloc, handle, version, blocks, live, object, shared))
+}
+
+/// The words of 8 bytes that a heap takes in lent memory; 0 if there is no such version.
+#[unsafe(no_mangle)]
+pub extern "C" fn rtheap_raw_words(version: u32, blocks: u32, object: u32) -> u64
+    ensures { result ≡ lent_words (width_of version) blocks object }
+{
+    lent_words(version, blocks, object)
+}
+
+/// Opens a heap as `rtheap_raw_open` does, if this many words are enough; otherwise it changes
+/// nothing and returns 15. The caller's allocator has them and gives out no other memory.
+#[unsafe(no_mangle)]
+pub extern "C" fn rtheap_raw_open_in(
+    alloc: Global,
+    handle: &mut Handle,
+    words: u64,
+    version: u32,
+    blocks: u32,
+    live: u32,
+    object: u32,
+    shared: u32,
+) -> u32
+    ensures few { words < lent_words (width_of version) blocks object
+        → (result ≡ 15) × (handle.new.link.heap ≡ handle.old.link.heap) }
+    ensures enough { lent_words (width_of version) blocks object ≤ words
+        → Opened (width_of version) (λ w. config_of w blocks live object shared)
+        handle.old.link.heap handle.new.link.heap result }
+{
+    if words < lent_words(version, blocks, object) {
+        return 15;
+    }
     open_told(open(alloc, handle, version, blocks, live, object, shared))
 }
 

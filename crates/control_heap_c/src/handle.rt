@@ -3,15 +3,25 @@
 ghost use Rattle.std.specs.Prelude.{◌≡◌, eqb, is_some, Some, None, MatchOption, IfOk, IfErr};
 ghost use Rattle.control_heap.specs.Refusals.{IsOpenFault};
 ghost use Rattle.control_heap_c.specs.Links.{open_mark};
-ghost use Rattle.control_heap_c.specs.Outcomes.{Became, BecameOpen, Fresh, config_of, counts_of, open_status, width_of};
+ghost use Rattle.control_heap_c.specs.Outcomes.{Became, BecameOpen, Fresh, config_of, counts_of, lent_words, open_status, width_of};
 
 use crate::answer::Refusal;
 use crate::link::Link;
 use block_store::{Config, Width};
 use control_heap::{ControlHeap, OpenFault};
-use never_heap::{Command, Reply};
+use never_heap::{Command, Entry, Reply};
 use std::alloc::Global;
-use std::mem::replace;
+use std::mem::{replace, size_of};
+
+// What a heap takes in lent memory besides its blocks and the list of an object's blocks, in words:
+// the five words before the blocks, lists of one command and one entry, the heap itself, and gaps
+// for alignment.
+const OTHER_WORDS: u64 = 128;
+
+const _: () = prove!(
+    10 * 8 + size_of::<Command>() + size_of::<Entry>() + size_of::<ControlHeap>()
+        <= 8 * OTHER_WORDS as usize
+);
 
 // An open handle begins with this number, and a closed one with any other.
 const OPEN: u64 = 7_238_540_126_943_155_201;
@@ -172,6 +182,18 @@ fn width_of(version: u32) -> Option<Width>
         return Some(Width::Eight);
     }
     None
+}
+
+/// How many words of 8 bytes a heap takes in lent memory; 0 if there is no such version.
+pub fn lent_words(version: u32, blocks: u32, object: u32) -> u64
+    ensures { result ≡ lent_words (width_of version) blocks object }
+{
+    let of_block = match width_of(version) {
+        None => return 0,
+        Some(Width::Four) => 7,
+        Some(Width::Eight) => 11,
+    };
+    OTHER_WORDS + of_block * u64::from(blocks) + (u64::from(object) + 1) / 2
 }
 
 // A new heap in a box.

@@ -37,7 +37,8 @@ pub fn statuses_tell()
 {}
 
 /// An opening of status 0 opened a heap in a closed handle. For one of any other status the status
-/// gives the cause, and nothing has changed. Status 9 does not occur.
+/// gives the cause, and nothing has changed. Status 9 does not occur, and 15 only in lent memory of
+/// too few words.
 pub fn openings_tell()
     ensures opened { (w : Option Width) (c : Width → Config) (old new : Option Control)
         → Opened w c old new 0 → (old ≡ None) × IsOpened w c new }
@@ -48,6 +49,8 @@ pub fn openings_tell()
     ensures one_thread { (w : Option Width) (blocks live object shared : ℕ)
         (old new : Option Control)
         → ¬ Opened w (λ x. config_of x blocks live object shared) old new 9 }
+    ensures enough { (w : Option Width) (c : Width → Config) (old new : Option Control)
+        → ¬ Opened w c old new 15 }
 {}
 
 /// A register is passed on as it is, and one that no heap has remains one that no heap has.

@@ -4,7 +4,7 @@ pub const HELP: &str = "\
 usage: handlerun < SCRIPT   keeps handles in slots of a heap that the script's threads share, and
                             prints what each operation answered, thread by thread
 
-Scripts are described in docs/FORMAT.md, \"Scripts of handles\"; examples/ has one to begin with.
+Scripts are described in docs/TOOLS.md, \"handlerun\"; examples/ has one to begin with.
 ";
 
 pub const VERSION: &str = "handlerun 0.1.0\n";

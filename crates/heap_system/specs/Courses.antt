@@ -45,10 +45,18 @@ pub record HasRun {M S : Type 0} (acts : Acts M S) (s : S) (before : M) (old : L
   pub ran : Ran acts s before old words after new
   pub told : TellsLast old words turn
 
--- one at least
-abbrev pub HasRunOn : {M S : Type 0} → Acts M S → S → M → LocalState → M → LocalState → Turn → Type 0
-HasRunOn acts s before old after new turn =
+-- one at least, and at most so many
+abbrev pub HasRunIn : {M S : Type 0} → ℕ → Acts M S → S → M → LocalState → M → LocalState → Turn → Type 0
+HasRunIn most acts s before old after new turn =
     (run : HasRun acts s before old after new turn) × (0 < length run.words)
+    × (length run.words ≤ most)
+
+-- the most events that are made in a row
+abbrev pub longest : ℕ
+longest = 64
+
+abbrev pub HasRunOn : {M S : Type 0} → Acts M S → S → M → LocalState → M → LocalState → Turn → Type 0
+HasRunOn = HasRunIn longest
 
 -- A memory that stands for the thread may make its next event, reads no word that the row may not,
 -- and then stands for the thread that has moved on.
@@ -63,13 +71,3 @@ pub record Leads {M S : Type 0} (may : M → S → Op → Type 0) (acts : Acts M
 abbrev pub MayRun : {M S : Type 0} → (M → S → Op → Type 0) → Acts M S → ℕ → M → S → LocalState → Type 0
 MayRun may acts zero m s l = Unit {0}
 MayRun may acts (suc k) m s l = IsGoing l → Leads may acts (MayRun may acts k) m s l
-
--- the most events that are made in a row
-abbrev pub longest : ℕ
-longest = 64
-
--- one at least, and at most so many
-abbrev pub HasRunIn : {M S : Type 0} → ℕ → Acts M S → S → M → LocalState → M → LocalState → Turn → Type 0
-HasRunIn most acts s before old after new turn =
-    (run : HasRun acts s before old after new turn) × (0 < length run.words)
-    × (length run.words ≤ most)

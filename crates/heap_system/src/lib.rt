@@ -7,6 +7,7 @@ mod collector;
 mod counting;
 mod course;
 mod cycles;
+mod inside;
 mod laws;
 mod local;
 mod orders;
@@ -27,6 +28,7 @@ pub use collector::{
 };
 pub use course::Course;
 pub use cycles::cycles_take_each_block_once;
+pub use inside::most_events;
 pub use laws::{
     events_are_safe, finished_runs_show_their_logs, logs_are_parts, opening_shows_the_start,
     order_is_legal, threads_inside_are_counted, turns_keep_the_rules, turns_wait,
@@ -36,7 +38,7 @@ pub use local::Local;
 pub use orders::turns_add_their_items;
 pub use payments::turns_pay;
 pub use progress::{
-    a_lone_allocation_ends_near_its_bound, a_lone_thread_ends_its_command,
+    a_lone_command_ends_near_its_bound, a_lone_thread_ends_its_command,
     units_part_the_changes_of_a_lone_thread,
 };
 pub use replays::jobs_have_one_order;

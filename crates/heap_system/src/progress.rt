@@ -5,13 +5,14 @@ ghost use Rattle.std.specs.Prelude.{ℕ, ◌+◌, ◌*◌, ◌<◌, ◌≤◌, �
 ghost use Rattle.block_store.specs.declared.Config.{Config};
 ghost use Rattle.block_store.specs.Configs.{IsInBounds};
 ghost use Rattle.block_store.specs.Widths.{payloads};
-ghost use Rattle.lone_bound.specs.Near.{near_bound};
+ghost use Rattle.lone_bound.specs.Near.{near_bound, near_other_bound};
 ghost use Rattle.never_heap.specs.declared.Command.{Command};
 ghost use Rattle.never_heap.specs.declared.Command.TheVariants.{Idle};
+ghost use Rattle.never_heap.specs.RightWork.{units_told};
 ghost use Rattle.never_heap.specs.Steps.{blocks_of};
 ghost use Rattle.barrier_steps.specs.Operands.{is_idle};
 ghost use Rattle.rate_plan.specs.Rates.{IsRate, IsAdmitted};
-ghost use Rattle.heap_system.specs.Alone.{IsQuiet, HasCommand, EndsWithin, command_bound, ChangesPhase, UnitBetween};
+ghost use Rattle.heap_system.specs.Alone.{IsQuiet, HasCommand, EndsWithin, command_bound, command_near, most_events, ChangesPhase, UnitBetween};
 ghost use Rattle.heap_system.specs.Locals.{command_of, is_rest};
 ghost use Rattle.heap_system.specs.Machines.{Run, IsAfterTurns, local_in};
 
@@ -35,21 +36,25 @@ pub fn a_lone_thread_ends_its_command()
         → is_idle k ≡ false → command_bound c rate k ≡ c.object + 64 }
 {}
 
-/// So an allocation is done in a number of turns that is near the most that one takes: those of its
+/// So a command is done in a number of turns that is near the most that one takes: those of its
 /// units, of the changes of phase that can come among them and of the passes to others' grey lists
-/// before the first, and those that write the blocks (`near`). That is within the bound of an
-/// allocation that `a_lone_thread_ends_its_command` states, which so follows (`stated`).
-pub fn a_lone_allocation_ends_near_its_bound()
+/// before the first, and those of the way in and out and of the command itself (`near`): of an
+/// allocation those that write its blocks (`allocation`), of any other command its events inside
+/// (`other`). That is within the bound that `a_lone_thread_ends_its_command` states, which so
+/// follows (`stated`).
+pub fn a_lone_command_ends_near_its_bound()
     ensures near { (c : Config) (r : Run) (t rate : ℕ) → IsAfterTurns c r → IsRate c rate
         → IsQuiet c r → t < c.threads → HasCommand (local_in c r t)
-        → 0 < blocks_of c.width (command_of (local_in c r t))
-        → EndsWithin c t r (near_bound c.threads (payloads c.width) c.blocks
-        (rate * blocks_of c.width (command_of (local_in c r t)))
-        (blocks_of c.width (command_of (local_in c r t)))) }
+        → EndsWithin c t r (command_near c rate (command_of (local_in c r t))) }
+    ensures allocation { (c : Config) (k : Command) (rate : ℕ) → 0 < blocks_of c.width k
+        → command_near c rate k
+        ≡ near_bound c.threads (payloads c.width) c.blocks (rate * blocks_of c.width k)
+        (blocks_of c.width k) }
+    ensures other { (c : Config) (k : Command) (rate : ℕ) → blocks_of c.width k ≡ 0
+        → command_near c rate k
+        ≡ near_other_bound c.threads (payloads c.width) c.blocks (units_told k) (most_events c k) }
     ensures stated { (c : Config) (k : Command) (rate : ℕ) → IsInBounds c → IsAdmitted c
-        → 0 < blocks_of c.width k
-        → near_bound c.threads (payloads c.width) c.blocks (rate * blocks_of c.width k)
-        (blocks_of c.width k) ≤ command_bound c rate k }
+        → command_near c rate k ≤ command_bound c rate k }
 {}
 
 /// Between two changes of the phase that a lone thread makes there is a unit: it does not turn the

@@ -1,4 +1,4 @@
-//! Calls over sources and sinks in memory, and the job that they are given.
+//! Calls over sources and sinks in memory, and the jobs that they are given, one of each version.
 
 use never_heap::NoPace;
 use rtheap_core::{Exit, rtheap};
@@ -69,6 +69,54 @@ pub const IN_ORDER: &[u8] = b"start 1
 0 ref 1.0
 0 len 0
 end cycles 1 work 7
+";
+
+/// A job of version 2 with commands of all thirteen kinds, on a heap whose rate is 7.
+pub const WIDE_JOB: &[u8] = b"rtheap 2 threads 1 blocks 64 live 20 object 2 shared 0
+thread 0
+new 1 2
+set 2 5
+swap 1 1 2
+swap 1 1 2
+put 1 0 1
+swap 1 0 3
+cas 1 0 4 3
+cas 1 0 4 2
+get 5 3 0
+mov 6 5
+same 6 1
+swap 4 0 2
+cas 2 0 4 4
+swap 1 2 2
+idle 9
+arr 7 8
+len 7
+nil 7
+say 2
+end
+";
+
+/// What a run of it writes.
+pub const WIDE_ANSWERS: &[u8] = b"0 new 0.1 work 7
+0 ok
+0 nil
+0 int 5
+0 ok
+0 ref 0.1
+0 yes
+0 no
+0 ref 0.1
+0 ok
+0 yes
+0 null
+0 kind
+0 range
+0 idle work 9
+0 new 0.2 work 7
+0 len 8
+0 ok
+0 int 5
+end cycles 1 work 23
 ";
 
 /// The job of the key 7 with three commands for each thread.

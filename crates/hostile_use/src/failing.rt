@@ -1,7 +1,7 @@
 //! Streams that fail at each of their calls in turn, sinks with too little room, and inputs that
 //! are cut off.
 
-use crate::calling::{ANSWERS, Call, IN_ORDER, JOB, MADE, made};
+use crate::calling::{ANSWERS, Call, IN_ORDER, JOB, MADE, WIDE_ANSWERS, WIDE_JOB, made};
 use std::alloc::Global;
 use std::process::Abort;
 use std::sync::Wait;
@@ -12,8 +12,9 @@ use std::thread::Threads;
 type Asked = (&'static [&'static str], &'static [u8], u8, &'static [u8]);
 
 /// Each task, and refusals.
-const ASKED: [Asked; 8] = [
+const ASKED: [Asked; 9] = [
     (&["run"], JOB, 0, ANSWERS),
+    (&["run"], WIDE_JOB, 0, WIDE_ANSWERS),
     (&["replay", "serial", "1654"], JOB, 0, IN_ORDER),
     (&["plan"], JOB, 0, b"rate 7\n"),
     (&["make", "7", "3"], b"", 0, MADE),
@@ -113,13 +114,18 @@ fn a_sink_without_room_holds_the_lines_that_fit(rt: HostRuntime) -> Result<(), F
 #[test]
 fn a_source_that_fails_at_any_call_is_a_read_fault(rt: HostRuntime) -> Result<(), Fail> {
     let alloc = rt.alloc();
-    let words: [&[&str]; 3] = [&["run"], &["plan"], &["replay", "serial", "1654"]];
-    for task in words {
-        for call in 0..=JOB.len() as u64 {
+    let asked: [(&[&str], &[u8]); 4] = [
+        (&["run"], JOB),
+        (&["run"], WIDE_JOB),
+        (&["plan"], JOB),
+        (&["replay", "serial", "1654"], JOB),
+    ];
+    for (task, job) in asked {
+        for call in 0..=job.len() as u64 {
             let failing = Call {
                 most: 1,
                 read_fails: &[call],
-                ..Call::of(task, JOB)
+                ..Call::of(task, job)
             };
             ends(&rt, alloc, &failing, 5, 5, b"rtheap: read fault\n")?;
         }
@@ -135,11 +141,13 @@ fn a_source_that_fails_at_any_call_is_a_read_fault(rt: HostRuntime) -> Result<()
 #[test]
 fn an_input_that_is_cut_off_is_no_job(rt: HostRuntime) -> Result<(), Fail> {
     let alloc = rt.alloc();
-    for length in 0..JOB.len() {
-        let input = JOB.get(..length).unwrap_or(JOB);
-        let (exit, _sink) = made(&rt, alloc, &Call::of(&["run"], input))?;
-        let due = if length + 1 == JOB.len() { 0 } else { 3 };
-        assert_eq!(rt; (exit.status, exit.due), (due, due), "{length} bytes");
+    for job in [JOB, WIDE_JOB] {
+        for length in 0..job.len() {
+            let input = job.get(..length).unwrap_or(job);
+            let (exit, _sink) = made(&rt, alloc, &Call::of(&["run"], input))?;
+            let due = if length + 1 == job.len() { 0 } else { 3 };
+            assert_eq!(rt; (exit.status, exit.due), (due, due), "{length} bytes");
+        }
     }
     Ok(())
 }

@@ -99,9 +99,12 @@ fn each_number_of_a_header_may_be_at_its_ends_and_not_past_them(
     Ok(())
 }
 
-/// Lines of one thread, where an object has at most 1,024 blocks, each with what is wrong with it,
-/// if anything is.
-const LINES: [(&str, &str); 26] = [
+/// Lines of one thread of version 1, where an object has at most 1,024 blocks, each with what is
+/// wrong with it, if anything is.
+const LINES: [(&str, &str); 29] = [
+    ("swap 15 0 15", "word"),
+    ("cas 15 0 15 15", "word"),
+    ("idle 0", "word"),
     ("nil 15", ""),
     ("nil 16", "register"),
     ("mov 16 0", "register"),
@@ -130,12 +133,44 @@ const LINES: [(&str, &str); 26] = [
     ("arr 15 4294967296", "size"),
 ];
 
-#[test]
-fn each_operand_may_be_at_its_ends_and_not_past_them(rt: HostRuntime) -> Result<(), Fail> {
-    let alloc = rt.alloc();
-    for (command, why) in LINES {
+/// The same of version 2: seven fields of a record take a block, and eight elements of an array.
+const WIDE_LINES: [(&str, &str); 24] = [
+    ("nil 15", ""),
+    ("nil 16", "register"),
+    ("swap 15 4611686018427387903 15", ""),
+    ("swap 15 4611686018427387904 15", "size"),
+    ("swap 15 9999999999999999999 16", "register"),
+    ("swap 15 18446744073709551615 15", "number"),
+    ("swap 16 0 15", "register"),
+    ("swap 15 0 16", "register"),
+    ("cas 15 4611686018427387903 15 15", ""),
+    ("cas 15 4611686018427387904 15 15", "size"),
+    ("cas 16 0 15 15", "register"),
+    ("cas 15 0 16 15", "register"),
+    ("cas 15 0 15 16", "register"),
+    ("idle 0", ""),
+    ("idle 131070", ""),
+    ("idle 131071", "size"),
+    ("idle 9999999999999999999", "size"),
+    ("idle 18446744073709551615", "number"),
+    ("new 15 7168", ""),
+    ("new 15 7169", "size"),
+    ("new 15 65536", "size"),
+    ("arr 15 7160", ""),
+    ("arr 15 7161", "size"),
+    ("arr 15 4294967296", "size"),
+];
+
+/// Asks for the rate of a job of this version with each of these lines.
+fn are_judged(
+    rt: &(impl Abort + Threads + Wait + Sync),
+    alloc: Global,
+    version: u32,
+    lines: &[(&str, &str)],
+) -> Result<(), Fail> {
+    for (command, why) in lines {
         let text = format!(in alloc;
-            "rtheap 1 threads 1 blocks 65535 live 5000 object 1024 shared 0\n\
+            "rtheap {version} threads 1 blocks 65535 live 5000 object 1024 shared 0\n\
              thread 0\n{command}\nend\n"
         )?;
         let line = if why.is_empty() {
@@ -143,13 +178,16 @@ fn each_operand_may_be_at_its_ends_and_not_past_them(rt: HostRuntime) -> Result<
         } else {
             format!(in alloc; "rtheap: line 3: {why}")?
         };
-        planned(&rt, alloc, text.as_bytes(), line.as_str())?;
+        planned(rt, alloc, text.as_bytes(), line.as_str())?;
     }
     Ok(())
 }
 
-/// The header of a heap of two threads whose rate is 8.
-const TWO: &str = "rtheap 1 threads 2 blocks 64 live 20 object 2 shared 0\n";
+#[test]
+fn each_operand_may_be_at_its_ends_and_not_past_them(rt: HostRuntime) -> Result<(), Fail> {
+    are_judged(&rt, rt.alloc(), 1, &LINES)?;
+    are_judged(&rt, rt.alloc(), 2, &WIDE_LINES)
+}
 
 /// A line so often.
 fn repeated(alloc: Global, line: &str, count: u32) -> Result<String, AllocError> {
@@ -163,26 +201,59 @@ fn repeated(alloc: Global, line: &str, count: u32) -> Result<String, AllocError>
 #[test]
 fn a_thread_has_131_072_commands_and_no_more(rt: HostRuntime) -> Result<(), Fail> {
     let alloc = rt.alloc();
-    let most = repeated(alloc, "nil 1\n", 131_072)?;
-    for (first, second, line) in [
-        ("", "", "rate 8"),
-        ("nil 1\n", "", "rtheap: line 131075: size"),
-        ("", "nil 1\n", "rtheap: line 262148: size"),
-    ] {
-        let text = format!(in alloc; "{TWO}thread 0\n{most}{first}thread 1\n{most}{second}end\n")?;
-        planned(&rt, alloc, text.as_bytes(), line)?;
+    for (version, command) in [(1, "nil 1\n"), (2, "idle 9\n")] {
+        let most = repeated(alloc, command, 131_072)?;
+        for (first, second, line) in [
+            ("", "", "rate 8"),
+            (command, "", "rtheap: line 131075: size"),
+            ("", command, "rtheap: line 262148: size"),
+        ] {
+            let text = format!(in alloc;
+                "rtheap {version} threads 2 blocks 64 live 20 object 2 shared 0\n\
+                 thread 0\n{most}{first}thread 1\n{most}{second}end\n"
+            )?;
+            planned(&rt, alloc, text.as_bytes(), line)?;
+        }
     }
+    Ok(())
+}
+
+#[test]
+fn an_idle_makes_131_070_units(rt: HostRuntime) -> Result<(), Fail> {
+    // A cycle marks the three blocks of the registers and that of the shared array, and sweeps 64.
+    let input = b"rtheap 2 threads 1 blocks 64 live 20 object 2 shared 0
+thread 0
+idle 131070
+end
+";
+    let (exit, sink) = made(&rt, rt.alloc(), &Call::of(&["run"], input))?;
+    let cycles = 131_070 / 68 + 1;
+    let written = format!(in rt.alloc(); "0 idle work 131070\nend cycles {cycles} work 131070\n")?;
+    assert_eq!(rt; sink.bytes(), written.as_bytes());
+    assert_eq!(rt; (exit.status, exit.due), (0, 0));
     Ok(())
 }
 
 /// The most bytes of an input.
 const MOST: usize = 16_777_216;
 
-/// A job of exactly so many bytes, which are some more than 16,776,900.
-fn long_job(alloc: Global, bytes: usize) -> Result<String, AllocError> {
-    let each = repeated(alloc, "set 1 123456789\n", 65_534)?;
-    let header = "rtheap 1 threads 16 blocks 65535 live 20000 object 16 shared 64\n";
-    let mut text = String::from_str(alloc, header)?;
+/// The longest jobs of each version: its command, with the line feed, and how often each of sixteen
+/// threads has it. That of version 2 is the longest that a line of a command may be.
+const LONGEST: [(u32, &str, u32); 2] = [
+    (1, "set 1 123456789\n", 65_534),
+    (2, "cas 15 4611686018427387903 15 15\n", 31_774),
+];
+
+/// A job of exactly so many bytes, which are some more than the lines of these commands have.
+fn long_job(
+    alloc: Global,
+    (version, command, times): (u32, &str, u32),
+    bytes: usize,
+) -> Result<String, AllocError> {
+    let each = repeated(alloc, command, times)?;
+    let mut text = format!(in alloc;
+        "rtheap {version} threads 16 blocks 65535 live 20000 object 16 shared 64\n"
+    )?;
     for t in 0..16 {
         let line = format!(in alloc; "thread {t}\n")?;
         text.push_str(line.as_str())?;
@@ -203,10 +274,12 @@ fn long_job(alloc: Global, bytes: usize) -> Result<String, AllocError> {
 fn an_input_has_16_777_216_bytes_and_no_more(rt: HostRuntime) -> Result<(), Fail> {
     let alloc = rt.alloc();
     let long = "rtheap: input too long";
-    for (bytes, line) in [(MOST, "rate 6"), (MOST + 1, long)] {
-        let text = long_job(alloc, bytes)?;
-        assert_eq!(rt; text.len(), bytes);
-        planned(&rt, alloc, text.as_bytes(), line)?;
+    for longest in LONGEST {
+        for (bytes, line) in [(MOST, "rate 6"), (MOST + 1, long)] {
+            let text = long_job(alloc, longest, bytes)?;
+            assert_eq!(rt; text.len(), bytes);
+            planned(&rt, alloc, text.as_bytes(), line)?;
+        }
     }
     Ok(())
 }

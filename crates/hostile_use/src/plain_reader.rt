@@ -4,7 +4,7 @@
 use std::alloc::{AllocError, Global};
 
 /// The words of commands, each with the kinds of its operands: a register `r`, a number `n`, the
-/// length `f` of a record or `e` of an array.
+/// length `f` of a record or `e` of an array, units `u`.
 const WORDS: [(&[u8], &[u8]); 10] = [
     (b"new", b"rf"),
     (b"arr", b"re"),
@@ -17,6 +17,9 @@ const WORDS: [(&[u8], &[u8]); 10] = [
     (b"same", b"rr"),
     (b"say", b"r"),
 ];
+
+/// Those that are words of version 2 alone.
+const WIDE_WORDS: [(&[u8], &[u8]); 3] = [(b"swap", b"rnr"), (b"cas", b"rnrr"), (b"idle", b"u")];
 
 /// The names in a header, each with the least and the largest number behind it.
 const NAMES: [(&[u8], u64, u64); 5] = [
@@ -104,8 +107,8 @@ fn blocks(kind: u8, length: u64, words: u64) -> u64 {
 /// What the lines so far say.
 #[derive(Drop)]
 struct Place {
-    /// How many words for values a block has.
-    words: u64,
+    /// Whether the version is 2.
+    wide: bool,
     threads: u64,
     /// How many blocks the largest object may take.
     object: u64,
@@ -136,7 +139,7 @@ impl Place {
             };
             small &= *least <= n && n <= *most;
         }
-        self.words = if wide { 8 } else { 4 };
+        self.wide = wide;
         self.threads = number_at(pieces, 3).unwrap_or(0);
         self.object = number_at(pieces, 9).unwrap_or(0);
         if small { None } else { Some("size") }
@@ -155,6 +158,11 @@ impl Place {
         }
         for (word, kinds) in WORDS {
             if is_at(pieces, 0, word) {
+                return self.command(pieces, kinds);
+            }
+        }
+        for (word, kinds) in WIDE_WORDS {
+            if self.wide && is_at(pieces, 0, word) {
                 return self.command(pieces, kinds);
             }
         }
@@ -194,6 +202,7 @@ impl Place {
         if pieces.len() != kinds.len().saturating_add(1) {
             return Some("count");
         }
+        let words = if self.wide { 8 } else { 4 };
         let (mut registers, mut sizes) = (true, true);
         for (i, kind) in kinds.iter().enumerate() {
             let Some(n) = number_at(pieces, i.saturating_add(1)) else {
@@ -202,7 +211,8 @@ impl Place {
             match *kind {
                 b'r' => registers &= n <= 15,
                 b'n' => sizes &= n < 1 << 62,
-                kind => sizes &= n <= 65_535 && blocks(kind, n, self.words) <= self.object,
+                b'u' => sizes &= n <= 131_070,
+                kind => sizes &= n <= 65_535 && blocks(kind, n, words) <= self.object,
             }
         }
         if !registers {
@@ -219,7 +229,7 @@ impl Place {
 /// The first line that is wrong, counted from 1, and why. `None` for an input that is a job.
 pub fn first_wrong(alloc: Global, input: &[u8]) -> Result<Option<(u64, &'static str)>, AllocError> {
     let mut place = Place {
-        words: 4,
+        wide: false,
         threads: 0,
         object: 0,
         begun: 0,

@@ -7,7 +7,7 @@ usage: livelimit < JOB             prints the live limit and the numbers of bloc
 
 For a job of one thread `enough` is a live limit with which no allocation is answered `full`. For
 several threads it is the most in this one order of their commands: another order may need more. The
-job's own live limit and number of blocks are not used. docs/FORMAT.md, \"What a job needs\".
+job's own live limit and number of blocks are not used. docs/TOOLS.md, \"livelimit\".
 ";
 
 pub const VERSION: &str = "livelimit 0.1.0\n";

@@ -1,10 +1,10 @@
 //! All threads of a heap behind one lock: one event is one hold of it.
 #![tactic(auto)]
 
-ghost use Rattle.std.specs.Prelude.{◌≡◌, List, None, map, IfOk, IfErr};
-ghost use Rattle.never_heap.specs.declared.Command.{Command};
+ghost use Rattle.std.specs.Prelude.{◌≡◌, None, map, IfOk, IfErr};
 ghost use Rattle.heap_system.specs.Machines.{IsJob};
-ghost use Rattle.heap_system.specs.Systems.{IsFinished, IsLeastUndone};
+ghost use Rattle.heap_system.specs.Systems.{IsFinished, IsLeastUndone, items_kept};
+ghost use Rattle.lock_board.specs.Logs.{commands_of};
 
 use block_store::{Config, OutOfMemory};
 use heap_system::{Finished, System, Turn, Unfinished};
@@ -72,6 +72,16 @@ fn one_hold<R: Wait>(rt: &R, plain: &Mutex<Plain>, thread: u32, told: u64) -> He
     Held::Made(system.turn(thread))
 }
 
+// What the run of a system shows, whose traces are the commands of its logs.
+fn finished_system(system: System) -> Result<Finished, Unfinished>
+    ensures finished { IfOk result (λ f.
+        IsFinished f.config (commands_of f.logs) f.logs f.cycles) }
+    ensures order { IfOk result (λ f. f.order ≡ items_kept system.ordered) }
+    ensures least { IfErr result (λ u. IsLeastUndone u.system.config u.system.state u.thread) }
+{
+    system.finish()
+}
+
 impl LockBoard {
     /// The board of a configuration that has a rate, with a trace for each thread. A trace is one
     /// life: its commands are in bounds, owe at most 2^45 units, and fewer than 2^43 of them make
@@ -113,19 +123,19 @@ impl LockBoard {
         unreachable!()
     }
 
-    /// What the run shows, where all threads are done. It is a run of the configuration and of the
-    /// traces that it shows: the caller compares these with its job.
+    /// What the run shows, where all threads are done. It is a run of the configuration that it
+    /// shows, and of the commands of its logs: the caller compares these with its job.
     ///
     /// # Errors
     ///
     /// The system, where a thread is not done, with the least such thread.
     pub fn close(self) -> Result<Finished, Unfinished>
-        ensures finished { IfOk result (λ f. (traces : List (List Command))
-            × IsFinished f.config traces f.logs f.cycles) }
+        ensures finished { IfOk result (λ f.
+            IsFinished f.config (commands_of f.logs) f.logs f.cycles) }
         ensures order { IfOk result (λ f. f.order ≡ None) }
         ensures least { IfErr result (λ u.
             IsLeastUndone u.system.config u.system.state u.thread) }
     {
-        self.system.into_inner().system.finish()
+        finished_system(self.system.into_inner().system)
     }
 }

@@ -2,10 +2,10 @@
 use Rattle.std.proofs.Common.{ℕ, zero, suc, ◌+◌, ◌-◌, ◌*◌, ◌/◌, ◌≤◌, ◌<◌, ◌≡◌, inl, inr, Bool, true, false, cond, eqb, arith, refl, subst, sym, ap, ◌∙◌, ne_eqb, mul_comm}
 use Rattle.std.proofs.lemmas.Bool.{cases_Bool, cases_lt}
 use Rattle.std.proofs.lemmas.Nat.{le-div, div_below}
-use Rattle.std.proofs.Math.Nat.{mul-suc, suc-mul, mul-le-mul_right, mul-div-le, div-mul-le_self}
+use Rattle.std.proofs.Math.Nat.{mul-suc, suc-mul, mul-le-mul_right, div-mul-le_self}
 use Rattle.lone_bound.specs.Moves.{Spot, Lone, Terms, at, begun, Goes, Stays, Pays, Dealt, Passed, Writes, Moves}
-use Rattle.lone_bound.specs.Prices.{allocation_bound, inside_cost}
-use Rattle.lone_bound.specs.Near.{Scene, Keeps, Sweeps, NoFarther, near_unit, near_bound, flip_cost, cycle_cost, farthest, changes_cost, near_at, near_left, paid, cycles, mark_debt, sweep_debt, debt, closing, marking}
+use Rattle.lone_bound.specs.Prices.{allocation_bound, idle_bound, inside_cost}
+use Rattle.lone_bound.specs.Near.{Scene, Keeps, Sweeps, NoFarther, near_unit, near_bound, near_other_bound, cycle_cost, farthest, changes_cost, near_at, near_left, paid, cycles, mark_debt, sweep_debt, debt, closing, marking}
 
 less : (r : ℕ) → suc r - 1 ≡ r
 less r = omega arith
@@ -426,10 +426,16 @@ module _ (e : Terms) (m : ℕ) (wide : 2 ≤ e.payloads) (some : 0 < m) where
   owed_most : (r room : ℕ) (far : ℕ → ℕ) (sweep : Bool)
       → ((v : ℕ) → far v ≤ farthest e.threads v)
       → debt e m sweep r room far ≤ changes_cost e.threads m r
-  owed_most r room far true few = let s = sweeping_most r room in omega arith
+  owed_most zero room far true few = let z = div_none (zero - room + (m - 1)) m (omega arith) in
+      let t = times_low (cycle_cost e.threads) ((zero - room + (m - 1)) / m) 0 (omega arith) in
+      omega arith
+  owed_most (suc r) room far true few =
+      let s = sweeping_most (suc r) room in
+      let l = ap (λ v. cycle_cost e.threads * (v / m)) (less r) in omega arith
   owed_most zero room far false few = omega arith
   owed_most (suc r) room far false few =
-      let f = few r in let l = ap (farthest e.threads) (less r) in omega arith
+      let f = few r in
+      let l = ap (λ v. cycle_cost e.threads * (v / m)) (less r) in omega arith
 
   -- of any command
   pub near_look : (r room : ℕ) (far : ℕ → ℕ) (sweep : Bool)
@@ -448,17 +454,25 @@ module _ (e : Terms) (m : ℕ) (wide : 2 ≤ e.payloads) (some : 0 < m) where
       rw makes refl in
       let l = near_look r room far sweep few in omega arith
 
+  -- and so is another command
+  pub near_other : (r room : ℕ) (far : ℕ → ℕ) (sweep : Bool) → e.allocates ≡ false
+      → ((v : ℕ) → far v ≤ farthest e.threads v)
+      → A Spot.Look r sweep room far ≤ near_other_bound e.threads e.payloads m r e.most
+  near_other r room far sweep serves few =
+      let inside : inside_cost e 0 ≡ e.most + 1 = rw serves refl in
+      let l = near_look r room far sweep few in omega arith
+
 farthest_low : (n r : ℕ) → n ≤ 16 → farthest n r ≤ 15 * n
 farthest_low zero r low = omega arith
 farthest_low (suc n) zero low = omega arith
 farthest_low (suc n) (suc r) low = let f = farthest_low n r (omega arith) in omega arith
 
 -- the cycles' changes are within so much for a unit
-cycles_low : (n m r : ℕ) → n ≤ m → 1 ≤ m → cycle_cost n * ((r - 1) / m) ≤ 18 * r
+cycles_low : (n m r : ℕ) → n ≤ m → 1 ≤ m → cycle_cost n * (r / m) ≤ 18 * r
 cycles_low n m r more some =
-    let q = (r - 1) / m in
+    let q = r / m in
     let a : q * cycle_cost n ≤ q * (18 * m) = times_low q (cycle_cost n) (18 * m) (omega arith) in
-    let b : q * m ≤ r - 1 = div-mul-le_self (r - 1) m in
+    let b : q * m ≤ r = div-mul-le_self r m in
     omega (arith, a, b, mul_comm q (cycle_cost n), mul_swap q m)
   where
     mul_swap : (q m : ℕ) → q * (18 * m) ≡ 18 * (q * m)
@@ -467,6 +481,13 @@ cycles_low n m r more some =
         let l = mul_swap q m in
         let x = suc-mul q (18 * m) in
         let y = suc-mul q m in omega arith
+
+-- and all changes are within this
+changes_low : (n m r : ℕ) → n ≤ 16 → n ≤ m → 1 ≤ m → changes_cost n m r ≤ 18 * r + 17 * n + 15
+changes_low n m zero many more some = omega arith
+changes_low n m (suc r) many more some =
+    let d = farthest_low n r many in
+    let f = cycles_low n m r more some in omega arith
 
 -- the near bound is within the stated one
 pub near_within : (n m w rate k : ℕ) → n ≤ 16 → w ≤ 8 → n ≤ m → 1 ≤ m
@@ -480,6 +501,18 @@ near_within n m w rate k many wide more some =
     next_mul (rate * k + 1) (rate * k) (8 * n + 64) (omega arith) in
     let c : (w + 4) * k ≤ 16 * k =
     mul-le-mul_right k (let z : w + 4 ≤ 16 = omega arith in z) in
-    let d = farthest_low n (rate * k - 1) many in
-    let f = cycles_low n m (rate * k) more some in
+    let f = changes_low n m (rate * k) many more some in
+    omega arith
+
+pub idle_within : (n m w r : ℕ) → n ≤ 16 → w ≤ 8 → n ≤ m → 1 ≤ m
+    → near_other_bound n w m r 1 ≤ idle_bound n r
+idle_within n m w zero many wide more some = omega arith
+idle_within n m w (suc r) many wide more some =
+    let a : suc r * near_unit w ≤ suc r * 23 = times_low (suc r) (near_unit w) 23 (omega arith) in
+    let u : r * 64 ≤ r * (8 * n + 64) = times_low r 64 (8 * n + 64) (omega arith) in
+    let b : (suc r + 1) * (8 * n + 64) ≡ suc r * (8 * n + 64) + (8 * n + 64) =
+    next_mul (suc r + 1) (suc r) (8 * n + 64) (omega arith) in
+    let d : suc r * (8 * n + 64) ≡ r * (8 * n + 64) + (8 * n + 64) =
+    next_mul (suc r) r (8 * n + 64) refl in
+    let f = changes_low n m (suc r) many more some in
     omega arith

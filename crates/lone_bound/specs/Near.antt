@@ -25,12 +25,18 @@ farthest (suc n) (suc passes) = n + farthest n passes
 -- of the changes of phase among r units, in a heap of m blocks: a Mark that ends behind passes to
 -- others' lists, or both changes of a cycle; and one cycle more for each m units
 abbrev pub changes_cost : ℕ → ℕ → ℕ → ℕ
-changes_cost n m r =
-    max (flip_cost n + farthest n (r - 1)) (cycle_cost n) + cycle_cost n * ((r - 1) / m)
+changes_cost n m zero = 0
+changes_cost n m (suc r) =
+    max (flip_cost n + farthest n r) (cycle_cost n) + cycle_cost n * (r / m)
 
 -- The near bound of an allocation of k blocks, of w payload words each, that owes r units.
 abbrev pub near_bound : ℕ → ℕ → ℕ → ℕ → ℕ → ℕ
 near_bound n w m r k = r * near_unit w + changes_cost n m r + ((w + 4) * k + n + 7)
+
+-- And of another command, which owes r units and has so many events inside: beside them it looks at
+-- the gate, goes in, and goes out.
+abbrev pub near_other_bound : ℕ → ℕ → ℕ → ℕ → ℕ → ℕ
+near_other_bound n w m r events = r * near_unit w + changes_cost n m r + (events + 3)
 
 -- The thread, the blocks that the sweep has not passed, and the most turns of so many passes to
 -- grey lists of others.

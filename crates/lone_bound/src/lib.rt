@@ -5,7 +5,7 @@
 ghost use Rattle.std.specs.Prelude.{ℕ, Bool, true, false, suc, ◌+◌, ◌*◌, ◌<◌, ◌≤◌, ◌≡◌, ◌⊎◌};
 ghost use Rattle.lone_bound.specs.Moves.{Look, Lone, Terms, Moves, Fresh, changes_phase};
 ghost use Rattle.lone_bound.specs.Prices.{left, at_look, unit_cost, inside_cost, allocation_bound, idle_bound, other_bound};
-ghost use Rattle.lone_bound.specs.Near.{Scene, NearMoves, near_left, near_at, near_unit, near_bound, farthest, changes_cost};
+ghost use Rattle.lone_bound.specs.Near.{Scene, NearMoves, near_left, near_at, near_unit, near_bound, near_other_bound, farthest, changes_cost};
 
 /// Each move lowers what is left of the command, on blocks of two payload words or more and at any
 /// price of a unit that is at least its cost.
@@ -53,19 +53,27 @@ pub fn near_moves_lower()
         → (s z : Scene) → NearMoves e m s z → near_left e m z < near_left e m s }
 {}
 
-/// What is left at the look is within the near bound: of an allocation (`allocation`), and of any
-/// command (`any`). The stated bound follows from it on at most 16 threads, blocks of at most eight
-/// payload words, and a heap of at least as many blocks as threads (`stated`).
+/// What is left at the look is within the near bound: of an allocation (`allocation`), of a command
+/// that makes no object (`other`), and of any command (`any`). The stated bound follows from it on
+/// at most 16 threads, blocks of at most eight payload words, and a heap of at least as many blocks
+/// as threads (`stated`, `idle_stated`).
 pub fn near_holds()
     ensures allocation { (e : Terms) (m r room : ℕ) (far : ℕ → ℕ) (sweep : Bool)
         → 2 ≤ e.payloads → 0 < m → e.allocates ≡ true
         → ((passes : ℕ) → far passes ≤ farthest e.threads passes)
         → near_at e m Look r sweep room far
         ≤ near_bound e.threads e.payloads m r e.blocks }
+    ensures other { (e : Terms) (m r room : ℕ) (far : ℕ → ℕ) (sweep : Bool)
+        → 2 ≤ e.payloads → 0 < m → e.allocates ≡ false
+        → ((passes : ℕ) → far passes ≤ farthest e.threads passes)
+        → near_at e m Look r sweep room far
+        ≤ near_other_bound e.threads e.payloads m r e.most }
     ensures any { (e : Terms) (m r room : ℕ) (far : ℕ → ℕ) (sweep : Bool)
         → 2 ≤ e.payloads → 0 < m → ((passes : ℕ) → far passes ≤ farthest e.threads passes)
         → near_at e m Look r sweep room far
         ≤ r * near_unit e.payloads + changes_cost e.threads m r + inside_cost e 0 + 2 }
     ensures stated { (n m w rate k : ℕ) → n ≤ 16 → w ≤ 8 → n ≤ m → 1 ≤ m
         → near_bound n w m (rate * k) k ≤ allocation_bound n k rate }
+    ensures idle_stated { (n m w r : ℕ) → n ≤ 16 → w ≤ 8 → n ≤ m → 1 ≤ m
+        → near_other_bound n w m r 1 ≤ idle_bound n r }
 {}

@@ -112,20 +112,28 @@ fn the_whole_text_is_told(rt: HostRuntime) -> Result<(), Fail> {
 allocated 1
 reached 7
 enough 7
-blocks 115 rate 5
-blocks 69 rate 6
-blocks 55 rate 7
-blocks 47 rate 8
-blocks 43 rate 9
-blocks 39 rate 10
-blocks 35 rate 12
-blocks 31 rate 16
-blocks 29 rate 24
-blocks 27 rate 32
-blocks 27 rate 48
-blocks 25 rate 64
-blocks 25 rate 128
-blocks 25 rate 1024
+blocks 115 rate 5 bytes 6480 turns 109 largest 690 years 22
+rtheap 1 threads 1 blocks 115 live 7 object 8 shared 0
+blocks 69 rate 6 bytes 3904 turns 124 largest 810 years 18
+rtheap 1 threads 1 blocks 69 live 7 object 8 shared 0
+blocks 55 rate 7 bytes 3120 turns 139 largest 948 years 15
+rtheap 1 threads 1 blocks 55 live 7 object 8 shared 0
+blocks 47 rate 8 bytes 2672 turns 154 largest 1068 years 13
+rtheap 1 threads 1 blocks 47 live 7 object 8 shared 0
+blocks 43 rate 9 bytes 2448 turns 169 largest 1188 years 12
+rtheap 1 threads 1 blocks 43 live 7 object 8 shared 0
+blocks 39 rate 10 bytes 2224 turns 184 largest 1326 years 11
+rtheap 1 threads 1 blocks 39 live 7 object 8 shared 0
+blocks 35 rate 12 bytes 2000 turns 214 largest 1566 years 9
+rtheap 1 threads 1 blocks 35 live 7 object 8 shared 0
+blocks 31 rate 16 bytes 1776 turns 274 largest 2082 years 6
+rtheap 1 threads 1 blocks 31 live 7 object 8 shared 0
+blocks 29 rate 20 bytes 1664 turns 334 largest 2580 years 5
+rtheap 1 threads 1 blocks 29 live 7 object 8 shared 0
+blocks 27 rate 27 bytes 1552 turns 439 largest 3456 years 4
+rtheap 1 threads 1 blocks 27 live 7 object 8 shared 0
+blocks 25 rate 50 bytes 1440 turns 802 largest 6360 years 2
+rtheap 1 threads 1 blocks 25 live 7 object 8 shared 0
 ";
     assert_eq!(rt; answer.1.as_slice(), text.as_slice());
     assert_eq!(rt; answer.0, 0);

@@ -26,3 +26,4 @@ pub mod Once
 pub mod Readback
 pub mod TraceOrder
 pub mod LiveScan
+pub mod Stamps

@@ -27,6 +27,7 @@ pub use laws::{
     live_blocks_are_few, names_stay, opening_blocks_are_live, reach_grows_by_new_objects,
     reachable_is_least, steps_answer, steps_leave,
 };
+pub use live::Scan;
 use object_lists::blocks_of_record;
 pub use read_laws::{
     commands_stand_in_trace_order, fields_hold_what_was_last_stored, gets_read_what_was_last_stored,

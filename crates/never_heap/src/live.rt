@@ -10,17 +10,28 @@ ghost use Rattle.never_heap.specs.Scans.{IsScanOf, HasFound, HasRegisters};
 use crate::Graph;
 use crate::marks::Marks;
 use block_store::{Name, OutOfMemory, Value};
+use std::alloc::Global;
 
 /// A scan over the objects that can be reached: those found so far, each once, and their blocks
-/// with those of the registers.
+/// with those of the registers. One value serves any number of counts, and takes memory only where
+/// there are more objects than before.
 #[derive(Drop)]
-struct Scan {
+pub struct Scan {
     marks: Marks,
     found: Vec<Name>,
     total: u64,
 }
 
 impl Scan {
+    /// A scan that has found nothing.
+    pub fn new(alloc: Global) -> Scan {
+        Scan {
+            marks: Marks::new(alloc),
+            found: Vec::new(alloc),
+            total: 0,
+        }
+    }
+
     // Finds the object of a name, where it was not found before.
     fn find(&mut self, graph: &Graph, name: Name) -> Result<(), OutOfMemory>
         requires few { length (names graph.now.graph) ≤ 2097153 }
@@ -61,8 +72,16 @@ impl Graph {
     pub fn count_live(&self) -> Result<u64, OutOfMemory>
         ensures { IfOk result (λ k. k ≡ live_blocks self.now.width self.now.graph) }
     {
+        self.count_live_by(&mut Scan::new(self.alloc()))
+    }
+
+    /// The same number by a scan that was used before, or was not. Nothing of what it found before
+    /// is looked at, so the time goes with what is live, and not with all objects that were made.
+    pub fn count_live_by(&self, scan: &mut Scan) -> Result<u64, OutOfMemory>
+        ensures { IfOk result (λ k. k ≡ live_blocks self.now.width self.now.graph) }
+    {
         self.count_names();
-        let mut scan = self.scan_registers()?;
+        self.scan_registers(scan)?;
         let mut next = 0;
         while next < scan.found.len() {
             let name = scan.found[next];
@@ -72,21 +91,19 @@ impl Graph {
         Ok(scan.total)
     }
 
-    // A scan that has found what stands in registers.
-    fn scan_registers(&self) -> Result<Scan, OutOfMemory>
+    // The scan begins, and finds what stands in registers.
+    fn scan_registers(&self, scan: &mut Scan) -> Result<(), OutOfMemory>
         requires { length (names self.now.graph) ≤ 2097153 }
-        ensures scanned { IfOk result (IsScanOf self.now) }
-        ensures registers { IfOk result (λ s. HasRegisters self.now.graph s.marks) }
+        ensures scanned { OnOk result (IsScanOf self.now scan.new) }
+        ensures registers { OnOk result (HasRegisters self.now.graph scan.new.marks) }
     {
-        let mut scan = Scan {
-            marks: self.no_marks()?,
-            found: Vec::new(self.alloc()),
-            total: self.register_blocks(),
-        };
+        self.clear_marks(&mut scan.marks)?;
+        scan.found.clear();
+        scan.total = self.register_blocks();
         for mutator in self.mutators() {
             scan.find_all(self, mutator.registers())?;
         }
-        Ok(scan)
+        Ok(())
     }
 
     // How many objects there are.

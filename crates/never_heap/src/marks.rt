@@ -1,6 +1,6 @@
 //! Marks on the objects of a graph.
 
-ghost use Rattle.std.specs.Prelude.{◌≡◌, ◌<◌, ◌-◌, ◌&&◌, ◌||◌, ◌++◌, ◌∷◌, [], true, false, length, replicate, slice_set, slice_index_or, OnOk};
+ghost use Rattle.std.specs.Prelude.{◌≡◌, ◌<◌, ◌≤◌, ◌+◌, ◌-◌, ◌&&◌, ◌||◌, ◌++◌, ◌∷◌, [], true, false, ℕ, length, replicate, slice_set, slice_index_or, take, OnOk};
 ghost use Rattle.block_store.specs.declared.Name.{Name};
 ghost use Rattle.never_heap.specs.Graphs.{same_name};
 ghost use Rattle.never_heap.specs.Marks.{has_place, has_mark};
@@ -10,31 +10,61 @@ use block_store::{Name, OutOfMemory, Value};
 use std::alloc::Global;
 use std::marker::Model;
 
-/// The marks of the objects of one thread.
+/// The marks of the objects of one thread: those are marked whose stamp is the present one. So all
+/// marks go by a step to the next stamp.
 #[derive(Drop)]
 struct Row {
-    cells: Vec<bool>,
+    stamps: Vec<u32>,
+    present: u32,
 }
 
 impl Model for Row {
-    ghost use Rattle.std.specs.Prelude.{List, Bool};
+    ghost use Rattle.std.specs.Prelude.{List, Bool, map, ◌≤◌, ◌==◌};
+    ghost use Rattle.std.specs.List.{All};
 
     ghost Value = { List Bool };
 
-    ghost view = { λ r. r.cells.items };
+    ghost view = { λ r. map (λ s. s == r.present) r.stamps.items };
+
+    ghost invariant = { λ r. All (λ s. s ≤ r.present) r.stamps.items };
 }
 
 impl Row {
+    fn new(alloc: Global) -> Row
+        ensures { result ≡ [] }
+    {
+        Row {
+            stamps: Vec::new(alloc),
+            present: 0,
+        }
+    }
+
+    // A place for each of so many objects, and no mark.
+    fn begin(&mut self, alloc: Global, objects: usize) -> Result<(), OutOfMemory>
+        ensures { OnOk result (self.new ≡ replicate objects false) }
+    {
+        let Some(next) = self.present.checked_add(1) else {
+            *self = Row {
+                stamps: vec![in alloc; 0; objects]?,
+                present: 1,
+            };
+            return Ok(());
+        };
+        self.stamps.resize(objects, 0)?;
+        self.present = next;
+        Ok(())
+    }
+
     fn len(&self) -> usize
         ensures { result ≡ length self.now }
     {
-        self.cells.len()
+        self.stamps.len()
     }
 
     fn has(&self, i: usize) -> bool
         ensures { result ≡ slice_index_or self.now i false }
     {
-        i < self.cells.len() && self.cells[i]
+        i < self.stamps.len() && self.stamps[i] == self.present
     }
 
     // Marks place `i`, where there is one, and answers whether it was not marked before.
@@ -44,11 +74,14 @@ impl Row {
         ensures is_new { result ≡ true
             → (i < length self.old) × (slice_index_or self.old i false ≡ false) }
     {
-        let is_new = i < self.cells.len() && !self.cells[i];
-        if is_new {
-            self.cells[i] = true;
+        if i >= self.stamps.len() {
+            return false;
         }
-        is_new
+        if self.stamps[i] == self.present {
+            return false;
+        }
+        self.stamps[i] = self.present;
+        true
     }
 }
 
@@ -78,14 +111,33 @@ impl Marks {
         }
     }
 
-    // The next thread, with no mark on its objects.
-    pub(crate) fn add(&mut self, alloc: Global, objects: usize) -> Result<(), OutOfMemory>
-        ensures rows { OnOk result (self.new.rows ≡ self.old.rows ++ replicate objects false ∷ []) }
+    // No mark on the shared array, and no more threads than these.
+    pub(crate) fn clear_shared(&mut self, threads: usize)
+        ensures rows { self.new.rows ≡ take threads self.old.rows }
+        ensures shared { self.new.shared ≡ false }
+    {
+        self.shared = false;
+        self.rows.truncate(threads);
+    }
+
+    // No mark on the objects of a thread, which may be the next one.
+    pub(crate) fn clear_row(
+        &mut self,
+        alloc: Global,
+        thread: usize,
+        objects: usize,
+    ) -> Result<(), OutOfMemory>
+        requires { thread ≤ length self.old.rows }
+        ensures rows { OnOk result (take (thread + 1) self.new.rows
+            ≡ take thread self.old.rows ++ replicate objects false ∷ []) }
+        ensures some { OnOk result (thread < length self.new.rows) }
+        ensures few { (n : ℕ) → thread < n → length self.old.rows ≤ n → length self.new.rows ≤ n }
         ensures shared { self.new.shared ≡ self.old.shared }
     {
-        let cells = vec![in alloc; false; objects]?;
-        self.rows.push(Row { cells })?;
-        Ok(())
+        if thread == self.rows.len() {
+            self.rows.push(Row::new(alloc))?;
+        }
+        self.rows[thread].begin(alloc, objects)
     }
 
     pub(crate) fn has(&self, name: Name) -> bool

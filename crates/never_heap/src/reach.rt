@@ -50,10 +50,22 @@ impl Graph {
         ensures marks { IfOk result (λ m. (b : Name) → has_mark m b ≡ false) }
     {
         let mut marks = Marks::new(self.alloc());
-        for mutator in self.mutators() {
-            marks.add(self.alloc(), mutator.count())?;
-        }
+        self.clear_marks(&mut marks)?;
         Ok(marks)
+    }
+
+    // The same of marks that there are, whichever they are.
+    pub(crate) fn clear_marks(&self, marks: &mut Marks) -> Result<(), OutOfMemory>
+        ensures places { OnOk result ((b : Name)
+            → has_place marks.new b ≡ has_name self.now.graph b) }
+        ensures marks { OnOk result ((b : Name) → has_mark marks.new b ≡ false) }
+    {
+        let mutators = self.mutators();
+        marks.clear_shared(mutators.len());
+        for thread in 0..mutators.len() {
+            marks.clear_row(self.alloc(), thread, mutators[thread].count())?;
+        }
+        Ok(())
     }
 
     // Marks what stands in registers.

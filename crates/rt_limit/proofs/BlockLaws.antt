@@ -4,7 +4,10 @@ use Rattle.std.proofs.lemmas.Bool.{both_ways, cases_lt}
 use Rattle.block_store.specs.declared.Config.{Config}
 use Rattle.block_store.specs.Configs.{IsInBounds}
 use Rattle.rate_plan.specs.Rates.{IsAdmitted, IsRate}
-use Rattle.rt_limit.specs.Blocks.{with_limits, HasRate, IsLeastBlocks}
+use Rattle.rate_plan.specs.Rates.{IsRefusal}
+use Rattle.rate_plan.specs.declared.PlanFault.{PlanFault}
+use Rattle.rate_plan.specs.declared.PlanFault.TheVariants.{NoRate, LiveTooSmall}
+use Rattle.rt_limit.specs.Blocks.{with_limits, HasRate, IsLeastBlocks, IsToldBefore}
 
 -- none of the numbers below has one
 abbrev pub NoneBelow : Config → ℕ → ℕ → ℕ → Type 0
@@ -66,3 +69,36 @@ module _ (c : Config) (live rate : ℕ) where
           | inr above ↦ above
         ];
       }
+
+  -- ---- the least heap
+
+  one_least : (a b : ℕ) → IsLeastBlocks c live rate a → IsLeastBlocks c live rate b → a ≡ b
+  one_least a b x y =
+      let low = x.least b y.enough in
+      let high = y.least a x.enough in
+      omega arith
+
+  pub none_is_least : (before : ℕ) → ((m : ℕ) → HasRate c live rate m → ⊥)
+      → IsToldBefore c live before rate
+  none_is_least before none m is = absurd (none m is.enough)
+
+  pub told_before : (before blocks own : ℕ) → IsLeastBlocks c live rate blocks
+      → IsAdmitted (with_limits c blocks live) → IsRate (with_limits c blocks live) own
+      → own ≤ before → IsToldBefore c live before rate
+  told_before before blocks own least admitted is low m other =
+      subst (HasRate c live before) (one_least blocks m least other) (record {
+        in_bounds = least.enough.in_bounds;
+        admitted = admitted;
+        rate = own;
+        is_rate = is;
+        low = low;
+      })
+
+  pub not_refused : (blocks : ℕ) → IsLeastBlocks c live rate blocks → (f : PlanFault)
+      → IsRefusal (with_limits c blocks live) f → ⊥
+  not_refused blocks least LiveTooSmall r =
+      let opens = least.enough.admitted.opens in omega arith
+  not_refused blocks least NoRate r =
+      let room = least.enough.admitted.room in
+      let less = r.1 in
+      omega arith

@@ -2,5 +2,6 @@ pub mod Moments
 pub mod Figures
 pub mod Counting
 pub mod Blocks
+pub mod Prices
 pub mod Texts
 pub mod Answers

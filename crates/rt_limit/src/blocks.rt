@@ -1,9 +1,9 @@
 //! How many blocks a rate takes.
 
-ghost use Rattle.std.specs.Prelude.{◌≡◌, ◌≤◌, ◌↔◌, true, ℕ, MatchOption};
+ghost use Rattle.std.specs.Prelude.{◌≡◌, ◌≤◌, ◌↔◌, true, ℕ, MatchOption, IfSome};
 ghost use Rattle.block_store.specs.Configs.{IsInBounds};
 ghost use Rattle.rate_plan.specs.Rates.{IsAdmitted, IsRate};
-ghost use Rattle.rt_limit.specs.Blocks.{HasRate, IsLeastBlocks};
+ghost use Rattle.rt_limit.specs.Blocks.{HasRate, IsLeastBlocks, IsNewHeap, IsToldBefore};
 
 use block_store::Config;
 use rate_plan::{one_rate, plan};
@@ -32,6 +32,38 @@ pub fn least_blocks(config: &Config, live: u64, rate: u64) -> Option<u32>
         }
     }
     None
+}
+
+/// A heap with the least number of blocks for some rate.
+#[derive(Clone, Copy)]
+pub(crate) struct Least {
+    pub(crate) heap: Config,
+    /// The heap's own rate.
+    pub(crate) rate: u64,
+}
+
+/// The least heap for a rate, where it has no rate of at most `before`.
+pub(crate) fn least_heap(config: &Config, live: u64, before: u64, rate: u64) -> Option<Least>
+    requires { IsInBounds config.now }
+    ensures heap { MatchOption result (IsToldBefore config.now live before rate)
+        (IsNewHeap config.now live before rate) }
+    ensures bounds { IfSome result (λ x. IsInBounds x.heap) }
+    ensures rate { IfSome result (λ x. (1 ≤ x.rate) × (x.rate ≤ 131070)) }
+{
+    let blocks = least_blocks(config, live, rate)?;
+    let heap = Config {
+        blocks,
+        live: live as u32,
+        ..*config
+    };
+    let Ok(own) = plan(&heap) else {
+        return None;
+    };
+    if own <= before {
+        return None;
+    }
+    one_rate();
+    Some(Least { heap, rate: own })
 }
 
 // Whether a heap has a rate of at most `rate`.

@@ -14,7 +14,7 @@ ghost use Rattle.rt_limit.specs.Figures.{AreFigures};
 ghost use Rattle.rt_limit.specs.Moments.{graph_behind};
 
 use block_store::{Config, OutOfMemory};
-use never_heap::Graph;
+use never_heap::{Graph, Scan};
 use rt_check::Move;
 use std::alloc::Global;
 
@@ -39,10 +39,10 @@ pub(crate) struct Counter {
 
 impl Counter {
     // Before the first command.
-    fn start(graph: &Graph) -> Result<Counter, OutOfMemory>
+    fn start(graph: &Graph, scan: &mut Scan) -> Result<Counter, OutOfMemory>
         ensures { IfOk result (Knows graph.now.width graph.now.graph []) }
     {
-        let live = graph.count_live()?;
+        let live = graph.count_live_by(scan)?;
         Ok(Counter {
             figures: Figures {
                 allocated: 0,
@@ -55,7 +55,7 @@ impl Counter {
 
     // Behind one more command, which made so many blocks. They are counted anew only where they may
     // be more than the greatest count by more than its 64th part.
-    fn went(&mut self, graph: &Graph, made: u32) -> Result<(), OutOfMemory>
+    fn went(&mut self, graph: &Graph, scan: &mut Scan, made: u32) -> Result<(), OutOfMemory>
         requires { HasRoom self.old made }
         ensures { (g : graphs.Graph) (past : List Move) (m : Move)
             → Knows graph.now.width g past self.old
@@ -70,7 +70,7 @@ impl Counter {
             self.bind(bound);
             return Ok(());
         }
-        let live = graph.count_live()?;
+        let live = graph.count_live_by(scan)?;
         self.figures.reached = reached.max(live);
         self.bind(live);
         Ok(())
@@ -101,10 +101,11 @@ pub(crate) fn figures_of(
     ensures { IfOk result (AreFigures config.now.width (start_graph config.now) moves.now) }
 {
     let mut graph = Graph::start(alloc, config)?;
-    let mut counter = Counter::start(&graph)?;
+    let mut scan = Scan::new(alloc);
+    let mut counter = Counter::start(&graph, &mut scan)?;
     for next in moves {
         graph.apply(next.thread, &next.command)?;
-        counter.went(&graph, next.command.blocks(config.width))?;
+        counter.went(&graph, &mut scan, next.command.blocks(config.width))?;
     }
     Ok(counter.figures)
 }

@@ -5,6 +5,7 @@ mod blocks;
 mod counts;
 mod laws;
 mod orders;
+mod prices;
 mod texts;
 mod top;
 

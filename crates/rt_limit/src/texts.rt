@@ -2,15 +2,16 @@
 
 ghost use Rattle.std.specs.Prelude.{◌≡◌, ◌≤◌, ◌<◌, ◌++◌, ℕ, List, length, codes, decimal, take, IfOk, OnOk};
 ghost use Rattle.block_store.specs.Configs.{IsInBounds};
-ghost use Rattle.rt_limit.specs.Texts.{number_line, order_line, figures_text, blocks_line, IsRow, AreRows, IsText, rates};
+ghost use Rattle.rt_limit.specs.Texts.{number_line, order_line, figures_text, heap_line, heap_text, IsRow, AreRows, IsText, rates};
 
-use crate::blocks::least_blocks;
+use crate::blocks::least_heap;
 use crate::counts::Figures;
+use crate::prices::{bytes, turns, years};
 use block_store::{Config, OutOfMemory};
 use std::alloc::Global;
-use trace_text::LineBuffer;
+use trace_text::{LineBuffer, line_of_config};
 
-/// The rates for which the blocks are told.
+/// The rates for which the least heaps are told.
 const RATES: [u64; 14] = [5, 6, 7, 8, 9, 10, 12, 16, 24, 32, 48, 64, 128, 1024];
 
 /// The text of a job's needs.
@@ -56,33 +57,68 @@ fn add_line(text: &mut Vec<u8>, word: &[u8], number: u64) -> Result<(), OutOfMem
     Ok(())
 }
 
-// Adds a line for each rate that some number of blocks has.
+// Adds the lines of each heap once: of the least for each rate, where it has not the rate before.
 fn add_rows(text: &mut Vec<u8>, config: &Config, live: u64) -> Result<(), OutOfMemory>
     requires { IsInBounds config.now }
-    ensures { OnOk result ((rows : List ℕ) × AreRows config.now live rates rows
+    ensures { OnOk result ((rows : List ℕ) × AreRows config.now live 0 rates rows
         × (text.new.items ≡ text.old.items ++ rows)) }
 {
+    let mut before = 0;
     for rate in &RATES {
-        add_row(text, config, live, *rate)?;
+        add_row(text, config, live, before, *rate)?;
+        before = *rate;
     }
     Ok(())
 }
 
-// Adds the line for one rate, where some number of blocks has it.
-fn add_row(text: &mut Vec<u8>, config: &Config, live: u64, rate: u64) -> Result<(), OutOfMemory>
+// Adds the lines of the least heap for one rate, where it has not the rate before.
+fn add_row(
+    text: &mut Vec<u8>,
+    config: &Config,
+    live: u64,
+    before: u64,
+    rate: u64,
+) -> Result<(), OutOfMemory>
     requires { IsInBounds config.now }
-    ensures { OnOk result ((row : List ℕ) × IsRow config.now live rate row
+    ensures { OnOk result ((row : List ℕ) × IsRow config.now live before rate row
         × (text.new.items ≡ text.old.items ++ row)) }
 {
-    let Some(blocks) = least_blocks(config, live, rate) else {
-        return Ok(());
-    };
+    match least_heap(config, live, before, rate) {
+        Some(least) => add_heap(text, &least.heap, least.rate),
+        None => Ok(()),
+    }
+}
+
+// Adds what is told of a heap, and the header of a job with this heap.
+fn add_heap(text: &mut Vec<u8>, heap: &Config, rate: u64) -> Result<(), OutOfMemory>
+    requires heap { IsInBounds heap.now }
+    requires rate { (1 ≤ rate) × (rate ≤ 131070) }
+    ensures { OnOk result (text.new.items ≡ text.old.items ++ heap_text heap.now rate) }
+{
+    text.extend_from_slice(line_of_heap(heap, rate).bytes())?;
+    text.extend_from_slice(line_of_config(heap).bytes())?;
+    Ok(())
+}
+
+// What is told of a heap.
+fn line_of_heap(heap: &Config, rate: u64) -> LineBuffer
+    requires heap { IsInBounds heap.now }
+    requires rate { (1 ≤ rate) × (rate ≤ 131070) }
+    ensures { result ≡ heap_line heap.now rate }
+{
     let mut line = LineBuffer::new();
     line.prepend(b"\n");
-    line.prepend_number(rate);
+    line.prepend_short_number(years(rate));
+    line.prepend(b" years ");
+    line.prepend_number(turns(heap, rate, heap.object));
+    line.prepend(b" largest ");
+    line.prepend_number(turns(heap, rate, 1));
+    line.prepend(b" turns ");
+    line.prepend_short_number(bytes(heap));
+    line.prepend(b" bytes ");
+    line.prepend_short_number(rate as u32);
     line.prepend(b" rate ");
-    line.prepend_short_number(blocks);
+    line.prepend_short_number(heap.blocks);
     line.prepend(b"blocks ");
-    text.extend_from_slice(line.bytes())?;
-    Ok(())
+    line
 }

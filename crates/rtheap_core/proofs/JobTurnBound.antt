@@ -12,7 +12,6 @@ use Rattle.never_heap.specs.Steps.{blocks_of}
 use Rattle.lone_bound.specs.Prices.{allocation_bound, idle_bound, other_bound}
 use Rattle.heap_system.specs.Alone.{command_bound}
 use Rattle.heap_system.specs.Serials.{trace_bound, job_bound}
-use Rattle.heap_system.proofs.OwedAndPaid.{blocks_low, told_low}
 
 module _ (c : Config) (rate : ℕ) (threads : c.threads ≤ 16) (object : c.object ≤ 1024)
     (low : rate ≤ 131070) where

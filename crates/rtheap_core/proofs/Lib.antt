@@ -10,6 +10,8 @@ pub mod Trials
 pub mod CarriedOut
 pub mod Headlines
 pub mod LogsWithoutFulls
+pub mod OwnerWords
+pub mod OwnersOfRuns
 pub mod Verdicts
 pub mod DrawnTraces
 pub mod GeneratedHeap

@@ -2,6 +2,7 @@ pub mod Tasks
 pub mod Generated
 pub mod Ends
 pub mod Exits
+pub mod Owners
 pub mod Refusals
 pub mod Outcomes
 pub mod Calls

@@ -3,6 +3,7 @@
 
 mod exit;
 mod generated;
+mod laws;
 mod making;
 mod planning;
 mod reading;
@@ -16,4 +17,5 @@ mod trial;
 
 pub use exit::{Exit, RunEnd};
 pub use generated::generate;
+pub use laws::texts_are_lives;
 pub use top::rtheap;

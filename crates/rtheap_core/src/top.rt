@@ -5,9 +5,11 @@ ghost use Rattle.rtheap_core.specs.declared.exit.RunEnd.{RunEnd};
 ghost use Rattle.rtheap_core.specs.Calls.{IsCarriedOut, IsComplete};
 ghost use Rattle.rtheap_core.specs.Ends.{logs_of, cycles_of, units_of};
 ghost use Rattle.rtheap_core.specs.Exits.{NeverFull};
+ghost use Rattle.rtheap_core.specs.Owners.{OwnersStand};
 ghost use Rattle.call_exits.specs.Sides.{sides};
 
 use crate::exit::{Exit, RunEnd};
+use crate::laws::texts_are_lives;
 use crate::making::{make_told, trial_told};
 use crate::planning::plan_told;
 use crate::replaying::replay_told;
@@ -43,7 +45,8 @@ use trace_text::{Sink, Source};
 /// bounds of its commands sum up to. An allocation is
 /// answered `full` only where more blocks than the job's live limit were reachable at the start of
 /// the cycle that the reply names; so where no cycle of the run began with more, no command was
-/// answered `full` (`never_full`).
+/// answered `full` (`never_full`). At each moment of the run no name has a serial above 131,072,
+/// and the owner words of the objects that are kept are those of such names (`owners`).
 ///
 /// That a call with the word `run` returns is not promised, for it makes turns of the job's threads
 /// until each is done. With any other words it calls nothing that waits.
@@ -72,8 +75,11 @@ pub fn rtheap<R: Threads + Wait + Sync, S: Source, K: Sink, Q: Pace>(
     }) }
     ensures never_full { IfSome result.run (NeverFull (sides S.left S.faults source.old source.new)
         (sides K.held K.faults sink.old sink.new) result.status) }
+    ensures owners { IfSome result.run (OwnersStand (sides S.left S.faults source.old source.new)
+        (sides K.held K.faults sink.old sink.new) result.status) }
 {
     replays_end();
+    texts_are_lives();
     carried_out(rt, alloc, words, source, sink, pace)
 }
 

@@ -19,12 +19,7 @@ const COMMANDS: u32 = 40;
 const REGISTERS: u32 = 12;
 
 /// A heap that is nearly too small for its one to four threads and its live limit.
-pub(crate) fn drawn_heap(draws: &mut Lcg64Xsh32) -> Config {
-    let width = if draws.next_word() % 2 == 0 {
-        Width::Four
-    } else {
-        Width::Eight
-    };
+pub(crate) fn drawn_heap(draws: &mut Lcg64Xsh32, width: Width) -> Config {
     let threads = 1 + draws.next_word() % 4;
     let object = 1 + draws.next_word() % 3;
     let live = 5 * threads + 4 + draws.next_word() % 6;

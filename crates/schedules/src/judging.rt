@@ -1,6 +1,6 @@
 //! Runs that are judged by the definitions alone, as `plain_runs` answers them: 400 drawn jobs of
-//! one to four threads on small heaps, by serial and by drawn turns, each to its end; and a chain
-//! of records that grows beyond the live limit.
+//! one to four threads on small heaps, 200 of either width, by serial and by drawn turns, each to
+//! its end; and a chain of records that grows beyond the live limit.
 
 ghost use Rattle.std.specs.Prelude.{◌<◌, map};
 ghost use Rattle.never_heap.specs.Jobs.{IsJobInBounds};
@@ -12,7 +12,7 @@ use crate::drawing::{chain_traces, drawn_heap, drawn_traces};
 use crate::{Schedule, replay};
 use block_store::{Config, OutOfMemory, Width};
 use heap_system::System;
-use never_heap::{Command, Reply};
+use never_heap::{Command, Entry, Reply};
 use plain_runs::{
     Happened, given_in, history_of, in_bounds, is_legal, is_licensed, is_right_work, live_at,
     starts, work,
@@ -20,6 +20,7 @@ use plain_runs::{
 use rand_pcg::Lcg64Xsh32;
 use rate_plan::plan;
 use std::alloc::Global;
+use std::process::Abort;
 
 /// More turns than any of the jobs takes.
 const TURNS: u64 = 1_000_000;
@@ -46,22 +47,69 @@ fn run_of(
     history_of(alloc, order, &run)
 }
 
-/// What a run had that is as the definitions say.
+/// What is counted of runs that are as the definitions say.
 #[derive(Clone, Copy, Debug)]
 struct Seen {
+    threads: [u64; 4],
     cycles: u64,
     fulls: u64,
+    swapped: u64,
+    won: u64,
+    lost: u64,
+    idles: u64,
 }
 
-// What the run of the drawn job of a key had. None where it is not as the definitions say.
-fn judged(alloc: Global, key: u64) -> Result<Option<Seen>, OutOfMemory> {
+const NOTHING: Seen = Seen {
+    threads: [0; 4],
+    cycles: 0,
+    fulls: 0,
+    swapped: 0,
+    won: 0,
+    lost: 0,
+    idles: 0,
+};
+
+impl Seen {
+    // Counts a run of so many threads.
+    fn run(&mut self, threads: u32, h: &[Happened]) {
+        if let Some(count) = self.threads.get_mut((threads as usize).saturating_sub(1)) {
+            *count = count.saturating_add(1);
+        }
+        self.cycles = self.cycles.saturating_add(starts(h));
+        for happened in h {
+            if let Happened::Did(entry) = *happened {
+                self.entry(&entry);
+            }
+        }
+    }
+
+    // Counts a full allocation, an exchange, a `cas` that was won or lost, and an idle.
+    fn entry(&mut self, entry: &Entry) {
+        match (entry.command, entry.reply) {
+            (_, Reply::Full(_)) => self.fulls = self.fulls.saturating_add(1),
+            (_, Reply::Idle) => self.idles = self.idles.saturating_add(1),
+            (Command::Swap { .. }, Reply::Val(_)) => self.swapped = self.swapped.saturating_add(1),
+            (Command::Cas { .. }, Reply::Yes) => self.won = self.won.saturating_add(1),
+            (Command::Cas { .. }, Reply::No) => self.lost = self.lost.saturating_add(1),
+            _ => {}
+        }
+    }
+}
+
+// Whether the run of the drawn job of a width and a key is as the definitions say. It is counted.
+fn is_judged_right(
+    alloc: Global,
+    width: Width,
+    key: u64,
+    seen: &mut Seen,
+) -> Result<bool, OutOfMemory> {
     let mut draws = Lcg64Xsh32::new(key, 2);
-    let c = drawn_heap(&mut draws);
+    let c = drawn_heap(&mut draws, width);
     if !c.in_bounds() {
-        return Ok(None);
+        return Ok(false);
     }
     let Ok(rate) = plan(&c) else {
-        return Ok(None);
+        return Ok(false);
     };
     let traces = drawn_traces(alloc, &c, &mut draws)?;
     let schedule = if key % 4 == 0 {
@@ -70,13 +118,10 @@ fn judged(alloc: Global, key: u64) -> Result<Option<Seen>, OutOfMemory> {
         Schedule::Key(key)
     };
     let Some(h) = run_of(alloc, c, traces, schedule)? else {
-        return Ok(None);
+        return Ok(false);
     };
-    if !is_right(alloc, &c, rate, &h)? {
-        return Ok(None);
-    }
-    let (cycles, fulls) = (starts(&h), fulls_in(&h));
-    Ok(Some(Seen { cycles, fulls }))
+    seen.run(c.threads, &h);
+    is_right(alloc, &c, rate, &h)
 }
 
 // Whether a history is as the definitions say of a run at this rate.
@@ -117,16 +162,6 @@ fn costs_few(c: &Config, h: &[Happened]) -> bool
     cycles * blocks <= units + blocks && units <= 2 * blocks * cycles
 }
 
-fn fulls_in(h: &[Happened]) -> u64 {
-    let mut count: u64 = 0;
-    for happened in h {
-        if let Some(Reply::Full(_)) = reply_of(*happened) {
-            count = count.saturating_add(1);
-        }
-    }
-    count
-}
-
 fn reply_of(happened: Happened) -> Option<Reply> {
     match happened {
         Happened::Started => None,
@@ -134,20 +169,34 @@ fn reply_of(happened: Happened) -> Option<Reply> {
     }
 }
 
+// What is counted of 200 drawn runs of a width, each of which is as the definitions say.
+fn drawn_runs(rt: &impl Abort, alloc: Global, width: Width) -> Result<Seen, OutOfMemory> {
+    let mut seen = NOTHING;
+    for key in 0..200 {
+        let right = is_judged_right(alloc, width, key, &mut seen)?;
+        assert!(rt; right, "job {key} of {width:?}");
+    }
+    assert!(rt; seen.threads.iter().all(|runs| *runs >= 45), "{seen:?}");
+    assert!(rt; seen.cycles >= 1_200 && seen.fulls >= 70, "{seen:?}");
+    Ok(seen)
+}
+
 #[test]
 fn drawn_runs_are_as_the_definitions_say(rt: HostRuntime) -> Result<(), OutOfMemory> {
-    let mut cycles: u64 = 0;
-    let mut fulls: u64 = 0;
-    for key in 0..400 {
-        let seen = judged(rt.alloc(), key)?;
-        assert!(rt; seen.is_some(), "job {key}");
-        if let Some(seen) = seen {
-            cycles = cycles.saturating_add(seen.cycles);
-            fulls = fulls.saturating_add(seen.fulls);
-        }
-    }
-    assert!(rt; cycles >= 2_000, "{cycles} cycles");
-    assert!(rt; fulls >= 200, "{fulls} allocations that were answered full");
+    let narrow = drawn_runs(&rt, rt.alloc(), Width::Four)?;
+    let wide_only = (narrow.swapped, narrow.won, narrow.lost, narrow.idles);
+    assert_eq!(rt; wide_only, (0, 0, 0, 0));
+    let wide = drawn_runs(&rt, rt.alloc(), Width::Eight)?;
+    assert!(rt; wide.swapped >= 400 && wide.idles >= 800, "{wide:?}");
+    assert!(rt; wide.won >= 180 && wide.lost >= 220, "{wide:?}");
+    assert!(rt;
+        narrow.cycles.saturating_add(wide.cycles) >= 3_000,
+        "{narrow:?} {wide:?}"
+    );
+    assert!(rt;
+        narrow.fulls.saturating_add(wide.fulls) >= 310,
+        "{narrow:?} {wide:?}"
+    );
     Ok(())
 }
 

@@ -19,7 +19,7 @@ use Rattle.heap_system.proofs.TalliesOf.{tallies_of}
 use Rattle.heap_system.proofs.TurnFacts.{right_work}
 use Rattle.shared_heap.specs.declared.rules.Held.{Held}
 use Rattle.shared_heap.specs.declared.rules.View.{View}
-use Rattle.shared_heap.specs.Shared.{Fits, AllFit, SharedKept, IsStartOf, held}
+use Rattle.shared_heap.specs.Shared.{Fits, AllFit, SharedKept, IsStartOf, first_past, held}
 use Rattle.shared_heap.specs.Workers.{HeapState, WorkerState, AreInOrder, AreOfWorkers, IsOfWorker, KnowsAll, HasPart, HaveOneHistory, IsOfMachine}
 use Rattle.shared_heap.proofs.Crews.{of_at, of_long}
 use Rattle.shared_heap.proofs.Grown.{here, kept_of}
@@ -56,7 +56,7 @@ module _ (k : Whole) (s : table.State Command View) (kept : SharedKept k s) (id 
 
     -- a default
     abbrev e : Held
-    e = held d.thread []
+    e = held d.thread (first_past d.thread)
 
     abbrev own : Held
     own = get_or v.threads t e

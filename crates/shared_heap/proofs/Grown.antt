@@ -1,5 +1,5 @@
 -- A run by events with one event more, or one command more.
-use Rattle.std.proofs.Common.{◌≡◌, ℕ, ◌<◌, true, false, cond, lt-ltb, eq-eqb, [], ◌∷◌, ◌++◌, get_or, refl, sym, ap, ◌∙◌, subst, arith}
+use Rattle.std.proofs.Common.{◌≡◌, ℕ, ◌<◌, ◌+◌, length, length-append, true, false, cond, lt-ltb, eq-eqb, [], ◌∷◌, ◌++◌, get_or, refl, sym, ap, ◌∙◌, subst, arith}
 use Rattle.std.proofs.lemmas.List.{get_or_default}
 use Rattle.block_store.specs.declared.Config.{Config}
 use Rattle.never_heap.specs.declared.Command.{Command}
@@ -36,6 +36,10 @@ module _ (c : Config) (t : ℕ) (tl : t < c.threads) (r : Run) where
     events = go_more t (commands.Nil 0) c tl is.after.turns (opened c is.after.by_turns.first) t is.events (subst (λ (x : Run). has_event c t x.state ≡ true) is.after.by_turns.turns e);
   }
 
+  pub events_more_long : (is : IsByEvents c r) (e : has_event c t r.state ≡ true) → length (events_more is e).after.turns ≡ length is.after.turns + 1
+  unfolding events_more
+  events_more_long is e = length-append is.after.turns (t ∷ [])
+
   -- and one command more
   pub events_grown : (is : IsByEvents c r) (k : Command) → IsCommandInBounds c k → HasRoomFor c t k (get_or is.after.traces t []) → IsByEvents c (run_grown t k r)
   events_grown is k fits room =
@@ -49,6 +53,10 @@ module _ (c : Config) (t : ℕ) (tl : t < c.threads) (r : Run) where
         };
         events = go_grown t k c tl a.traces a.job a.turns (opened c a.by_turns.first) (opening_kept c a.traces a.job a.by_turns.first a.by_turns.opening) is.events;
       }
+
+  pub events_grown_long : (is : IsByEvents c r) (k : Command) (fits : IsCommandInBounds c k) (room : HasRoomFor c t k (get_or is.after.traces t [])) → length (events_grown is k fits room).after.turns ≡ length is.after.turns
+  unfolding events_grown
+  events_grown_long is k fits room = refl
 
   -- a thread of the run, with any default
   pub here : (is : IsAfterTurns c r) (l : LocalState) → l ≡ get_or r.state.locals t l → l ≡ local_in c r t

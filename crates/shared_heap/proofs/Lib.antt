@@ -1,12 +1,15 @@
+pub mod Driven
 pub mod Views
 pub mod Grown
+pub mod Rests
+pub mod Timed
 pub mod Steps
 pub mod Gifts
 pub mod Openings
 pub mod Crews
 pub mod Runs
-pub mod Rests
 pub mod Asking
+pub mod Answering
 pub mod Endings
 pub mod Prefixes
 pub mod Behind

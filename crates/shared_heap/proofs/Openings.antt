@@ -1,5 +1,5 @@
 -- The rule holds at the start, where the first seat has all threads, and none has a command.
-use Rattle.std.proofs.Common.{◌≡◌, ℕ, zero, suc, ◌≤◌, ◌<◌, ◌+◌, eqb, refl, arith, subst, sym, ap, ◌∙◌, List, [], ◌∷◌, ◌++◌, length, length-append, append_assoc, get_or, map, eq-eqb, ne_eqb, inl, inr}
+use Rattle.std.proofs.Common.{◌≡◌, ℕ, zero, suc, ◌≤◌, ◌<◌, ◌+◌, eqb, true, false, refl, arith, subst, sym, ap, ◌∙◌, List, [], ◌∷◌, ◌++◌, length, length-append, append_assoc, get_or, map, eq-eqb, ne_eqb, inl, inr}
 use Rattle.std.proofs.lemmas.Bool.{cases_eq}
 use Rattle.std.proofs.lemmas.List.{get_or_default}
 use Rattle.std.specs.List.{AllByRecursion}
@@ -20,9 +20,8 @@ use Rattle.heap_system.proofs.Always.{here}
 use Rattle.heap_system.proofs.SystemStart.{length_starts}
 use Rattle.control_heap.specs.Controls.{IsByEvents}
 use Rattle.shared_heap.specs.declared.rules.Held.{Held}
-use Rattle.shared_heap.specs.declared.rules.Moment.TheVariants as moments
 use Rattle.shared_heap.specs.declared.rules.View.{View}
-use Rattle.shared_heap.specs.Shared.{AllFit, AllNotedIn, SharedKept, IsOfRun, IsStartOf, threads_of, first_held, first_view, held, unasked}
+use Rattle.shared_heap.specs.Shared.{AllFit, AllNotedIn, AllTimed, SharedKept, IsOfRun, IsStartOf, threads_of, first_held, first_past, first_view, held, unasked}
 use Rattle.shared_heap.specs.Workers.{AreOnes, CanOpen, IsDealt}
 use Rattle.shared_heap.proofs.Views.{starts_itself}
 
@@ -62,7 +61,7 @@ at_length (x ∷ ls) gs l d = at_length ls gs l d
 
 -- a thread that has seen the start of cycle 1
 abbrev opening_held : LocalState → Held
-opening_held l = held l (moments.Began ∷ [])
+opening_held l = held l (first_past l)
 
 firsts_are : (ls : List LocalState) → map first_held ls ≡ map opening_held (map unasked ls)
 firsts_are [] = refl
@@ -79,6 +78,18 @@ starts_fit c rate space r order t before (trace ∷ traces) are at low =
       (omega (arith, low), here ∙ ap (λ ls. get_or ls t l) (sym are), subst (λ o. IsStartOf (Started ∷ []) o) (sym order) (starts_itself (Started ∷ []))),
       starts_fit c rate space r order (t + 1) (before ++ l ∷ []) traces (are ∙ sym (append_assoc before (l ∷ []) (starts_from c rate space (t + 1) traces))) longer (omega (arith, low)),
     )
+
+-- none has had a turn
+starts_timed : (c : Config) (rate : ℕ) (space : ℕ → ℕ) (r : Run) (t : ℕ) (traces : List (List Command)) → AllTimed c r 0 (map opening_held (starts_from c rate space t (nothings traces)))
+starts_timed c rate space r t [] = tt
+starts_timed c rate space r t (trace ∷ traces) = (
+  record {
+    own = omega arith;
+    last = omega arith;
+    ends = λ same nobody opened going b is. (let z : true ≡ false = going in cc);
+  },
+  starts_timed c rate space r (t + 1) traces,
+)
 
 -- each of them once
 none_below : (c : Config) (rate : ℕ) (space : ℕ → ℕ) (t u : ℕ) (traces : List (List Command)) → u < t → threads_of u (map opening_held (starts_from c rate space t traces)) ≡ 0
@@ -131,6 +142,9 @@ module _ (c : Config) (traces : List (List Command)) (job : IsJob c traces) (s :
   pub all_fit : AllFit c (opened c idle) (map first_held s.locals)
   all_fit = subst (λ xs. AllFit c (opened c idle) xs) (sym held_are) (starts_fit c start.rate start.space (opened c idle) refl 0 [] (nothings traces) idle_opening.locals refl (omega (arith, (idle_job c traces job).bounds.threads)))
 
+  pub all_timed : AllTimed c (opened c idle) 0 (map first_held s.locals)
+  all_timed = subst (λ xs. AllTimed c (opened c idle) 0 xs) (sym held_are) (starts_timed c start.rate start.space (opened c idle) 0 traces)
+
   pub each_once : (t : ℕ) → t < c.threads → threads_of t (map first_held s.locals) ≡ 1
   each_once t tl = ap (threads_of t) held_are ∙ one_within c start.rate start.space 0 t (nothings traces) (omega arith) (omega (arith, tl, (idle_job c traces job).bounds.threads))
 
@@ -155,13 +169,13 @@ opens k traces job start =
       run = opened c (idle c traces job k.state start);
       by = idle_run c traces job k.state start;
       words = refl;
-      each = each (opened c (idle c traces job k.state start)) (all_fit c traces job k.state start);
+      each = each (opened c (idle c traces job k.state start)) (all_fit c traces job k.state start) (all_timed c traces job k.state start);
       once = λ t tl. omega (arith, each_once c traces job k.state start t tl);
     }
   where
-    each : (r : Run) → AllFit k.config r (map first_held k.state.locals) → (id : ℕ) (v : View) → get_elem? (first_view k ∷ []) id ≡ some v → AllFit k.config r v.threads × AllNotedIn r.order v.notes
-    each r fit zero v e = subst (λ (x : View). AllFit k.config r x.threads × AllNotedIn r.order x.notes) (some-injective (first_view k) v e) (fit, tt)
-    each r fit (suc id) v e = absurd (some-ne-none v (sym e))
+    each : (r : Run) → AllFit k.config r (map first_held k.state.locals) → AllTimed k.config r 0 (map first_held k.state.locals) → (id : ℕ) (v : View) → get_elem? (first_view k ∷ []) id ≡ some v → AllFit k.config r v.threads × AllNotedIn r.order v.notes × AllTimed k.config r 0 v.threads
+    each r fit timed zero v e = subst (λ (x : View). AllFit k.config r x.threads × AllNotedIn r.order x.notes × AllTimed k.config r 0 x.threads) (some-injective (first_view k) v e) (fit, tt, timed)
+    each r fit timed (suc id) v e = absurd (some-ne-none v (sym e))
 
 pub opens_of : (k : Whole) (c : Config) (traces : List (List Command)) (ws : List ℕ) → k.config ≡ c → IsJob c traces → IsOpening c traces k.state → ws ≡ k.state.words → SharedKept k (table.opening ws [] (first_view k))
 opens_of k c traces ws same job start is =
@@ -198,12 +212,13 @@ first_job c xs can long are = record {
 
 -- the threads as the workers start with them
 module _ (c : Config) (traces : List (List Command)) (job : IsJob c traces) (s : State) (start : IsOpening c traces s) (ones : AreOnes traces) where
-  start_of_run : (i : ℕ) → i < c.threads → IsOfRun c (Started ∷ []) (at_start c start.rate (start.space i) i [])
-  start_of_run i low = record {
+  start_of_run : (i : ℕ) (l : LocalState) → i < c.threads → IsOfRun c (first_past l) (at_start c start.rate (start.space i) i [])
+  start_of_run i l low = record {
     run = opened c (idle c traces job s start);
     after = (idle_run c traces job s start).after;
     there = low;
     ordered = refl;
+    counted = refl;
     local = sym (idle_at c traces job s start i low ∙ ap (at_start c start.rate (start.space i) i) (nothing_at traces i));
   }
 
@@ -211,7 +226,7 @@ module _ (c : Config) (traces : List (List Command)) (job : IsJob c traces) (s :
   dealt_at ws count i d low =
       let il : i < c.threads = omega (arith, many c traces job s start, low) in
       subst (λ l. IsDealt ws l) (sym (start_at c traces job s start i d low)) (record {
-        told = start_of_run i il;
+        told = start_of_run i (at_start c start.rate (start.space i) i (get_or traces i [])) il;
         rest = refl;
         before = refl;
         log = refl;

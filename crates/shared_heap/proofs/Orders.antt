@@ -6,6 +6,7 @@ use Rattle.block_store.specs.declared.Config.{Config}
 use Rattle.block_store.specs.declared.Width.TheVariants.{Four}
 use Rattle.never_heap.specs.Histories.{HistoryItem}
 use Rattle.heap_system.specs.Machines.{no_local}
+use Rattle.shared_heap.specs.Shared.{no_span}
 use Rattle.shared_heap.specs.Workers.{HeapState, WorkerState, AreInOrder, AreEachOnce, HasWorker, AreAmong, HasPart, HaveOneHistory, IsOfMachine}
 
 abbrev pub nobody : WorkerState
@@ -14,6 +15,7 @@ nobody = record {
   thread = no_local (record { width = Four; threads = 0; blocks = 0; live = 0; object = 0; shared = 0 });
   seen = [];
   notes = [];
+  span = no_span;
 }
 
 abbrev pub is_at : List WorkerState → ℕ → ℕ → Type 0

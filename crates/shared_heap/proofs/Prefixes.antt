@@ -14,9 +14,8 @@ use Rattle.never_heap.specs.declared.Entry.{Entry}
 use Rattle.never_heap.specs.declared.Reply.{Reply}
 use Rattle.never_heap.specs.Bounds.{IsCommandInBounds}
 use Rattle.never_heap.specs.Histories.{part, replay}
-use Rattle.never_heap.specs.Steps.{blocks_of}
 use Rattle.heap_machine.specs.Gating.{is_inside, is_closing}
-use Rattle.heap_system.specs.Alone.{IsQuiet, HasCommand, EndsWithin, command_bound}
+use Rattle.heap_system.specs.Alone.{IsQuiet, HasCommand, EndsWithin, command_bound, command_near}
 use Rattle.heap_system.specs.Parts.{Rest}
 use Rattle.heap_system.specs.Locals.{LocalState, command_of, entries_of, is_done}
 use Rattle.heap_system.specs.Machines.{Run, heap_in, local_in}
@@ -29,16 +28,17 @@ use Rattle.heap_system.proofs.TalliesOf.{tallies_of}
 use Rattle.heap_system.proofs.TurnFacts.{rest_is, right_work}
 use Rattle.heap_system.proofs.alone.Near.{near_ends}
 use Rattle.heap_system.proofs.alone.Runs.{lone_ends}
-use Rattle.control_heap.specs.Controls.{IsByEvents, allocation_near}
+use Rattle.control_heap.specs.Controls.{IsByEvents}
 use Rattle.control_heap.specs.Growth.{given, run_grown}
 use Rattle.control_heap.proofs.GrownJobs.{HasRoomFor}
 use Rattle.shared_heap.specs.declared.rules.Held.{Held}
+use Rattle.shared_heap.specs.declared.rules.Past.{Past}
 use Rattle.shared_heap.specs.declared.rules.Moment.{Moment}
 use Rattle.shared_heap.specs.declared.rules.View.{View}
-use Rattle.shared_heap.specs.Shared.{Fits, AllFit, SharedKept, IsOfRun, one_view, seats_of, threads_of}
+use Rattle.shared_heap.specs.Shared.{Fits, AllFit, SharedKept, IsOfRun, later_past, one_view, seats_of, threads_of}
 use Rattle.shared_heap.specs.Workers.{HasRoom}
 use Rattle.shared_heap.specs.Prefixes.{AllDone, HasPartOf, AllHaveParts, FitsOneHistory, AllAreDone, EndsInTime}
-use Rattle.shared_heap.proofs.Views.{seen_fits}
+use Rattle.shared_heap.proofs.Views.{history_is, moments_of, seen_fits}
 use Rattle.shared_heap.proofs.Grown.{events_grown, given_here, here, kept_of}
 use Rattle.shared_heap.proofs.Rests.{as_long, at_rest, room_for}
 
@@ -148,8 +148,12 @@ module _ (k : Whole) (s : table.State Command View) (kept : SharedKept k s) wher
       config : l.config ≡ c
       config = ap (λ (x : LocalState). x.config) is ∙ (all.locals t fit.0).config
 
-      of_run : IsOfRun c r.order l
-      of_run = record { run = r; after = kept.by.after; there = fit.0; local = is; ordered = refl }
+      -- a seat that knows the run
+      abbrev past : Past
+      past = later_past (moments_of r.order) (length kept.by.after.turns) 0 h.past
+
+      of_run : IsOfRun c past l
+      of_run = record { run = r; after = kept.by.after; there = fit.0; local = is; ordered = sym (history_is r.order); counted = refl }
 
       trace : l.trace ≡ get_or kept.by.after.traces t []
       trace = ap (λ (x : LocalState). x.trace) is ∙ (all.locals t fit.0).trace
@@ -158,7 +162,7 @@ module _ (k : Whole) (s : table.State Command View) (kept : SharedKept k s) wher
       later = run_grown t m r
 
       by_grown : IsByEvents c later
-      by_grown = events_grown c t fit.0 r kept.by m (subst (λ x. IsCommandInBounds x m) config bounds) (subst (λ x. HasRoomFor c t m x) trace (room_for c r.order l of_run done m room))
+      by_grown = events_grown c t fit.0 r kept.by m (subst (λ x. IsCommandInBounds x m) config bounds) (subst (λ x. HasRoomFor c t m x) trace (room_for c past l of_run done m room))
 
       own : given m l ≡ local_in c later t
       own = given_here c t fit.0 r m l is refl
@@ -183,6 +187,6 @@ module _ (k : Whole) (s : table.State Command View) (kept : SharedKept k s) wher
       in_time = record {
         far = λ rate planned. subst (λ x. EndsWithin c t later (command_bound c rate x)) command_is
             (lone_ends c by_grown.after.traces by_grown.after.job rate planned t fit.0 later (kept_of c later by_grown.after) still has);
-        near = λ rate planned more. subst (λ x. EndsWithin c t later (allocation_near c rate x)) command_is
-            (near_ends c by_grown.after.traces by_grown.after.job rate planned t fit.0 later (kept_of c later by_grown.after) still has (subst (λ x. 0 < blocks_of c.width x) (sym command_is) more));
+        near = λ rate planned. subst (λ x. EndsWithin c t later (command_near c rate x)) command_is
+            (near_ends c by_grown.after.traces by_grown.after.job rate planned t fit.0 later (kept_of c later by_grown.after) still has);
       }

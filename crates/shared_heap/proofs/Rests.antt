@@ -23,7 +23,8 @@ use Rattle.heap_system.proofs.TalliesOf.{tallies_of}
 use Rattle.heap_system.proofs.Told.{entries_right}
 use Rattle.heap_system.proofs.TurnFacts.{rest_is, right_work}
 use Rattle.control_heap.proofs.GrownJobs.{HasRoomFor, owed_works}
-use Rattle.shared_heap.specs.Shared.{IsOfRun}
+use Rattle.shared_heap.specs.declared.rules.Past.{Past}
+use Rattle.shared_heap.specs.Shared.{IsOfRun, history_of}
 use Rattle.shared_heap.specs.Workers.{HasRoom}
 use Rattle.shared_heap.proofs.Grown.{kept_of}
 
@@ -60,7 +61,10 @@ module _ (c : Config) (t : ℕ) (tl : t < c.threads) (r : Run) (is : IsAfterTurn
       sym (ap (sum_after (units_owed c.width p) 0) (said_when_done done)) ∙ owed_works c.width p own.log right
 
 -- of a thread of some run
-module _ (c : Config) (order : List HistoryItem) (l : LocalState) (is : IsOfRun c order l) where
+module _ (c : Config) (past : Past) (l : LocalState) (is : IsOfRun c past l) where
+  abbrev order : List HistoryItem
+  order = history_of past.seen
+
   pub its_config : l.config ≡ c
   its_config = ap (λ (x : LocalState). x.config) is.local ∙ ((kept_of c is.run is.after).locals l.thread is.there).config
 
@@ -110,7 +114,7 @@ module _ (c : Config) (order : List HistoryItem) (l : LocalState) (is : IsOfRun 
     }
 
 -- a thread at rest whose log is this has these entries in the order
-pub part_begun : (c : Config) (order : List HistoryItem) (l : LocalState) → IsOfRun c order l → is_rest l.part ≡ true → {t : ℕ} {es : List Entry} → t ≡ l.thread → l.log ≡ es → part t order ≡ es
-part_begun c order l is rest {t} {es} named log =
+pub part_begun : (c : Config) (p : Past) (l : LocalState) → IsOfRun c p l → is_rest l.part ≡ true → {t : ℕ} {es : List Entry} → t ≡ l.thread → l.log ≡ es → part t (history_of p.seen) ≡ es
+part_begun c p l is rest {t} {es} named log =
     let own : is_rest (local_in c is.run l.thread).part ≡ true = ap (λ (x : LocalState). is_rest x.part) (sym is.local) ∙ rest in
-    ap (λ u. part u order) named ∙ ap (part l.thread) (sym is.ordered) ∙ told_at_rest c l.thread is.there is.run is.after own ∙ ap (λ (x : LocalState). x.log) (sym is.local) ∙ log
+    ap (λ u. part u (history_of p.seen)) named ∙ ap (part l.thread) (sym is.ordered) ∙ told_at_rest c l.thread is.there is.run is.after own ∙ ap (λ (x : LocalState). x.log) (sym is.local) ∙ log

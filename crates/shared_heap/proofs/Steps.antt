@@ -23,10 +23,13 @@ use Rattle.heap_system.proofs.LawsOf.{laws_of}
 use Rattle.control_heap.specs.Controls.{IsByEvents}
 use Rattle.shared_heap.specs.declared.rules.Held.{Held}
 use Rattle.shared_heap.specs.declared.rules.Moment.{Moment}
+use Rattle.shared_heap.specs.declared.rules.Past.{Past}
 use Rattle.shared_heap.specs.declared.rules.View.{View}
-use Rattle.shared_heap.specs.Shared.{Fits, AllFit, AllNotedIn, SharedKept, StepsOn, IsOfRun, IsStartOf, threads_of, held, history_of, no_view, one_view, first_of, rest_of, joined, noted_of, same_view, found_by}
-use Rattle.shared_heap.proofs.Views.{seat_parts, seats_set, seats_append, threads_append, cut_sum, fit_append, first_fit, rest_fit, others_fit, history_is, moments_of, noted_append, noted_more, seen_noted, starts_itself, starts_more}
-use Rattle.shared_heap.proofs.Grown.{events_more, goes, here, kept_of}
+use Rattle.shared_heap.specs.Shared.{Fits, AllFit, AllNotedIn, AllTimed, SharedKept, StepsOn, IsOfRun, IsStartOf, threads_of, held, history_of, no_view, one_view, first_of, rest_of, joined, noted_of, same_view, found_by, stepped_past}
+use Rattle.shared_heap.specs.Spans.{IsTimed}
+use Rattle.shared_heap.proofs.Timed.{in_time, timed_append, timed_next, timed_others}
+use Rattle.shared_heap.proofs.Views.{first_timed, rest_timed, seat_parts, seats_set, seats_append, threads_append, cut_sum, fit_append, first_fit, rest_fit, others_fit, history_is, moments_of, noted_append, noted_more, seen_noted, starts_itself, starts_more}
+use Rattle.shared_heap.proofs.Grown.{events_more, events_more_long, goes, here, kept_of}
 
 -- what one event of thread t is, of this run
 module _ (c : Config) (t : ℕ) (tl : t < c.threads) (r : Run) (by : IsByEvents c r) (l : LocalState) (at : l ≡ local_in c r t) (going : is_done l ≡ false) where
@@ -87,13 +90,16 @@ module _ (k : Whole) (s : table.State Command View) (kept : SharedKept k s) (id 
   abbrev t : ℕ
   t = l.thread
 
-  f : Fits c r h
+  pub f : Fits c r h
   f = (kept.each id (one_view h ns) at).0.0
 
   noted : AllNotedIn r.order ns
   noted = (kept.each id (one_view h ns) at).1
 
-  is : l ≡ local_in c r t
+  timed : IsTimed c r (length kept.by.after.turns) h
+  timed = (kept.each id (one_view h ns) at).2.0
+
+  pub is : l ≡ local_in c r t
   is = here c t f.0 r kept.by.after l f.1
 
   abbrev new : LocalState
@@ -127,37 +133,48 @@ module _ (k : Whole) (s : table.State Command View) (kept : SharedKept k s) (id 
   abbrev items : List HistoryItem
   items = decided c t r.state r.order
 
-  fit : Fits c later (held new now)
+  abbrev pub of_events : IsByEvents c later
+  of_events = events_more c t f.0 r kept.by (goes c t f.0 r l is going)
+
+  one_more : length of_events.after.turns ≡ length kept.by.after.turns + 1
+  one_more = events_more_long c t f.0 r kept.by (goes c t f.0 r l is going)
+
+  -- what the seat knows then
+  abbrev pub past : Past
+  past = stepped_past now (length of_events.after.turns) h.past
+
+  fit : Fits c later (held new past)
   fit = (
     f.0,
     subst (λ ls. new ≡ get_or ls t new) (sym locals) (sym (get_or-set_same r.state.locals t new new there)),
     subst (λ o. IsStartOf o later.order) (sym now_is) (starts_itself later.order),
   )
 
-  of_run : IsOfRun l.config (history_of now) new
-  of_run = subst (λ x. IsOfRun x (history_of now) new) (sym (config c t f.0 r kept.by l is going)) (record {
+  of_run : IsOfRun l.config past new
+  of_run = subst (λ x. IsOfRun x past new) (sym (config c t f.0 r kept.by l is going)) (record {
     run = later;
-    after = (events_more c t f.0 r kept.by (goes c t f.0 r l is going)).after;
+    after = of_events.after;
     there = f.0;
     local = ap (local_got l) same ∙ moved c t f.0 r kept.by l is going;
     ordered = sym now_is;
+    counted = refl;
   })
 
   abbrev pub then_view : View
-  then_view = one_view (held new now) ns
+  then_view = one_view (held new past) ns
 
   pub turn_keeps : SharedKept k (table.stepped s (op_place (op_wanted l)) (written (op_wanted l) (found_by l s)) id [] then_view table.keeps)
   turn_keeps = record {
     run = later;
-    by = events_more c t f.0 r kept.by (goes c t f.0 r l is going);
+    by = of_events;
     words = words;
     each = λ j u e. ⊎_elim
-        (λ p. subst (λ (x : View). AllFit c later x.threads × AllNotedIn later.order x.notes) p.1 ((fit, tt), noted_more r.order items ns noted))
+        (λ p. subst (λ (x : View). AllFit c later x.threads × AllNotedIn later.order x.notes × AllTimed c later (length of_events.after.turns) x.threads) p.1 ((fit, tt), noted_more r.order items ns noted, (timed_next c r (length kept.by.after.turns) (length of_events.after.turns) h (found_by l s) now timed is going one_more, tt)))
         (λ p.
         let both = seat_parts t s.views id j (one_view h ns) u at p.1 (λ q. p.0 (sym q)) in
         let one = kept.once t f.0 in
         let is_one : bit (eqb t t) ≡ 1 = rw (eq-eqb t t refl) refl in
-        (others_fit c r later t new items locals refl u.threads (omega (arith, both, one, is_one)) (kept.each j u p.1).0, noted_more r.order items u.notes (kept.each j u p.1).1))
+        (others_fit c r later t new items locals refl u.threads (omega (arith, both, one, is_one)) (kept.each j u p.1).0, noted_more r.order items u.notes (kept.each j u p.1).1, timed_others c r later (length kept.by.after.turns) (length of_events.after.turns) u.threads (omega (arith, one_more)) (kept.each j u p.1).2))
         (at_set s.views id j then_view u e);
     once = λ u ul. omega (arith, seats_set u s.views id (one_view h ns) then_view at, kept.once u ul);
   }
@@ -165,10 +182,12 @@ module _ (k : Whole) (s : table.State Command View) (kept : SharedKept k s) (id 
   pub turn_tells : StepsOn (one_view h ns, []) (found_by l s) (then_view, [])
   turn_tells = record {
     now = now;
+    turns = length of_events.after.turns;
     moved = refl;
     reads = (subst (λ x. LocalReads l.config l x) (sym same) (reads c t f.0 r kept.by l is going), tt);
     told = (of_run, tt);
-    seen = (subst (λ o. IsStartOf (history_of h.seen) o) (sym now_is) (starts_more (history_of h.seen) r.order items f.2), tt);
+    few = (in_time c r (length kept.by.after.turns) (length of_events.after.turns) h (found_by l s) now timed is going one_more (config c t f.0 r kept.by l is going), tt);
+    seen = (subst (λ o. IsStartOf (history_of h.past.seen) o) (sym now_is) (starts_more (history_of h.past.seen) r.order items f.2), tt);
   }
 
 -- in every state of the table a seat with one thread makes its event
@@ -191,7 +210,7 @@ op_allowed k slots id h ns me op going none knows wants =
 -- a seat keeps some threads and notes of its view, and a new one gets some
 module _ (k : Whole) (s : table.State Command View) (kept : SharedKept k s) (id : ℕ) (v left right : View) (at : get_elem? s.views id ≡ some v) where
   abbrev Fine : View → Type 0
-  Fine x = AllFit k.config kept.run x.threads × AllNotedIn kept.run.order x.notes
+  Fine x = AllFit k.config kept.run x.threads × AllNotedIn kept.run.order x.notes × AllTimed k.config kept.run (length kept.by.after.turns) x.threads
 
   pub parts_keep : Fine left → Fine right → ((t : ℕ) → threads_of t left.threads + threads_of t right.threads ≡ threads_of t v.threads)
       → SharedKept k (record { words = s.words; homes = s.homes; views = set s.views id left ++ right ∷ [] })
@@ -213,13 +232,13 @@ module _ (k : Whole) (s : table.State Command View) (kept : SharedKept k s) (id 
 pub splits : (k : Whole) (id : ℕ) (v : View) → table.Splits (SharedKept k) id v (rest_of v) (first_of v)
 splits k id v s kept at =
     let all = kept.each id v at in
-    parts_keep k s kept id v (rest_of v) (first_of v) at (rest_fit k.config kept.run v.threads all.0, all.1) (first_fit k.config kept.run v.threads all.0, tt) (λ t. cut_sum t v.threads)
+    parts_keep k s kept id v (rest_of v) (first_of v) at (rest_fit k.config kept.run v.threads all.0, all.1, rest_timed k.config kept.run (length kept.by.after.turns) v.threads all.2) (first_fit k.config kept.run v.threads all.0, tt, first_timed k.config kept.run (length kept.by.after.turns) v.threads all.2) (λ t. cut_sum t v.threads)
 
 -- a new seat notes what the threads have seen
 pub notes : (k : Whole) (id : ℕ) (v : View) → table.Splits (SharedKept k) id v (same_view v) (noted_of v)
 notes k id v s kept at =
     let all = kept.each id v at in
-    parts_keep k s kept id v v (noted_of v) at all (tt, seen_noted k.config kept.run v.threads all.0) (λ t. omega arith)
+    parts_keep k s kept id v v (noted_of v) at all (tt, seen_noted k.config kept.run v.threads all.0, tt) (λ t. omega arith)
 
 -- a seat takes over the threads and the notes of another
 pub joins : (k : Whole) (id : ℕ) (v : View) (other : ℕ) (w : View) → table.Joins (SharedKept k) id v other w (joined v w) no_view
@@ -232,9 +251,9 @@ joins k id v other w s kept at ne that =
       by = kept.by;
       words = kept.words;
       each = λ j u e. ⊎_elim
-          (λ p. subst (λ (x : View). AllFit k.config kept.run x.threads × AllNotedIn kept.run.order x.notes) p.1 (tt, tt))
+          (λ p. subst (λ (x : View). AllFit k.config kept.run x.threads × AllNotedIn kept.run.order x.notes × AllTimed k.config kept.run (length kept.by.after.turns) x.threads) p.1 (tt, tt, tt))
           (λ p. ⊎_elim
-          (λ q. subst (λ (x : View). AllFit k.config kept.run x.threads × AllNotedIn kept.run.order x.notes) q.1 (fit_append k.config kept.run v.threads w.threads mine.0 theirs.0, noted_append kept.run.order v.notes w.notes mine.1 theirs.1))
+          (λ q. subst (λ (x : View). AllFit k.config kept.run x.threads × AllNotedIn kept.run.order x.notes × AllTimed k.config kept.run (length kept.by.after.turns) x.threads) q.1 (fit_append k.config kept.run v.threads w.threads mine.0 theirs.0, noted_append kept.run.order v.notes w.notes mine.1 theirs.1, timed_append k.config kept.run (length kept.by.after.turns) v.threads w.threads mine.2 theirs.2))
           (λ q. kept.each j u q.1)
           (at_set s.views id j (joined v w) u p.1))
           (at_set (set s.views id (joined v w)) other j no_view u e);

@@ -16,7 +16,7 @@ use Rattle.shared_heap.specs.declared.rules.Moment.{Moment}
 use Rattle.shared_heap.specs.declared.rules.Moment.TheVariants as moments
 use Rattle.shared_heap.specs.declared.rules.View.{View}
 use Rattle.shared_heap.specs.Workers.{AllStart}
-use Rattle.shared_heap.specs.Shared.{AllNotedIn, AllSeenIn, IsStartOf, history_of, seen_by, AllFit, threads_of, seats_of, first_in, rest_in}
+use Rattle.shared_heap.specs.Shared.{AllNotedIn, AllSeenIn, IsStartOf, history_of, seen_by, AllFit, AllTimed, threads_of, seats_of, first_in, rest_in}
 
 -- a seat's threads t are at most all
 pub seat_part : (t : ℕ) (views : List View) (id : ℕ) (v : View) → get_elem? views id ≡ some v → threads_of t v.threads ≤ seats_of t views
@@ -57,6 +57,14 @@ fit_append c r (h ∷ hs) gs f g = (f.0, fit_append c r hs gs f.1 g)
 pub first_fit : (c : Config) (r : Run) (hs : List Held) → AllFit c r hs → AllFit c r (first_in hs)
 first_fit c r [] f = tt
 first_fit c r (h ∷ hs) f = (f.0, tt)
+
+pub first_timed : (c : Config) (r : Run) (n : ℕ) (hs : List Held) → AllTimed c r n hs → AllTimed c r n (first_in hs)
+first_timed c r n [] f = tt
+first_timed c r n (h ∷ hs) f = (f.0, tt)
+
+pub rest_timed : (c : Config) (r : Run) (n : ℕ) (hs : List Held) → AllTimed c r n hs → AllTimed c r n (rest_in hs)
+rest_timed c r n [] f = tt
+rest_timed c r n (h ∷ hs) f = f.1
 
 pub rest_fit : (c : Config) (r : Run) (hs : List Held) → AllFit c r hs → AllFit c r (rest_in hs)
 rest_fit c r [] f = tt
@@ -109,7 +117,7 @@ noted_start order (n ∷ ns) all = (all.0, noted_start order ns all.1)
 -- ---- what a step of another thread leaves unchanged
 
 -- the thread h is not t
-apart_of : (t : ℕ) (h : Held) (hs : List Held) → threads_of t (h ∷ hs) ≡ 0 → h.local.thread ≡ t → ⊥
+pub apart_of : (t : ℕ) (h : Held) (hs : List Held) → threads_of t (h ∷ hs) ≡ 0 → h.local.thread ≡ t → ⊥
 apart_of t h hs none e =
     let apart : eqb t h.local.thread ≡ false = elim (cases_Bool (eqb t h.local.thread)) [ inl is ↦ absurd (let b : bit (eqb t h.local.thread) ≡ 1 = ap bit is in omega (arith, none)) | inr is ↦ is ] in
     let b : true ≡ false = sym (eq-eqb t h.local.thread (sym e)) ∙ apart in cc
@@ -122,7 +130,7 @@ others_fit c r z t l items locals order (h ∷ hs) none fit =
       (
         f.0,
         f.1 ∙ sym (get_or-set_other r.state.locals t h.local.thread l h.local (apart_of t h hs none)) ∙ ap (λ ls. get_or ls h.local.thread h.local) (sym locals),
-        subst (λ o. IsStartOf (history_of h.seen) o) (sym order) (starts_more (history_of h.seen) r.order items f.2),
+        subst (λ o. IsStartOf (history_of h.past.seen) o) (sym order) (starts_more (history_of h.past.seen) r.order items f.2),
       ),
       others_fit c r z t l items locals order hs (omega (arith, none)) fit.1,
     )

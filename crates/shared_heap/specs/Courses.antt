@@ -9,7 +9,7 @@ use Rattle.never_heap.specs.declared.Command.{Command}
 use Rattle.heap_system.specs.Locals.{LocalState, LocalReads, is_done, local_got, op_wanted}
 use Rattle.control_heap.proofs.Behind.{behind_got, behind_done}
 use Rattle.shared_heap.specs.declared.rules.View.{View}
-use Rattle.shared_heap.specs.Shared.{AllRead, AllOfRuns, StepsOn, behind, got_of, held, history_of, one_view}
+use Rattle.shared_heap.specs.Shared.{AllInTime, AllRead, AllOfRuns, StepsOn, behind, got_of, held, one_view, stepped_past}
 use Rattle.shared_heap.specs.Ports.{MayTurn, HasTurned, HasThread}
 
 pub may_turn : (me : table.Me Command View) (own shared : TableId) (l : LocalState)
@@ -17,7 +17,7 @@ pub may_turn : (me : table.Me Command View) (own shared : TableId) (l : LocalSta
     → op_place (op_wanted l) < words_count (extent l.config)
     → MayTurn me own shared (op_wanted l)
 may_turn me own shared l has going low = record {
-  one = held (behind has.commands has.entries l) has.seen;
+  one = held (behind has.commands has.entries l) has.past;
   notes = [];
   knows = has.knows;
   going = behind_done has.commands has.entries has.long l ∙ going;
@@ -38,10 +38,14 @@ reads_well me own shared l has w after moved =
 pub knows_still : (me : table.Me Command View) (own shared : TableId) (l : LocalState)
     → (has : HasThread me own shared l) → (w : ℕ) (after : table.Me Command View)
     → (step : StepsOn me w after)
-    → after ≡ (one_view (held (behind has.commands has.entries (local_got l w)) step.now) [], [])
+    → after ≡ (
+      one_view (held (behind has.commands has.entries (local_got l w))
+          (stepped_past step.now step.turns has.past)) [],
+      [],
+    )
 knows_still me own shared l has w after step =
-    step.moved ∙ ap (λ x. got_of w step.now x) has.knows
-    ∙ ap (λ y. (one_view (held y step.now) [], []))
+    step.moved ∙ ap (λ x. got_of w step.now step.turns x) has.knows
+    ∙ ap (λ y. (one_view (held y (stepped_past step.now step.turns has.past)) [], []))
     (behind_got has.commands has.entries has.long l w)
 
 pub still_has : (me : table.Me Command View) (own shared : TableId) (l : LocalState)
@@ -54,11 +58,11 @@ still_has me own shared l has w id id_after own_after after turned =
     record {
       commands = has.commands;
       entries = has.entries;
-      seen = step.now;
+      past = stepped_past step.now step.turns has.past;
       long = has.long;
       knows = knows;
-      told = (subst (λ (x : table.Me Command View). AllOfRuns (history_of step.now) x.0.threads)
-          knows step.told).0;
+      told = (subst (λ (x : table.Me Command View). AllOfRuns x.0.threads) knows step.told).0;
+      few = (subst (λ (x : table.Me Command View). AllInTime x.0.threads) knows step.few).0;
       words = ap (λ (t : TableId). t.words) turned.0 ∙ has.words;
       slots = ap (λ (t : TableId). t.slots) turned.0 ∙ has.slots;
       table = turned.0 ∙ has.table;

@@ -1,7 +1,10 @@
 pub mod Shared
+pub mod Turns
+pub mod Spans
 pub mod Ports
 pub mod Courses
 pub mod Workers
+pub mod Pending
 pub mod Refusals
 pub mod Prefixes
 pub mod Behind

@@ -10,11 +10,9 @@ use Rattle.never_heap.specs.declared.Entry.{Entry}
 use Rattle.never_heap.specs.Histories.{HistoryItem, Legal, part}
 use Rattle.never_heap.specs.Licensed.{Licensed}
 use Rattle.never_heap.specs.RightWork.{RightWork}
-use Rattle.never_heap.specs.Steps.{blocks_of}
-use Rattle.heap_system.specs.Alone.{EndsWithin, command_bound}
+use Rattle.heap_system.specs.Alone.{EndsWithin, command_bound, command_near}
 use Rattle.heap_system.specs.Locals.{LocalState, command_of, is_done}
 use Rattle.heap_system.specs.Machines.{Run}
-use Rattle.control_heap.specs.Controls.{allocation_near}
 use Rattle.control_heap.specs.Growth.{run_grown}
 use Rattle.shared_heap.specs.declared.rules.Held.{Held}
 use Rattle.shared_heap.specs.declared.rules.View.{View}
@@ -57,8 +55,7 @@ abbrev pub AllAreDone : table.State Command View → Type 0
 AllAreDone s = (id : ℕ) (v : View) → get_elem? s.views id ≡ some v → AllDone v.threads
 
 -- A command that is given to thread t after run r, where t then runs alone, ends within the bound
--- of a single thread, and an allocation also within the near bound. None of its turns waits.
+-- of a single thread, and within the near bound. None of its turns waits.
 pub record EndsInTime (c : Config) (t : ℕ) (k : Command) (r : Run) : Type 0 where
   pub far : (rate : ℕ) → IsRate c rate → EndsWithin c t (run_grown t k r) (command_bound c rate k)
-  pub near : (rate : ℕ) → IsRate c rate → 0 < blocks_of c.width k
-      → EndsWithin c t (run_grown t k r) (allocation_near c rate k)
+  pub near : (rate : ℕ) → IsRate c rate → EndsWithin c t (run_grown t k r) (command_near c rate k)

@@ -18,10 +18,13 @@ use Rattle.heap_system.specs.Locals.{LocalState, is_done, works}
 use Rattle.heap_system.specs.Machines.{Run, local_in}
 use Rattle.heap_system.specs.Systems.{AllDone}
 use Rattle.control_heap.specs.Controls.{IsByEvents, with_history}
+use Rattle.control_heap.specs.Growth.{given}
 use Rattle.shared_heap.specs.declared.rules.Held.{Held}
 use Rattle.shared_heap.specs.declared.rules.Moment.{Moment}
+use Rattle.shared_heap.specs.declared.rules.Span.{Span}
 use Rattle.shared_heap.specs.declared.rules.View.{View}
-use Rattle.shared_heap.specs.Shared.{IsOfRun, IsStartOf, first_held, held_of, history_of, one_view, unasked}
+use Rattle.shared_heap.specs.Shared.{IsOfRun, IsStartOf, first_held, first_past, held_of, history_of, one_view, unasked}
+use Rattle.shared_heap.specs.Turns.{MadeTurns}
 
 -- which table it is, and its configuration
 pub record HeapState : Type 0 where
@@ -29,13 +32,14 @@ pub record HeapState : Type 0 where
   pub config : Config
 
 -- The heap of a worker; its thread, with all of its commands so far and their entries; how much of
--- the history it has seen; and the notes that it has learned since its last command. In memory it
--- has only its last command and that command's entry.
+-- the history it has seen; the notes that it has learned since its last command; and the turns of
+-- that command. In memory it has only its last command and that command's entry.
 pub record WorkerState : Type 0 where
   pub heap : TableId
   pub thread : LocalState
   pub seen : List HistoryItem
   pub notes : List (List HistoryItem)
+  pub span : Span
 
 -- how much of the history of this heap a worker had seen when the note was made
 pub record NoteState : Type 0 where
@@ -137,6 +141,13 @@ pub record HasAnswered (old : WorkerState) (k : Command) (a : Reply) (new : Work
     pub notes : new.notes ≡ []
     pub sound : HasSeenIts new
 
+-- The worker's code has made the events of a command and no others: an event of its thread by each
+-- of these words, from the command on to its end.
+pub record HasMade (old : WorkerState) (k : Command) (new : WorkerState) : Type 0 where
+  pub words : List ℕ
+  pub made : MadeTurns (given k old.thread) words new.thread
+  pub own : new.span.own ≡ length words
+
 -- the same worker
 pub record IsSame (old new : WorkerState) : Type 0 where
   pub heap : new.heap ≡ old.heap
@@ -190,7 +201,7 @@ pub record Keeps (h : Held) (ns : List (List Moment)) (me : table.Me Command Vie
     (l : LocalState) (n o : ℕ) : Type 0 where
   pub knows : me ≡ (one_view h ns, [])
   pub history : h.local ≡ with_history h.local.trace h.local.log l
-  pub told : IsOfRun h.local.config (history_of h.seen) h.local
+  pub told : IsOfRun h.local.config h.past h.local
   pub done : is_done h.local ≡ true
   pub count : length h.local.trace ≡ n
   pub objects : sum_after objects_of 0 h.local.trace ≡ o
@@ -207,8 +218,9 @@ abbrev pub worker_of : TableId → Held → List (List Moment) → WorkerState
 worker_of id h ns = record {
   heap = id;
   thread = h.local;
-  seen = history_of h.seen;
+  seen = history_of h.past.seen;
   notes = map history_of ns;
+  span = h.past.span;
 }
 
 abbrev pub start_worker : TableId → LocalState → WorkerState
@@ -217,7 +229,7 @@ start_worker id l = worker_of id (first_held l) []
 -- A thread as a worker starts with it: it has executed nothing, and has a trace of one command,
 -- which the first command will replace.
 pub record IsDealt (ws : ℕ) (l : LocalState) : Type 0 where
-  pub told : IsOfRun l.config (Started ∷ []) (unasked l)
+  pub told : IsOfRun l.config (first_past l) (unasked l)
   pub rest : is_done (unasked l) ≡ true
   pub before : l.before ≡ 0
   pub log : l.log ≡ []
@@ -235,7 +247,7 @@ IsNote me = me ≡ (record { threads = []; notes = note_in me.0.notes ∷ [] }, 
 
 -- these are the threads of these workers, in the same order, and each is done
 abbrev pub IsOfWorker : WorkerState → Held → Type 0
-IsOfWorker w h = (w.thread ≡ h.local) × (w.seen ≡ history_of h.seen) × (is_done h.local ≡ true)
+IsOfWorker w h = (w.thread ≡ h.local) × (w.seen ≡ history_of h.past.seen) × (is_done h.local ≡ true)
 
 abbrev pub AreOfWorkers : List WorkerState → List Held → Type 0
 AreOfWorkers [] [] = Unit {0}

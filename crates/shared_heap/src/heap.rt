@@ -3,27 +3,28 @@
 ghost use Rattle.std.specs.Prelude.{◌≡◌, ◌<◌, ◌≤◌, ℕ, List, [], ◌∷◌, ◌++◌, true, false, map, length, slice_index_or, IfOk, IfErr, OnOk, OnErr};
 ghost use Rattle.std.specs.Vec.{vec_capacity};
 ghost use Rattle.never_heap.specs.declared.Command.{Command};
+ghost use Rattle.never_heap.specs.declared.Entry.{Entry};
 ghost use Rattle.never_heap.specs.Bounds.{IsCommandInBounds};
-ghost use Rattle.heap_system.specs.Locals.{LocalState, is_done};
+ghost use Rattle.heap_system.specs.Locals.{LocalState};
 ghost use Rattle.shared_heap.specs.Shared.{first_held};
-ghost use Rattle.shared_heap.specs.Ports.{HasThread, HasGoneOn};
-ghost use Rattle.shared_heap.specs.Workers.{HeapState, WorkerState, CanOpen, AreInOrder, AreEachOnce, AreAmong, HasWorker, AreFresh, HasLeft, HasAnswered, IsSame, HaveOneHistory, IsDealt, KnowsAll, AreOnes, start_worker};
+ghost use Rattle.shared_heap.specs.Pending.{HasAnnounced, MayAnnounce};
+ghost use Rattle.shared_heap.specs.Workers.{HeapState, WorkerState, CanOpen, AreInOrder, AreEachOnce, AreAmong, HasWorker, AreFresh, HasLeft, HasAnswered, HasMade, IsSame, HaveOneHistory, IsDealt, KnowsAll, AreOnes, start_worker};
+ghost use Rattle.shared_heap.specs.Spans.{IsInTime};
 ghost use Rattle.shared_heap.specs.Refusals.{IsOpenFault, IsRefused};
 
+use crate::drives::drives;
 use crate::note::Note;
 use crate::port::Port;
 use crate::rules::{Both, Cut, Given, Law, Noted, View};
 use crate::worker::{Refused, Worker, objects_of};
 use atomic_table::{Seat, Shared, Table};
 use block_store::{Config, OutOfMemory, read_phase};
-use crossbeam_utils::Backoff;
-use heap_system::{Local, System, Turn};
+use heap_system::{Local, System};
 use never_heap::{Command, Reply};
 use rate_plan::{PlanFault, plan};
 use std::alloc::Global;
 use std::marker::Model;
 use std::sync::Wait;
-use std::thread;
 
 /// Why a heap is not opened.
 #[derive(Clone, Copy, Debug, PartialEq, Eq)]
@@ -129,55 +130,45 @@ fn opened(alloc: Global, c: Config) -> Result<(SharedHeap, Vec<Worker>), OutOfMe
     Ok((SharedHeap { table, config: c }, workers))
 }
 
-// Makes events of a thread that is not done, several in a row where it can.
-#[inline(always)]
-fn events(shared: &Shared<Command, View, System, Law>, port: &mut Port, local: &mut Local) -> Turn
-    requires has { HasThread port.old.seat.me port.old.seat.table_id shared.now.table_id local.old }
-    requires going { is_done local.old ≡ false }
-    ensures has { HasThread port.new.seat.me port.new.seat.table_id shared.now.table_id local.new }
-    ensures on { HasGoneOn port.old.seat.me local.old port.new.seat.me local.new }
-{
-    local.events(port, shared)
-}
-
-// Makes the events of a thread until it has finished its command. After an event that waited it
-// backs off, longer each time until the thread makes progress.
-#[tactic(auto, using(crate::proofs::Runs::gone_nowhere))]
-fn serve<R: Wait>(
-    rt: &R,
+// Announces a command for a worker's thread, by a step that changes no word, and begins it.
+pub(crate) fn announce(
     shared: &Shared<Command, View, System, Law>,
     port: &mut Port,
     local: &mut Local,
+    command: Command,
 )
-    requires { HasThread port.old.seat.me port.old.seat.table_id shared.now.table_id local.old }
-    ensures has { HasThread port.new.seat.me port.new.seat.table_id shared.now.table_id local.new }
-    ensures on { HasGoneOn port.old.seat.me local.old port.new.seat.me local.new }
-    ensures done { is_done local.new ≡ true }
+    requires table { (port.old.seat.table_id ≡ shared.now.table_id)
+        × (shared.now.table_id.slots ≡ 0) × (0 < shared.now.table_id.words) }
+    requires may { MayAnnounce port.old.seat.me port.old.seat.table_id local.old command }
+    ensures { HasAnnounced port.old.seat.me port.old.seat.table_id local.old command
+        port.new.seat.me port.new.seat.table_id local.new }
 {
-    let backoff = Backoff::new();
-    // The units made when it last waited, if it has made none since.
-    let mut waited = None;
-    for _ in rt.forever() {
-        if local.done() {
-            return;
-        }
-        match events(shared, port, local) {
-            Turn::Waited => {
-                waited = Some(local.spent());
-                backoff.snooze();
-                thread::yield_now();
-            }
-            Turn::Went | Turn::Done => {
-                if let Some(before) = waited {
-                    if local.spent() != before {
-                        backoff.reset();
-                        waited = None;
-                    }
-                }
-            }
-        }
+    shared.compare_exchange_with::<Given>(&mut port.seat, 0, 0, 0, &command);
+    local.begin(command);
+}
+
+// The reply of a thread whose log has one entry.
+#[inline(always)]
+pub(crate) fn reply_of(local: &Local) -> Reply
+    requires { length local.now.log ≡ 1 }
+    ensures { (d : Entry) → result ≡ (slice_index_or local.now.log 0 d).reply }
+{
+    local.log()[0].reply
+}
+
+// Whether a worker may execute a command.
+pub(crate) fn admitted(who: &Worker, command: &Command) -> Result<(), Refused>
+    ensures can { OnOk result
+        (IsCommandInBounds who.now.thread.config command.now × HasLeft who.now command.now) }
+    ensures refused { IfErr result (IsRefused who.now command.now) }
+{
+    if !command.in_bounds(who.config()) {
+        return Err(Refused::OutOfBounds);
     }
-    unreachable!()
+    if !who.has_left(command) {
+        return Err(Refused::NoLifeLeft);
+    }
+    Ok(())
 }
 
 // The index of a thread's worker, at or after `from`.
@@ -285,22 +276,26 @@ impl SharedHeap {
     /// in bounds and within the worker's lifetime.
     ///
     /// Other threads may use other workers meanwhile. The call may wait for them at the gate and at
-    /// a free list, and it retries where another thread changed a word first.
+    /// a free list, and it retries where another thread changed a word first. On the shared words
+    /// its code makes one operation that announces the command and changes nothing, the operations
+    /// of the command's events, and no others. If nobody was inside and the gate was open when the
+    /// command was announced, and no other worker had a turn from then to its last event, it took
+    /// at most the turns of a thread that runs alone (`in_time`).
     pub fn request<R: Wait>(&self, rt: &R, who: &mut Worker, command: Command) -> Reply
         requires heap { who.old.heap ≡ self.now.id }
         requires bounds { IsCommandInBounds who.old.thread.config command }
         requires left { HasLeft who.old command }
         ensures same { IsSame who.old who.new }
         ensures answered { HasAnswered who.old command result who.new }
+        ensures made { HasMade who.old command who.new }
+        ensures in_time { IsInTime who.old.thread.config command who.new.span }
     {
         let shared = &self.table.shared;
-        // This step announces the command and changes no word.
-        shared.compare_exchange_with::<Given>(&mut who.port.seat, 0, 0, 0, &command);
-        who.local.begin(command);
-        serve(rt, shared, &mut who.port, &mut who.local);
+        announce(shared, &mut who.port, &mut who.local, command);
+        drives(rt, &mut who.port, shared, &mut who.local);
         who.count += 1;
         who.objects += objects_of(command);
-        who.local.log()[0].reply
+        reply_of(&who.local)
     }
 
     /// Checks a command, and then executes it as `request` does.
@@ -315,15 +310,12 @@ impl SharedHeap {
         ensures can { OnOk result
             (IsCommandInBounds who.old.thread.config command × HasLeft who.old command) }
         ensures answered { IfOk result (λ reply. HasAnswered who.old command reply who.new) }
+        ensures made { OnOk result (HasMade who.old command who.new) }
+        ensures in_time { OnOk result (IsInTime who.old.thread.config command who.new.span) }
         ensures refused { IfErr result (IsRefused who.old command) }
         ensures unchanged { OnErr result (who.new ≡ who.old) }
     {
-        if !command.in_bounds(who.config()) {
-            return Err(Refused::OutOfBounds);
-        }
-        if !who.has_left(&command) {
-            return Err(Refused::NoLifeLeft);
-        }
+        admitted(who, &command)?;
         Ok(self.request(rt, who, command))
     }
 

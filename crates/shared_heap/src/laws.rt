@@ -31,7 +31,7 @@ pub fn what_was_answered_fits_one_history()
 
 /// Suppose that the rule of the table holds and that every thread has finished its commands. Then
 /// a command given to one thread, which then runs alone, ends within the bounds of a heap with a
-/// single thread: `command_bound` turns, and for an allocation also `allocation_near` turns.
+/// single thread: `command_bound` turns, and `command_near` turns.
 pub fn commands_alone_end_in_time()
     ensures { (k : Whole) (s : table.State Command View) (kept : SharedKept k s) → AllAreDone s
         → (id : ℕ) (h : Held) (ns : List (List Moment)) (m : Command)

@@ -1,9 +1,13 @@
 //! A heap that several threads of a program share. Each executes one command at a time.
 #![tactic(auto)]
 
+mod drives;
 mod heap;
 mod laws;
 mod note;
+mod pending;
+#[cfg(test)]
+mod pending_tests;
 mod port;
 mod rules;
 #[cfg(test)]
@@ -16,5 +20,6 @@ pub use laws::{
     what_was_answered_fits_one_history,
 };
 pub use note::Note;
-pub use rules::{Both, Cut, Given, Held, Law, Moment, Noted, Turned, View};
+pub use pending::Pending;
+pub use rules::{Both, Call, Cut, Given, Held, Law, Moment, Noted, Past, Span, Turned, View};
 pub use worker::{Refused, Worker};

@@ -15,13 +15,51 @@ pub enum Moment {
     Ended(Entry),
 }
 
-/// A thread with all of its commands and the entries of those that are finished, and how much of
-/// the history it has seen. It is used in proofs only.
+/// The turns of a thread's last command. It is used in proofs only.
+pub struct Span {
+    /// The phase word when the command was announced.
+    pub phase: u64,
+    /// How many turns the run had then.
+    pub first: u64,
+    /// How many turns it had after the thread's last step.
+    pub last: u64,
+    /// How many of them, after the first ones, were the thread's own.
+    pub own: u64,
+}
+
+/// A command that was announced, and the worker as it was before. It is used in proofs only.
+pub struct Call {
+    /// The command.
+    pub command: Command,
+    /// The worker's thread before the command.
+    pub local: Local,
+    /// The history that the worker had seen.
+    pub seen: LinkedList<Moment>,
+    /// The notes that it had learned.
+    pub notes: LinkedList<LinkedList<Moment>>,
+    /// The turns of its command before.
+    pub span: Span,
+    /// The history when the command was announced.
+    pub start: LinkedList<Moment>,
+}
+
+/// What the seat of a thread knows beyond the thread. It is used in proofs only.
+pub struct Past {
+    /// The history up to the thread's last step.
+    pub seen: LinkedList<Moment>,
+    /// The turns of its last command.
+    pub span: Span,
+    /// Its last command.
+    pub call: Call,
+}
+
+/// A thread with all of its commands and the entries of those that are finished, and what its seat
+/// knows of the run. It is used in proofs only.
 pub struct Held {
     /// The thread.
     pub local: Local,
-    /// The history up to its last step.
-    pub seen: LinkedList<Moment>,
+    /// What its seat knows.
+    pub past: Past,
 }
 
 /// What a seat knows: its threads, and what it has learned from notes. It is used in proofs only.
@@ -53,7 +91,7 @@ impl Play<Command, View> for Turned {
 pub struct Given {}
 
 impl Play<Command, View> for Given {
-    ghost then = { λ s me found after. gives_on s.said me after };
+    ghost then = { λ s me found after. gives_on s.said found me after };
 }
 
 /// One thread moves to a new seat.

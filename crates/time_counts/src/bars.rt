@@ -2,6 +2,7 @@
 
 ghost use Rattle.std.specs.Prelude.{ℕ, ◌≡◌, ◌<◌, ◌≤◌, ◌*◌, ◌^◌};
 ghost use Rattle.time_counts.specs.Counts.{between, IsOneOf};
+ghost use Rattle.time_counts.specs.Rows.{marks_of};
 ghost use Rattle.time_counts.specs.declared.bars.TheConstants.{CLASSES};
 
 use crate::counting::count_below;
@@ -54,21 +55,41 @@ pub fn power(class: u32) -> u64
 }
 
 impl fmt::Display for Bar {
+    ghost use Rattle.std.specs.Prelude.{Some};
+    ghost use Rattle.time_counts.specs.Rows.{row_of};
+
+    ghost output = { λ bar. Some (row_of bar) };
+
     fn fmt<W: fmt::Write>(&self, f: &mut fmt::Formatter<W>) -> fmt::Result {
         let (least, count) = (self.least, self.count);
-        write!(f, "{least:>16} ns {count:>10} ")?;
-        for _mark in 0..marks(count as u64, self.most as u64) {
-            f.write_str("#")?;
+        let marks = Hashes(marks(count as u64, self.most as u64));
+        write!(f, "{least:>16} ns {count:>10} {marks}\n")
+    }
+}
+
+/// So many marks in a row.
+#[derive(Clone, Copy)]
+struct Hashes(u64);
+
+impl fmt::Display for Hashes {
+    ghost use Rattle.std.specs.Prelude.{Some, replicate};
+
+    ghost output = { λ m. Some (replicate m.0 35) };
+
+    fn fmt<W: fmt::Write>(&self, f: &mut fmt::Formatter<W>) -> fmt::Result {
+        for _mark in 0..self.0 {
+            write!(f, "#")?;
         }
-        f.write_str("\n")
+        Ok(())
     }
 }
 
 /// How many marks a row has with so many times, where the fullest has so many.
 fn marks(count: u64, most: u64) -> u64
-    ensures few { result ≤ MARKS }
-    ensures enough { MARKS * count < 2 ^ 64 → count ≤ most → MARKS * count ≤ result * most }
-    ensures least { (m : ℕ) → MARKS * count ≤ m * most → result ≤ m }
+    ensures { result ≡ marks_of count most }
 {
-    count.saturating_mul(MARKS).div_ceil(most.max(1)).min(MARKS)
+    let scaled = u128::from(count) * u128::from(MARKS);
+    scaled
+        .div_ceil(u128::from(most.max(1)))
+        .min(u128::from(MARKS)) as u64
 }

@@ -1,9 +1,9 @@
 -- Which commands are of which kind.
-use Rattle.std.specs.Prelude.{◌/◌, ◌==◌, nat_lt, nat_le, ◌&&◌, not, Bool, true, false}
+use Rattle.std.specs.Prelude.{◌/◌, ◌==◌, nat_lt, nat_le, ◌&&◌, not, if◌then◌else◌, Bool, true, false}
 use Rattle.block_store.specs.declared.Width.{Width}
 use Rattle.never_heap.specs.declared.Command.{Command}
 use Rattle.never_heap.specs.declared.Command.TheVariants as commands
-use Rattle.never_heap.specs.Steps.{blocks_of}
+use Rattle.never_heap.specs.Steps.{blocks_of, length_made}
 use Rattle.timed_runs.specs.declared.kinds.Kind.{Kind}
 use Rattle.timed_runs.specs.declared.kinds.Kind.TheVariants.{Allocation, Access, Idle, Other}
 
@@ -25,3 +25,13 @@ is_of_kind w k (Allocation n) = nat_lt (n / 2) (blocks_of w k) && nat_le (blocks
 is_of_kind w k Access = is_access k
 is_of_kind w k Idle = is_idle k
 is_of_kind w k Other = not (is_access k) && not (is_idle k) && blocks_of w k == 0
+
+-- whether the kind is that of others
+abbrev pub is_other : Kind → Bool
+is_other Other = true
+is_other _ = false
+
+-- Whether a command is counted in a kind: a command whose object is longer than any of a job is
+-- counted among the others.
+abbrev pub is_counted_in : Width → Command → Kind → Bool
+is_counted_in w k kind = if nat_le (length_made k) 65535 then is_of_kind w k kind else is_other kind

@@ -1,11 +1,11 @@
 //! The kinds of commands that are told apart.
 
-ghost use Rattle.std.specs.Prelude.{◌≡◌, ◌≤◌};
+ghost use Rattle.std.specs.Prelude.{◌≡◌, ◌<◌, ◌≤◌};
 ghost use Rattle.std.specs.List.{count_by};
 ghost use Rattle.block_store.specs.declared.Width.{Width};
 ghost use Rattle.never_heap.specs.declared.Command.{Command};
 ghost use Rattle.never_heap.specs.Steps.{length_made, blocks_of as blocks};
-ghost use Rattle.timed_runs.specs.Kinds.{is_of_kind};
+ghost use Rattle.timed_runs.specs.Kinds.{is_counted_in, is_of_kind};
 
 use block_store::Width;
 use never_heap::Command;
@@ -45,7 +45,9 @@ pub const KINDS: [Kind; 14] = [
 impl Kind {
     /// Whether the command, on blocks of this width, is of this kind.
     pub fn has(self, width: Width, command: &Command) -> bool
-        ensures { length_made command.now ≤ 65535 → result ≡ is_of_kind width command.now self }
+        ensures of_kind { length_made command.now ≤ 65535
+            → result ≡ is_of_kind width command.now self }
+        ensures counted { result ≡ is_counted_in width command.now self }
     {
         match self {
             Kind::Allocation { blocks } => {
@@ -87,8 +89,9 @@ pub fn a_command_is_of_one_kind()
 {}
 
 fn is_other(width: Width, command: &Command) -> bool
-    ensures { length_made command.now ≤ 65535
+    ensures of_kind { length_made command.now ≤ 65535
         → result ≡ is_of_kind width command.now Kind.Other }
+    ensures counted { result ≡ is_counted_in width command.now Kind.Other }
 {
     match command {
         Command::Get { .. } | Command::Put { .. } | Command::Idle { .. } => false,
@@ -99,7 +102,8 @@ fn is_other(width: Width, command: &Command) -> bool
 /// How many blocks the command allocates; 0 for one that makes no object, and for one that no job
 /// has, since its object is too long.
 pub fn blocks_of(width: Width, command: &Command) -> u32
-    ensures { length_made command.now ≤ 65535 → result ≡ blocks width command.now }
+    ensures in_job { length_made command.now ≤ 65535 → result ≡ blocks width command.now }
+    ensures none { 65535 < length_made command.now → result ≡ 0 }
 {
     if length_of(command) <= 65_535 {
         command.blocks(width)

@@ -5,23 +5,25 @@ ghost use Rattle.time_counts.specs.Counts.{IsPercentile};
 
 use crate::bounds::turns_alone;
 use crate::kinds::{KINDS, Kind};
-use crate::samples::{Longest, Sample, Which, count_commands, line_of, sample_of};
-use crate::stamps::{Stamps, nanoseconds};
+use crate::samples::{
+    Sample, TimedCommand, Which, count_commands, line_of, sample_of, timed_commands,
+};
+use crate::stamps::{Stamps, nanoseconds, processor_nanoseconds};
 use atom_board::Closed;
 use block_store::OutOfMemory;
 use never_heap::Logs;
 use rate_plan::plan;
 use std::alloc::Global;
 use std::fmt;
-use std::time::Clock;
+use std::time::{Clock, CpuClock};
 use time_counts::{CLASSES, Times, bar_of, fullest, power};
 
 /// How often the clock is read to tell the time of one reading.
 const READINGS: usize = 1_001;
 
-/// What is told of switches.
-const SWITCHES: &str =
-    "switches: std does not tell when a thread is switched away; the times have it in them\n";
+/// What is told of processor time.
+const PROCESSOR: &str =
+    "cpu ns: the processor time of the longest; for the rest of it its thread did not run\n";
 
 /// The form of a report.
 #[derive(Clone, Copy, Debug, PartialEq, Eq)]
@@ -34,18 +36,19 @@ pub enum Form {
 
 /// A run, with what its times are told by.
 #[derive(Drop)]
-pub struct Told<'a, C> {
+pub struct Told<'a> {
     pub run: &'a Closed,
-    pub stamps: &'a Stamps<'a, C>,
+    pub commands: &'a [TimedCommand],
     pub rate: Option<u64>,
     pub form: Form,
 }
 
-/// The median of the times between two readings of the clock, one directly behind the other.
-pub fn reading_time<C: Clock>(alloc: Global, clock: &C) -> Result<u64, OutOfMemory> {
+/// The median of the times between two readings of both clocks, one directly behind the other.
+pub fn reading_time<C: Clock + CpuClock>(alloc: Global, clock: &C) -> Result<u64, OutOfMemory> {
     let mut times = Vec::with_capacity(alloc, READINGS)?;
     let mut before = nanoseconds(clock);
     for _reading in 0..READINGS {
+        let _used = processor_nanoseconds(clock);
         let now = nanoseconds(clock);
         times.push(now.saturating_sub(before))?;
         before = now;
@@ -58,7 +61,7 @@ pub fn reading_time<C: Clock>(alloc: Global, clock: &C) -> Result<u64, OutOfMemo
 /// # Errors
 ///
 /// `OutOfMemory` where there is no room for it, or for the times in order.
-pub fn report_of<C: Clock + Sync>(
+pub fn report_of<C: Clock + CpuClock + Sync>(
     alloc: Global,
     reading: u64,
     run: &Closed,
@@ -71,9 +74,10 @@ pub fn report_of<C: Clock + Sync>(
     } else {
         None
     };
+    let commands = timed_commands(alloc, run, stamps)?;
     let told = Told {
         run,
-        stamps,
+        commands: commands.as_slice(),
         rate,
         form,
     };
@@ -91,7 +95,7 @@ pub fn report_of<C: Clock + Sync>(
 fn head_of(alloc: Global, reading: u64, form: Form) -> Result<String, OutOfMemory> {
     match form {
         Form::Table => Ok(format!(in alloc;
-            "clock: one reading takes {reading} ns, and is in each time\n{SWITCHES}"
+            "clock: one reading takes {reading} ns, and is in each time\n{PROCESSOR}"
         )?),
         Form::Csv => Ok(String::from_str(alloc, CSV_TITLES)?),
     }
@@ -99,9 +103,9 @@ fn head_of(alloc: Global, reading: u64, form: Form) -> Result<String, OutOfMemor
 
 /// Adds what was measured of the commands of one thread, or of all: a row for each kind, and in a
 /// table the histogram of all kinds.
-fn add_group<C: Clock + Sync>(
+fn add_group(
     alloc: Global,
-    told: &Told<'_, C>,
+    told: &Told<'_>,
     thread: Option<u32>,
     report: &mut String,
 ) -> Result<(), OutOfMemory> {
@@ -127,24 +131,23 @@ fn title_of(alloc: Global, thread: Option<u32>) -> Result<String, OutOfMemory> {
 }
 
 /// The titles of the columns of a row.
-const TITLES: &str =
-    "kind                commands  median ns   99.9% ns longest ns  thread  command      \
-line  most turns\n";
+const TITLES: &str = "kind                commands  median ns   99.9% ns longest ns     cpu ns  \
+thread  command      line  most turns\n";
 
 const CSV_TITLES: &str =
-    "of,kind,commands,median ns,99.9% ns,longest ns,thread,command,line,most turns\n";
+    "of,kind,commands,median ns,99.9% ns,longest ns,cpu ns,thread,command,line,most turns\n";
 
 /// Adds the row of a kind, where there are commands of it.
-fn add_kind<C: Clock + Sync>(
+fn add_kind(
     alloc: Global,
-    told: &Told<'_, C>,
+    told: &Told<'_>,
     thread: Option<u32>,
     kind: Option<Kind>,
     report: &mut String,
 ) -> Result<Sample, OutOfMemory> {
     let width = told.run.config().width;
     let which = Which { thread, kind };
-    let sample = sample_of(alloc, width, told.run, told.stamps, which)?;
+    let sample = sample_of(alloc, width, told.commands, which)?;
     let row = Row {
         of: thread,
         name: name_of(kind),
@@ -196,15 +199,17 @@ fn figures_of(sample: &Sample) -> Option<Figures>
 /// Which command took the longest, and how many turns it has at most when it alone has them.
 #[derive(Clone, Copy, Debug)]
 struct Place {
+    used: Option<u64>,
     thread: u32,
     number: usize,
     line: u64,
     turns: Option<u64>,
 }
 
-fn place_of<C: Clock + Sync>(told: &Told<'_, C>, sample: &Sample) -> Option<Place> {
+fn place_of(told: &Told<'_>, sample: &Sample) -> Option<Place> {
     let one = sample.longest?;
     Some(Place {
+        used: one.used,
         thread: one.thread,
         number: one.number.saturating_add(1),
         line: line_of(told.run, one.thread, one.number),
@@ -234,7 +239,8 @@ impl fmt::Display for Row {
         }
         if let Some(place) = self.place {
             let (thread, number, line) = (place.thread, place.number, place.line);
-            write!(f, " {thread:>7} {number:>8} {line:>9}")?;
+            let used = place.used.unwrap_or(0);
+            write!(f, " {used:>10} {thread:>7} {number:>8} {line:>9}")?;
             if let Some(turns) = place.turns {
                 write!(f, " {turns:>11}")?;
             }
@@ -260,20 +266,21 @@ fn csv_text(alloc: Global, row: &Row) -> Result<String, OutOfMemory> {
     };
     let place = match row.place {
         Some(place) => place_text(alloc, &place)?,
-        None => format!(in alloc; ",,,")?,
+        None => format!(in alloc; ",,,,")?,
     };
     Ok(format!(in alloc; "{of},{name},{commands},{figures},{place}\n")?)
 }
 
 fn place_text(alloc: Global, place: &Place) -> Result<String, OutOfMemory> {
     let (thread, number, line) = (place.thread, place.number, place.line);
+    let used = place.used.unwrap_or(0);
     match place.turns {
-        Some(turns) => Ok(format!(in alloc; "{thread},{number},{line},{turns}")?),
-        None => Ok(format!(in alloc; "{thread},{number},{line},")?),
+        Some(turns) => Ok(format!(in alloc; "{used},{thread},{number},{line},{turns}")?),
+        None => Ok(format!(in alloc; "{used},{thread},{number},{line},")?),
     }
 }
 
-fn turns_of<C: Clock + Sync>(told: &Told<'_, C>, one: &Longest) -> Option<u64> {
+fn turns_of(told: &Told<'_>, one: &TimedCommand) -> Option<u64> {
     let config = told.run.config();
     if !config.in_bounds() {
         return None;

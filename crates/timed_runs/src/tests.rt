@@ -8,7 +8,7 @@ use std::sync::Wait;
 use std::sync::atomic::{AtomicU64, Ordering};
 use std::test::Fail;
 use std::thread::Threads;
-use std::time::{Clock, Duration};
+use std::time::{Clock, CpuClock, Duration};
 use trace_text::{MemSink, MemSource};
 
 /// A clock that advances by a microsecond at each reading.
@@ -24,6 +24,18 @@ impl Clock for Ticks {
 
     fn since_1970(&self) -> io::Result<Duration> {
         self.monotonic()
+    }
+}
+
+/// Of each command its thread had a processor for 250 ns.
+impl CpuClock for Ticks {
+    fn thread_cpu_time(&self) -> io::Result<Duration> {
+        let count = self.count.load(Ordering::SeqCst);
+        Ok(Duration::from_nanos(count.saturating_mul(250)))
+    }
+
+    fn process_cpu_time(&self) -> io::Result<Duration> {
+        self.thread_cpu_time()
     }
 }
 
@@ -45,6 +57,18 @@ impl Clock for Growing {
     }
 }
 
+/// Of each command its thread had a processor for 100 ns.
+impl CpuClock for Growing {
+    fn thread_cpu_time(&self) -> io::Result<Duration> {
+        let count = self.count.load(Ordering::SeqCst);
+        Ok(Duration::from_nanos(count.saturating_mul(100)))
+    }
+
+    fn process_cpu_time(&self) -> io::Result<Duration> {
+        self.thread_cpu_time()
+    }
+}
+
 /// A job with commands of several kinds, and its report.
 const JOB: &str = "rtheap 1 threads 1 blocks 64 live 20 object 2 shared 0
 thread 0
@@ -57,15 +81,15 @@ end
 ";
 
 const REPORT: &str = "clock: one reading takes 1000 ns, and is in each time
-switches: std does not tell when a thread is switched away; the times have it in them
+cpu ns: the processor time of the longest; for the rest of it its thread did not run
 
 all threads
-kind                commands  median ns   99.9% ns longest ns  thread  command      line  most turns
-1 block                    1       1000       1000       1000       0        4         6         139
-2 blocks                   1       1000       1000       1000       0        1         3         252
-get and put                2       1000       1000       1000       0        2         4          66
+kind                commands  median ns   99.9% ns longest ns     cpu ns  thread  command      line  most turns
+1 block                    1       1000       1000       1000        250       0        4         6         139
+2 blocks                   1       1000       1000       1000        250       0        1         3         252
+get and put                2       1000       1000       1000        250       0        2         4          11
 others                     1
-all                        5       1000       1000       1000       0        1         3         252
+all                        5       1000       1000       1000        250       0        1         3         252
              512 ns          4 ############################################################
 ";
 
@@ -106,68 +130,70 @@ end
 /// Worked out by hand. The clock is read 1,002 times before the run: the differences are 2 to 1,002
 /// ns, and their median is 502. Each of the 26 commands then has the next reading before it, so all
 /// but the last take 1,004 to 1,028 ns, in their order. The turns of an allocation are those of
-/// `near_bound` in `lone_bound` at rate 10; those of another command are the largest object and 64.
+/// `near_bound` in `lone_bound` at rate 10; those of the `get` are 2 links and 11, as an array of 32
+/// elements would have two levels above its leaves, and those of a `say` 5.
 const LATER_REPORT: &str = "clock: one reading takes 502 ns, and is in each time
-switches: std does not tell when a thread is switched away; the times have it in them
+cpu ns: the processor time of the longest; for the rest of it its thread did not run
 
 all threads
-kind                commands  median ns   99.9% ns longest ns  thread  command      line  most turns
-1 block                    1       1007       1007       1007       1        4         7         188
-2 blocks                   1       1004       1004       1004       1        1         4         346
-3 to 4 blocks              1       1008       1008       1008       1        5         8         662
-5 to 8 blocks              1       1009       1009       1009       1        6         9        1294
-get and put                2       1005       1006       1006       1        3         6          72
-others                    20       1019       1028       1028       1       25        28          72
-all                       26       1016       1028       1028       1       25        28          72
+kind                commands  median ns   99.9% ns longest ns     cpu ns  thread  command      line  most turns
+1 block                    1       1007       1007       1007        100       1        4         7         188
+2 blocks                   1       1004       1004       1004        100       1        1         4         346
+3 to 4 blocks              1       1008       1008       1008        100       1        5         8         662
+5 to 8 blocks              1       1009       1009       1009        100       1        6         9        1294
+get and put                2       1005       1006       1006        100       1        3         6          13
+others                    20       1019       1028       1028        100       1       25        28           5
+all                       26       1016       1028       1028        100       1       25        28           5
              512 ns         20 ############################################################
             1024 ns          5 ###############
 
 thread 0
-kind                commands  median ns   99.9% ns longest ns  thread  command      line  most turns
+kind                commands  median ns   99.9% ns longest ns     cpu ns  thread  command      line  most turns
 
 thread 1
-kind                commands  median ns   99.9% ns longest ns  thread  command      line  most turns
-1 block                    1       1007       1007       1007       1        4         7         188
-2 blocks                   1       1004       1004       1004       1        1         4         346
-3 to 4 blocks              1       1008       1008       1008       1        5         8         662
-5 to 8 blocks              1       1009       1009       1009       1        6         9        1294
-get and put                2       1005       1006       1006       1        3         6          72
-others                    20       1019       1028       1028       1       25        28          72
-all                       26       1016       1028       1028       1       25        28          72
+kind                commands  median ns   99.9% ns longest ns     cpu ns  thread  command      line  most turns
+1 block                    1       1007       1007       1007        100       1        4         7         188
+2 blocks                   1       1004       1004       1004        100       1        1         4         346
+3 to 4 blocks              1       1008       1008       1008        100       1        5         8         662
+5 to 8 blocks              1       1009       1009       1009        100       1        6         9        1294
+get and put                2       1005       1006       1006        100       1        3         6          13
+others                    20       1019       1028       1028        100       1       25        28           5
+all                       26       1016       1028       1028        100       1       25        28           5
              512 ns         20 ############################################################
             1024 ns          5 ###############
 ";
 
 /// The reports of the two jobs as comma separated values.
-const VALUES: &str = "of,kind,commands,median ns,99.9% ns,longest ns,thread,command,line,most turns
-all,1 block,1,1000,1000,1000,0,4,6,139
-all,2 blocks,1,1000,1000,1000,0,1,3,252
-all,get and put,2,1000,1000,1000,0,2,4,66
-all,others,1,,,,,,,
-all,all,5,1000,1000,1000,0,1,3,252
+const VALUES: &str =
+    "of,kind,commands,median ns,99.9% ns,longest ns,cpu ns,thread,command,line,most turns
+all,1 block,1,1000,1000,1000,250,0,4,6,139
+all,2 blocks,1,1000,1000,1000,250,0,1,3,252
+all,get and put,2,1000,1000,1000,250,0,2,4,11
+all,others,1,,,,,,,,
+all,all,5,1000,1000,1000,250,0,1,3,252
 ";
 
 const LATER_VALUES: &str =
-    "of,kind,commands,median ns,99.9% ns,longest ns,thread,command,line,most turns
-all,1 block,1,1007,1007,1007,1,4,7,188
-all,2 blocks,1,1004,1004,1004,1,1,4,346
-all,3 to 4 blocks,1,1008,1008,1008,1,5,8,662
-all,5 to 8 blocks,1,1009,1009,1009,1,6,9,1294
-all,get and put,2,1005,1006,1006,1,3,6,72
-all,others,20,1019,1028,1028,1,25,28,72
-all,all,26,1016,1028,1028,1,25,28,72
-1,1 block,1,1007,1007,1007,1,4,7,188
-1,2 blocks,1,1004,1004,1004,1,1,4,346
-1,3 to 4 blocks,1,1008,1008,1008,1,5,8,662
-1,5 to 8 blocks,1,1009,1009,1009,1,6,9,1294
-1,get and put,2,1005,1006,1006,1,3,6,72
-1,others,20,1019,1028,1028,1,25,28,72
-1,all,26,1016,1028,1028,1,25,28,72
+    "of,kind,commands,median ns,99.9% ns,longest ns,cpu ns,thread,command,line,most turns
+all,1 block,1,1007,1007,1007,100,1,4,7,188
+all,2 blocks,1,1004,1004,1004,100,1,1,4,346
+all,3 to 4 blocks,1,1008,1008,1008,100,1,5,8,662
+all,5 to 8 blocks,1,1009,1009,1009,100,1,6,9,1294
+all,get and put,2,1005,1006,1006,100,1,3,6,13
+all,others,20,1019,1028,1028,100,1,25,28,5
+all,all,26,1016,1028,1028,100,1,25,28,5
+1,1 block,1,1007,1007,1007,100,1,4,7,188
+1,2 blocks,1,1004,1004,1004,100,1,1,4,346
+1,3 to 4 blocks,1,1008,1008,1008,100,1,5,8,662
+1,5 to 8 blocks,1,1009,1009,1009,100,1,6,9,1294
+1,get and put,2,1005,1006,1006,100,1,3,6,13
+1,others,20,1019,1028,1028,100,1,25,28,5
+1,all,26,1016,1028,1028,100,1,25,28,5
 ";
 
 /// Runs the job of this input with these words and by this clock, and compares the status and what
 /// is written.
-fn answers<C: Clock + Sync>(
+fn answers<C: Clock + CpuClock + Sync>(
     rt: &(impl Abort + Threads + Wait + Sync),
     alloc: Global,
     clock: &C,

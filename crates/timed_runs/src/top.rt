@@ -17,7 +17,7 @@ use rtheap_core::{Exit, RunEnd, rtheap};
 use std::alloc::Global;
 use std::sync::Wait;
 use std::thread::Threads;
-use std::time::Clock;
+use std::time::{Clock, CpuClock};
 use trace_text::{Sink, Source, put_line};
 
 /// What became of a timed run: the status, and what the run itself answered.
@@ -39,7 +39,7 @@ pub struct TimedExit {
 ///
 /// `OutOfMemory` where there is no room for the words of the times. Nothing is read or written
 /// then.
-pub fn timed<R: Threads + Wait + Sync, C: Clock + Sync, S: Source, K: Sink>(
+pub fn timed<R: Threads + Wait + Sync, C: Clock + CpuClock + Sync, S: Source, K: Sink>(
     rt: &R,
     clock: &C,
     alloc: Global,

@@ -8,7 +8,7 @@ usage: timedrun < JOB         runs a job on real threads, as `rtheap run` does, 
 Times are what the clock read, in nanoseconds: measured, not proved. The last column is the most
 turns that the command of the longest time takes, by a theorem, if no other thread has turns. The
 program runs only once it is built (--build), since an unproved build takes up to 280 times as long.
-Jobs and the report are described in docs/FORMAT.md, \"Times of a run\".
+Jobs and the report are described in docs/TOOLS.md, \"timedrun\".
 ";
 
 pub const VERSION: &str = "timedrun 0.1.0\n";

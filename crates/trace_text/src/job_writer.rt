@@ -112,7 +112,8 @@ fn line_of_header(job: &Job) -> LineBuffer
     line_of_config(&job.config)
 }
 
-fn line_of_config(config: &Config) -> LineBuffer
+/// The first line of a job of this configuration, with its line feed.
+pub fn line_of_config(config: &Config) -> LineBuffer
     ensures { result ≡ line_text (header config.now) }
 {
     let mut line = LineBuffer::new();

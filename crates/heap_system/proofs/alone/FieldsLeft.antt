@@ -1,7 +1,9 @@
 -- How many events a command that allocates nothing has left at most, before it goes out: each event
 -- leaves fewer.
-use Rattle.std.proofs.Common.{◌≡◌, ◌≢◌, ℕ, ◌+◌, ◌-◌, ◌≤◌, ◌<◌, eqb, ltb, refl, arith, sym, ◌∙◌, ltb-true, Some, None, inl, inr}
-use Rattle.std.proofs.lemmas.Bool.{cases_Bool}
+use Rattle.std.proofs.Common.{◌≡◌, ◌≢◌, ℕ, zero, suc, ◌+◌, ◌-◌, ◌*◌, ◌/◌, ◌≤◌, ◌<◌, eqb, ltb, refl, arith, sym, ◌∙◌, ltb-true, Some, None, inl, inr}
+use Rattle.std.proofs.lemmas.Bool.{cases_Bool, cases_lt}
+use Rattle.std.proofs.lemmas.Nat.{le-div, mul-le}
+use Rattle.std.proofs.Math.Nat.{div-mul-le_self}
 use Rattle.block_store.specs.declared.Config.{Config}
 use Rattle.block_store.specs.declared.Payload.{Payload}
 use Rattle.block_store.specs.declared.Payload.TheVariants as payloads
@@ -10,11 +12,15 @@ use Rattle.block_store.specs.declared.Shape.TheVariants as shapes
 use Rattle.block_store.specs.declared.Value.{Value}
 use Rattle.block_store.specs.declared.Width.{Width}
 use Rattle.block_store.specs.declared.Width.TheVariants.{Four, Eight}
+use Rattle.block_store.specs.Configs.{IsInBounds}
 use Rattle.block_store.specs.Payloads.{target}
-use Rattle.block_store.specs.Places.{Extent, extent}
-use Rattle.block_store.specs.Shapes.{IsShape}
+use Rattle.block_store.specs.Places.{extent}
 use Rattle.block_store.specs.Widths.{payloads as payloads_of}
 use Rattle.object_lists.specs.Records.{record_blocks, record_slot}
+use Rattle.array_trees.specs.Levels.{array_depth, level}
+use Rattle.array_trees.specs.Trees.{array_blocks, leaves}
+use Rattle.array_trees.proofs.Arrays.{depth_is}
+use Rattle.array_trees.proofs.Counts.{le-tree, many}
 use Rattle.array_trees.proofs.Depths.{depth_few}
 use Rattle.never_heap.specs.declared.Command.{Command}
 use Rattle.never_heap.specs.declared.Command.TheVariants as commands
@@ -34,6 +40,7 @@ use Rattle.barrier_steps.specs.Fits.{RowFits}
 use Rattle.barrier_steps.specs.Operands.{field_index}
 use Rattle.barrier_steps.specs.Rows.{first_row, row_got, field_reply, shape_in, payload_in, on_way, at_block, after_object, after_shape, after_field, after_said, after_owner, after_register, after_store, object_in, before_store, in_barrier, stored_word, shaded_for, way_from, way_on}
 use Rattle.barrier_steps.specs.Walks.{links_to, shape_length}
+use Rattle.heap_system.specs.Alone.{longest_array, most_events, most_links}
 
 -- from the block of the field on: `put` and `cas` shade and store, `get` loads, names, shades and
 -- stores, and `swap` shades, exchanges, names, shades and stores
@@ -54,26 +61,38 @@ abbrev pub after_left : FieldStore → ℕ
 after_left (Exchanged way word) = 5
 after_left _ = 0
 
--- How many events command k has left at most at a row. A way has at most seven links more than the
--- largest object has blocks.
+-- Behind the object's shape: the registers that are stored and compared, the way, and the errand.
+abbrev pub behind_shape : Config → Command → ℕ
+behind_shape c (commands.Get d s i) = most_links c i + 6
+behind_shape c (commands.Put s i v) = most_links c i + 5
+behind_shape c (commands.Swap s i v) = most_links c i + 10
+behind_shape c (commands.Cas s i a v) = most_links c i + 6
+behind_shape c _ = 0
+
+-- and from the owner word on, which `say` answers, and by which the others store what they name
+abbrev pub owned_left : Command → ℕ
+owned_left (commands.Say s) = 1
+owned_left _ = 5
+
+-- how many events command k has left at most at a row
 abbrev pub register_left : Config → Command → Wanted → ℕ
 register_left c k wants.Copied = 5
-register_left c k wants.Object = c.object + 19
+register_left c k wants.Object = 2 + behind_shape c k
 register_left c k (wants.Expected way) =
     links_to (extent c) way.shape (field_index k) + errand_left k + 2
 register_left c k (wants.Stored way) =
     links_to (extent c) way.shape (field_index k) + errand_left k + 1
 register_left c k wants.First = 2
 register_left c k (wants.Second word) = 1
-register_left c k wants.Shown = 6
+register_left c k wants.Shown = 1 + owned_left k
 
 abbrev pub field_left : Config → Command → FieldRow → ℕ
 field_left c k (LoadRegister wanted) = register_left c k wanted
-field_left c k (LoadShape x) = c.object + 18
+field_left c k (LoadShape x) = 1 + behind_shape c k
 field_left c k (LoadLink way word) =
     links_to (extent c) way.shape (field_index k) - way.level + errand_left k
 field_left c k (LoadField way) = 6
-field_left c k (LoadOwner word) = 5
+field_left c k (LoadOwner word) = owned_left k
 field_left c k (Shade r store) = barrier_left r + after_left store
 field_left c k (Store store) = 1 + after_left store
 field_left c k StoreConstant = 1
@@ -83,8 +102,12 @@ field_left c k (Answered reply) = 0
 -- the object whose shape is read has no longer way to the field of command k
 abbrev pub IsWayShort : Config → Command → FieldRow → ℕ → Type 0
 IsWayShort c k (LoadShape x) w = field_index k < shape_length (shape_in w)
-    → links_to (extent c) (shape_in w) (field_index k) ≤ c.object + 7
+    → links_to (extent c) (shape_in w) (field_index k) ≤ most_links c (field_index k)
 IsWayShort c k _ w = Unit {0}
+
+owned_few : (k : Command) → owned_left k ≤ 5
+owned_few (commands.Say s) = omega arith
+owned_few _ = omega arith
 
 module _ (c : Config) (p : Pass) where
   abbrev L : Command → FieldRow → ℕ
@@ -109,12 +132,12 @@ module _ (c : Config) (p : Pass) where
     | inr q ↦ (let b = block_left k way word in rw q (omega arith))
   ]
 
-  object_left : (k : Command) (v : Payload) → L k (after_object v) ≤ c.object + 18
+  object_left : (k : Command) (v : Payload) → L k (after_object v) ≤ 1 + behind_shape c k
   object_left k payloads.Nil = omega arith
   object_left k (payloads.Int v) = omega arith
   object_left k (payloads.Block x) = omega arith
 
-  shape_left : (k : Command) (x : ℕ) (f : Shape) → (field_index k < shape_length f → links_to (extent c) f (field_index k) ≤ c.object + 7) → L k (after_shape (extent c) p k x f) ≤ c.object + 17
+  shape_left : (k : Command) (x : ℕ) (f : Shape) → (field_index k < shape_length f → links_to (extent c) f (field_index k) ≤ most_links c (field_index k)) → L k (after_shape (extent c) p k x f) ≤ behind_shape c k
   shape_left (commands.Get d s i) x f low = elim (cases_Bool (ltb i (shape_length f))) [
     | inl q ↦ (let l = low (ltb-true i (shape_length f) q) in let w = way_left (commands.Get d s i) (way_from f x) 0 in rw q (omega arith))
     | inr q ↦ rw q (omega arith)
@@ -136,9 +159,9 @@ module _ (c : Config) (p : Pass) where
   field_next : (k : Command) (w : ℕ) (v : Payload) → L k (after_field w v) ≤ 5
   field_next k w payloads.Nil = omega arith
   field_next k w (payloads.Int v) = omega arith
-  field_next k w (payloads.Block x) = omega arith
+  field_next k w (payloads.Block x) = owned_few k
 
-  said_next : (k : Command) (w : ℕ) (v : Payload) → L k (after_said w v) ≤ 5
+  said_next : (k : Command) (w : ℕ) (v : Payload) → L k (after_said w v) ≤ owned_left k
   said_next k w payloads.Nil = omega arith
   said_next k w (payloads.Int v) = omega arith
   said_next k w (payloads.Block x) = omega arith
@@ -158,10 +181,9 @@ module _ (c : Config) (p : Pass) where
   barrier_next k _ s n w some = absurd (some refl)
 
   -- each event leaves fewer
-  owner_left : (k : Command) (word : ℕ) (v : Value) → L k (after_owner p k word v) ≤ 4
+  owner_left : (k : Command) (word : ℕ) (v : Value) → L k (after_owner p k word v) < owned_left k
   owner_left (commands.Say s) word v = omega arith
-  owner_left (commands.Get d s i) word v = before_left (commands.Get d s i) (Pending word v)
-  owner_left k word v = before_left k (Pending word v)
+  owner_left k word v = omega (arith, before_left k (Pending word v))
 
   register_falls : (k : Command) (wanted : Wanted) (w : ℕ) → L k (after_register (extent c) p k wanted w) < register_left c k wanted
   register_falls k wants.Copied w = omega (arith, before_left k (Moved w))
@@ -181,35 +203,96 @@ module _ (c : Config) (p : Pass) where
   field_falls k (LoadShape x) w fits going low = omega (arith, shape_left k x (shape_in w) low)
   field_falls k (LoadLink way word) w fits going low = omega (arith, way_left k (way_on way (target w)) word, fits.1)
   field_falls k (LoadField way) w fits going low = omega (arith, field_next k w (payload_in w))
-  field_falls k (LoadOwner word) w fits going low = omega (arith, owner_left k word (object_in w))
+  field_falls k (LoadOwner word) w fits going low = owner_left k word (object_in w)
   field_falls k (Shade r store) w fits going low = barrier_next k r store (payloads_of c.width) w (λ z. fits.0.refers (sym fits.0.stores ∙ z))
   field_falls k (Store store) w fits going low = store_falls k store w
   field_falls k StoreConstant w fits going low = omega arith
   field_falls k IdleLook w fits going low = omega arith
   field_falls k (Answered reply) w fits going low = absurd (let z : Some reply ≡ None = going in cc)
 
--- at its first row a command has few
-pub fields_low : (c : Config) (k : Command) → field_left c k (first_row k) ≤ c.object + 19
-fields_low c (commands.New d f) = omega arith
-fields_low c (commands.Arr d f) = omega arith
-fields_low c (commands.Set d v) = omega arith
-fields_low c (commands.Nil d) = omega arith
-fields_low c (commands.Mov d s) = omega arith
-fields_low c (commands.Get d s i) = omega arith
-fields_low c (commands.Put s i v) = omega arith
-fields_low c (commands.Len s) = omega arith
-fields_low c (commands.Same a b) = omega arith
-fields_low c (commands.Say s) = omega arith
-fields_low c (commands.Swap s i v) = omega arith
-fields_low c (commands.Cas s i a v) = omega arith
-fields_low c (commands.Idle u) = omega arith
+-- at its first row a command has its events inside
+pub fields_first : (c : Config) (k : Command) → field_left c k (first_row k) ≤ most_events c k
+fields_first c (commands.New d f) = omega arith
+fields_first c (commands.Arr d f) = omega arith
+fields_first c (commands.Set d v) = omega arith
+fields_first c (commands.Nil d) = omega arith
+fields_first c (commands.Mov d s) = omega arith
+fields_first c (commands.Get d s i) = omega arith
+fields_first c (commands.Put s i v) = omega arith
+fields_first c (commands.Len s) = omega arith
+fields_first c (commands.Same a b) = omega arith
+fields_first c (commands.Say s) = omega arith
+fields_first c (commands.Swap s i v) = omega arith
+fields_first c (commands.Cas s i a v) = omega arith
+fields_first c (commands.Idle u) = omega arith
+
+-- and these are few
+wide : (w : Width) → payloads_of w ≤ 8
+wide Four = omega arith
+wide Eight = omega arith
+
+arrays_few : (c : Config) → IsInBounds c → longest_array c ≤ 65535
+arrays_few c is =
+    let all : payloads_of c.width * c.object ≤ 8 * 1024 = mul-le (payloads_of c.width) c.object 8 1024 (wide c.width) is.object in
+    omega (arith, all, is.shared)
+
+links_few : (c : Config) (i : ℕ) → IsInBounds c → most_links c i ≤ c.object + 7
+links_few c i is = omega (arith, depth_few c.width (longest_array c) (arrays_few c is))
+
+pub events_few : (c : Config) (k : Command) → IsInBounds c → most_events c k ≤ c.object + 19
+events_few c (commands.Mov d s) is = omega arith
+events_few c (commands.Get d s i) is = omega (arith, links_few c i is)
+events_few c (commands.Put s i v) is = omega (arith, links_few c i is)
+events_few c (commands.Len s) is = omega arith
+events_few c (commands.Same a b) is = omega arith
+events_few c (commands.Say s) is = omega arith
+events_few c (commands.Swap s i v) is = omega (arith, links_few c i is)
+events_few c (commands.Cas s i a v) is = omega (arith, links_few c i is)
+events_few c _ is = omega arith
 
 -- the block of a field of a record is one of the record's
 record_way : (w : Width) (n i : ℕ) → i < n → (record_slot w i).0 < record_blocks w n
 record_way Four n i low = omega arith
 record_way Eight n i low = omega arith
 
--- a way has at most seven links more than a record may have blocks
-pub ways_are_short : (e : Extent) (f : Shape) (i b : ℕ) → IsShape f → i < shape_length f → ((n : ℕ) → f ≡ shapes.List n → record_blocks e.width n ≤ b) → links_to e f i ≤ b + 7
-ways_are_short e (shapes.List n) i b is low few = omega (arith, few n refl, record_way e.width n i low)
-ways_are_short e (shapes.Tree n) i b is low few = omega (arith, depth_few e.width n is)
+-- a longer array is as deep at least
+div_low : (a b m : ℕ) → 0 < m → a ≤ b → a / m ≤ b / m
+div_low a b m some low = le-div (a / m) b m some (omega (arith, div-mul-le_self a m, low))
+
+level_low : (w q r h : ℕ) → 0 < w → q ≤ r → level w q h ≤ level w r h
+level_low w q r zero some low = low
+level_low w q r (suc h) some low =
+    div_low (level w q h + (w - 1)) (level w r h + (w - 1)) w some
+    (let l = level_low w q r h some low in omega arith)
+
+leaves_low : (w a b : ℕ) → 0 < w → a ≤ b → leaves w a ≤ leaves w b
+leaves_low w a b some low =
+    let l = div_low (a + (w - 1)) (b + (w - 1)) w some (omega arith) in omega arith
+
+depth_low : (w : Width) (a b : ℕ) → a ≤ b → array_depth w a ≤ array_depth w b
+depth_low w a b low = elim (cases_lt (array_depth w b) (array_depth w a)) [
+  | inl deep ↦
+      let some : 0 < payloads_of w = omega (arith, many w) in
+      let more = (depth_is (payloads_of w) a (many w)).more (array_depth w b) deep in
+      let root = (depth_is (payloads_of w) b (many w)).root in
+      let levels = level_low (payloads_of w) (leaves (payloads_of w) a) (leaves (payloads_of w) b) (array_depth w b) some
+      (leaves_low (payloads_of w) a b some low) in
+      absurd (omega arith)
+  | inr few ↦ few
+]
+
+-- an array of few blocks has few elements
+elements_few : (w : Width) (e : ℕ) → e ≤ payloads_of w * leaves (payloads_of w) e
+elements_few Four e = omega arith
+elements_few Eight e = omega arith
+
+pub array_short : (c : Config) (e : ℕ) → array_blocks c.width e ≤ c.object → e ≤ longest_array c
+array_short c e few =
+    let leaves_few : leaves (payloads_of c.width) e ≤ c.object = omega (arith, few, le-tree (payloads_of c.width) (leaves (payloads_of c.width) e) (many c.width)) in
+    let all = mul-le (payloads_of c.width) (leaves (payloads_of c.width) e) (payloads_of c.width) c.object (omega arith) leaves_few in
+    omega (arith, all, elements_few c.width e)
+
+-- no object has a longer way to its field i
+pub ways_are_short : (c : Config) (f : Shape) (i : ℕ) → i < shape_length f → ((n : ℕ) → f ≡ shapes.List n → record_blocks c.width n ≤ c.object) → ((n : ℕ) → f ≡ shapes.Tree n → n ≤ longest_array c) → links_to (extent c) f i ≤ most_links c i
+ways_are_short c (shapes.List n) i low records arrays = omega (arith, records n refl, record_way c.width n i low)
+ways_are_short c (shapes.Tree n) i low records arrays = omega (arith, depth_low c.width n (longest_array c) (arrays n refl))

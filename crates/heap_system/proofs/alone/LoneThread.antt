@@ -30,7 +30,7 @@ use Rattle.heap_system.specs.Locals.{effect, part_want, part_got, pass_got, spen
 use Rattle.heap_system.proofs.PartLaws.{AtPart, PartEvent, word_at}
 use Rattle.heap_system.proofs.SeenAndKept.{Seen, errand}
 use Rattle.heap_system.proofs.alone.FieldsLeft.{field_left}
-use Rattle.heap_system.proofs.alone.Low.{RecordsAreLow}
+use Rattle.heap_system.proofs.alone.Low.{ObjectsAreLow}
 
 -- what a command is
 abbrev pub terms_of : Config → Command → Terms
@@ -202,7 +202,7 @@ is_out _ = false
 -- largest object
 pub record Alone (c : Config) (s : Seen c) : Type 0 where
   pub others : (u : ℕ) → u < c.threads → (s.thread ≡ u → ⊥) → is_outside (s.gatings u).stand ≡ true
-  pub low : RecordsAreLow c s.graph
+  pub low : ObjectsAreLow c s.graph
 
 -- what the event at part p leaves: the heap, the pass, the units paid and the part
 abbrev pub heap_left : (c : Config) → Seen c → Part → Heap

@@ -1,4 +1,4 @@
--- No record has more blocks than the largest object.
+-- No record has more blocks than the largest object, and no array more elements than the longest.
 use Rattle.std.proofs.Common.{ℕ, zero, suc, ◌-◌, ◌≡◌, ◌<◌, ◌≤◌, Bool, true, false, cond, eqb, eq-eqb, List, [], ◌∷◌, length, get_or, map, take, replicate, Option, Some, None, ◌++◌, sym, ◌∙◌, refl, subst, arith, inl, inr}
 use Rattle.std.proofs.lemmas.Bool.{cases_lt, cases_Bool}
 use Rattle.std.proofs.lemmas.List.{length-set, length-replicate}
@@ -24,17 +24,20 @@ use Rattle.never_heap.proofs.GraphMoves.{object_with_register}
 use Rattle.never_heap.proofs.FieldStores.{object_with_field, object_with_object}
 use Rattle.never_heap.proofs.StepChanges.{Change, none, store, put, swap, make, change_of, has_field, threads_put, with_object_threads}
 use Rattle.never_heap.proofs.UnchangedBySteps.{step_past}
+use Rattle.heap_system.specs.Alone.{longest_array}
 use Rattle.heap_system.specs.Locals.{LocalState, command_of, entries_of}
 use Rattle.heap_system.specs.Machines.{Run, local_at}
 use Rattle.heap_system.specs.Pictures.{waiting, entries_waiting}
 use Rattle.heap_system.proofs.Kept.{Kept}
 use Rattle.heap_system.proofs.OwedAndPaid.{bounds_at, blocks_low}
+use Rattle.heap_system.proofs.alone.FieldsLeft.{array_short}
 
 abbrev pub IsLow : Config → Object → Type 0
-IsLow c o = o.kind ≡ Record → record_blocks c.width (length o.fields) ≤ c.object
+IsLow c o = (o.kind ≡ Record → record_blocks c.width (length o.fields) ≤ c.object)
+    × (o.kind ≡ Array → length o.fields ≤ longest_array c)
 
-abbrev pub RecordsAreLow : Config → Graph → Type 0
-RecordsAreLow c g = (a : Name) → IsLow c (object_of g a)
+abbrev pub ObjectsAreLow : Config → Graph → Type 0
+ObjectsAreLow c g = (a : Name) → IsLow c (object_of g a)
 
 -- no command of the history allocates more blocks than the largest object has
 abbrev pub AsksFew : Config → Entry → Type 0
@@ -50,11 +53,14 @@ cond_low c true o p f g = f
 cond_low c false o p f g = g
 
 set_low : (c : Config) (i : ℕ) (v : Value) (o : Object) → IsLow c o → IsLow c (set_field o i v)
-set_low c i v o low q = subst (λ n. record_blocks c.width n ≤ c.object) (sym (length-set o.fields i v)) (low q)
+set_low c i v o low = (
+  λ q. subst (λ n. record_blocks c.width n ≤ c.object) (sym (length-set o.fields i v)) (low.0 q),
+  λ q. subst (λ n. n ≤ longest_array c) (sym (length-set o.fields i v)) (low.1 q),
+)
 
-module _ (c : Config) (g : Graph) (low : RecordsAreLow c g) (t : ℕ) where
+module _ (c : Config) (g : Graph) (low : ObjectsAreLow c g) (t : ℕ) where
   -- a step that makes no object
-  stays : (new : Bool) (h : Graph) → t < length g.mutators → new ≡ false → Change g t new h → RecordsAreLow c h
+  stays : (new : Bool) (h : Graph) → t < length g.mutators → new ≡ false → Change g t new h → ObjectsAreLow c h
   stays new _ there not_new none a = low a
   stays new _ there not_new (store d v s) a = subst (IsLow c) (sym (object_with_register g t d v a there)) (low a)
   stays new _ there not_new (put s i v x e l) a =
@@ -66,28 +72,30 @@ module _ (c : Config) (g : Graph) (low : RecordsAreLow c g) (t : ℕ) where
   stays new _ there not_new (make d o n e y) a = absurd (let z : true ≡ false = sym y ∙ not_new in cc)
 
   -- a new object
-  makes : (d : ℕ) (o : Object) → t < length g.mutators → IsLow c o → RecordsAreLow c (made g t d o).0
+  makes : (d : ℕ) (o : Object) → t < length g.mutators → IsLow c o → ObjectsAreLow c (made g t d o).0
   makes d o there new a =
       subst (IsLow c) (sym (object_with_register (with_object g t o) t d (Ref (next_name g t)) a (omega (arith, with_object_threads g t o)) ∙ object_with_object g t o there a))
       (cond_low c (same_name (next_name g t) a) o (object_of g a) new (low a))
 
-  there_low : (k : Command) → t < length g.mutators → blocks_of c.width k ≤ c.object → RecordsAreLow c (step g t k).0
-  there_low (commands.New d f) there few = makes d (nil_object Record f) there (λ q. subst (λ n. record_blocks c.width n ≤ c.object) (sym (length-replicate f Nil)) few)
-  there_low (commands.Arr d e) there few = makes d (nil_object Array e) there (λ q. (let z : Array ≡ Record = q in absurd cc))
+  there_low : (k : Command) → t < length g.mutators → blocks_of c.width k ≤ c.object → ObjectsAreLow c (step g t k).0
+  there_low (commands.New d f) there few = makes d (nil_object Record f) there
+      (λ q. subst (λ n. record_blocks c.width n ≤ c.object) (sym (length-replicate f Nil)) few, λ q. (let z : Record ≡ Array = q in absurd cc))
+  there_low (commands.Arr d e) there few = makes d (nil_object Array e) there
+      (λ q. (let z : Array ≡ Record = q in absurd cc), λ q. subst (λ n. n ≤ longest_array c) (sym (length-replicate e Nil)) (array_short c e few))
   there_low k there few = stays _ _ there refl (change_of g t k)
 
-  step_low : (k : Command) → blocks_of c.width k ≤ c.object → RecordsAreLow c (step g t k).0
+  step_low : (k : Command) → blocks_of c.width k ≤ c.object → ObjectsAreLow c (step g t k).0
   step_low k few = elim (cases_lt t (length g.mutators)) [
     | inl there ↦ there_low k there few
-    | inr past ↦ subst (RecordsAreLow c) (sym (step_past g t k past)) low
+    | inr past ↦ subst (ObjectsAreLow c) (sym (step_past g t k past)) low
   ]
 
-replay_low : (c : Config) (h : List HistoryItem) (g : Graph) → CommandsAskFew c h → RecordsAreLow c g → RecordsAreLow c (replay_from g h)
+replay_low : (c : Config) (h : List HistoryItem) (g : Graph) → CommandsAskFew c h → ObjectsAreLow c g → ObjectsAreLow c (replay_from g h)
 replay_low c [] g few low = low
 replay_low c (Started ∷ h) g few low = replay_low c h g few low
 replay_low c (Did e ∷ h) g few low = replay_low c h (after g (Did e)) few.1 (elim (cases_Bool (is_full e.reply)) [
-  | inl y ↦ subst (λ x. RecordsAreLow c (cond x g (step g e.thread e.command).0)) (sym y) low
-  | inr n ↦ subst (λ x. RecordsAreLow c (cond x g (step g e.thread e.command).0)) (sym n) (step_low c g low e.thread e.command few.0)
+  | inl y ↦ subst (λ x. ObjectsAreLow c (cond x g (step g e.thread e.command).0)) (sym y) low
+  | inr n ↦ subst (λ x. ObjectsAreLow c (cond x g (step g e.thread e.command).0)) (sym n) (step_low c g low e.thread e.command few.0)
 ])
 
 -- the start: an array, and no other object
@@ -100,14 +108,23 @@ start_objects n zero u = refl
 start_objects n (suc k) zero = refl
 start_objects n (suc k) (suc u) = start_objects n k u
 
-start_low : (c : Config) → 0 < c.object → RecordsAreLow c (start_graph c)
-start_low c pos a = cond_low c (eqb a.serial 0) _ _
-    (cond_low c (eqb a.thread (length (start_graph c).mutators)) (start_graph c).shared no_object (λ q. (let z : Array ≡ Record = q in absurd cc)) (λ q. empty_low c.width c.object pos))
-    (subst (λ (os : List Object). IsLow c (get_or os (a.serial - 1) no_object)) (sym (start_objects c.threads c.threads a.thread)) (λ q. empty_low c.width c.object pos))
+shared_low : (c : Config) → IsLow c (nil_object Array c.shared)
+shared_low c = (
+  λ q. (let z : Array ≡ Record = q in absurd cc),
+  λ q. subst (λ n. n ≤ longest_array c) (sym (length-replicate c.shared Nil)) (omega arith),
+)
 
--- so no record of the replay has more
-replay_records : (c : Config) (h : List HistoryItem) → 0 < c.object → CommandsAskFew c h → RecordsAreLow c (replay c h)
-replay_records c h pos few = replay_low c h (start_graph c) few (start_low c pos)
+none_low : (c : Config) → 0 < c.object → IsLow c no_object
+none_low c pos = (λ q. empty_low c.width c.object pos, λ q. omega arith)
+
+start_low : (c : Config) → 0 < c.object → ObjectsAreLow c (start_graph c)
+start_low c pos a = cond_low c (eqb a.serial 0) _ _
+    (cond_low c (eqb a.thread (length (start_graph c).mutators)) (start_graph c).shared no_object (shared_low c) (none_low c pos))
+    (subst (λ (os : List Object). IsLow c (get_or os (a.serial - 1) no_object)) (sym (start_objects c.threads c.threads a.thread)) (none_low c pos))
+
+-- so no object of the replay is larger
+replay_objects : (c : Config) (h : List HistoryItem) → 0 < c.object → CommandsAskFew c h → ObjectsAreLow c (replay c h)
+replay_objects c h pos few = replay_low c h (start_graph c) few (start_low c pos)
 
 -- what holds of the parts of all threads holds of the order
 pub parts_ask_few : (c : Config) (h : List HistoryItem) → ((t : ℕ) → AllByRecursion (AsksFew c) (part t h)) → CommandsAskFew c h
@@ -155,5 +172,5 @@ module _ (c : Config) (traces : List (List Command)) (bounds : IsInBounds c) (pl
     | inr past ↦ subst (AllByRecursion (AsksFew c)) (sym (kept.foreign t past)) tt
   ])
 
-  pub order_records : RecordsAreLow c (replay c r.order)
-  order_records = replay_records c r.order (let p = bounds.some_object in omega arith) order_asks_few
+  pub order_objects : ObjectsAreLow c (replay c r.order)
+  order_objects = replay_objects c r.order (let p = bounds.some_object in omega arith) order_asks_few

@@ -1,6 +1,6 @@
--- A lone thread comes to the end of its allocation within the near bound.
-use Rattle.std.proofs.Common.{◌≡◌, ℕ, zero, suc, ◌-◌, ◌*◌, ◌≤◌, ◌<◌, true, false, cond, List, [], length, get_or, refl, sym, ap, subst, arith, inl, inr, lt-ltb}
-use Rattle.std.proofs.lemmas.Bool.{cases_Bool}
+-- A lone thread comes to the end of its command within the near bound.
+use Rattle.std.proofs.Common.{◌≡◌, ℕ, zero, suc, ◌-◌, ◌*◌, ◌≤◌, ◌<◌, true, false, List, [], length, get_or, Bool, refl, sym, ◌∙◌, subst, arith, inl, inr, le-ltb, lt-ltb}
+use Rattle.std.proofs.lemmas.Bool.{cases_Bool, cases_lt}
 use Rattle.block_store.specs.declared.Config.{Config}
 use Rattle.block_store.specs.declared.Width.{Width}
 use Rattle.block_store.specs.declared.Width.TheVariants.{Four, Eight}
@@ -14,13 +14,14 @@ use Rattle.never_heap.specs.declared.Command.TheVariants as commands
 use Rattle.never_heap.specs.declared.Entry.{Entry}
 use Rattle.never_heap.specs.RightWork.{units_owed, units_told}
 use Rattle.never_heap.specs.Steps.{blocks_of}
-use Rattle.never_heap.proofs.StepAnswers.{blocks_untold}
+use Rattle.never_heap.proofs.StepAnswers.{blocks_untold, owes_told}
 use Rattle.barrier_steps.specs.Operands.{is_idle}
-use Rattle.lone_bound.specs.Near.{Keeps, near_left, near_bound}
+use Rattle.lone_bound.specs.Moves.{Look}
+use Rattle.lone_bound.specs.Near.{Keeps, farthest, near_at, near_bound, near_left, near_other_bound}
 use Rattle.lone_bound.specs.Prices.{allocation_bound, idle_bound, other_bound}
-use Rattle.lone_bound.proofs.Near.{lower, near, near_within}
+use Rattle.lone_bound.proofs.Near.{idle_within, lower, near, near_other, near_within}
 use Rattle.heap_system.specs.Parts.{Part, Rest, Leave}
-use Rattle.heap_system.specs.Alone.{IsQuiet, HasCommand, EndsWithin, command_bound}
+use Rattle.heap_system.specs.Alone.{IsQuiet, HasCommand, EndsWithin, command_bound, command_near, most_events}
 use Rattle.heap_system.specs.Locals.{LocalState, command_of, owed, is_done}
 use Rattle.heap_system.specs.Machines.{Run, IsJob, local_at, local_in, heap_in, next}
 use Rattle.heap_system.proofs.Kept.{Kept}
@@ -29,7 +30,8 @@ use Rattle.heap_system.proofs.OwedAndPaid.{opening_room}
 use Rattle.heap_system.proofs.KeptByTurns.{at_part, event, next_is}
 use Rattle.heap_system.proofs.alone.WorkLeft.{scene_of, far_of, far_few, keep_law}
 use Rattle.heap_system.proofs.alone.Runs
-use Rattle.heap_system.proofs.alone.Runs.{wide}
+use Rattle.heap_system.proofs.alone.FieldsLeft.{events_few, fields_first}
+use Rattle.heap_system.proofs.alone.Runs.{untold, wide}
 use Rattle.heap_system.proofs.alone.LoneThread.{terms_of, spot_of, LoneKnows, is_out, paid_left, grey_heads}
 
 module _ (c : Config) (traces : List (List Command)) (job : IsJob c traces) (rate : ℕ)
@@ -142,50 +144,74 @@ module _ (c : Config) (traces : List (List Command)) (job : IsJob c traces) (rat
           )
     ]
 
--- at rest with an allocation left, where nobody is inside and the gate is open
+-- what a command owes
+pub owes_blocks : (c : Config) (rate : ℕ) (k : Command) → 0 < blocks_of c.width k
+    → units_owed c.width rate k ≡ rate * blocks_of c.width k
+owes_blocks c rate k some = omega (arith, blocks_untold c.width k some)
+
+-- the choice of its bound
+pub makes_near : (c : Config) (k : Command) (rate : ℕ) → 0 < blocks_of c.width k → command_near c rate k
+    ≡ near_bound c.threads (payloads c.width) c.blocks (rate * blocks_of c.width k) (blocks_of c.width k)
+makes_near c k rate some = rw (lt-ltb 0 (blocks_of c.width k) some) refl
+
+pub serves_near : (c : Config) (k : Command) (rate : ℕ) → blocks_of c.width k ≡ 0 → command_near c rate k
+    ≡ near_other_bound c.threads (payloads c.width) c.blocks (units_told k) (most_events c k)
+serves_near c k rate none = rw (le-ltb 0 (blocks_of c.width k) (omega (arith, none))) refl
+
+-- what is left at the look is within it
+priced : (c : Config) (k : Command) (rate o room : ℕ) (far : ℕ → ℕ) (sweep : Bool) → IsInBounds c
+    → o ≡ units_owed c.width rate k → ((v : ℕ) → far v ≤ farthest c.threads v)
+    → near_at (terms_of c k) c.blocks Look o sweep room far ≤ command_near c rate k
+priced c k rate o room far sweep bounds is few = elim (cases_lt 0 (blocks_of c.width k)) [
+  | inl some ↦
+      let same : o ≡ rate * blocks_of c.width k = is ∙ owes_blocks c rate k some in
+      subst (λ n. near_at (terms_of c k) c.blocks Look o sweep room far ≤ n) (sym (makes_near c k rate some))
+      (subst (λ d. near_at (terms_of c k) c.blocks Look d sweep room far
+      ≤ near_bound c.threads (payloads c.width) c.blocks (rate * blocks_of c.width k) (blocks_of c.width k)) (sym same)
+      (near (terms_of c k) c.blocks (wide c.width).0 bounds.some_block (rate * blocks_of c.width k) room far sweep
+      (lt-ltb 0 (blocks_of c.width k) some) few))
+  | inr none ↦
+      let zero_is : blocks_of c.width k ≡ 0 = omega (arith, none) in
+      let same : o ≡ units_told k = is ∙ owes_told c.width rate k zero_is in
+      let first = fields_first c k in
+      let low = near_other (terms_of c k) c.blocks (wide c.width).0 bounds.some_block (units_told k) room far sweep
+      (le-ltb 0 (blocks_of c.width k) none) few in
+      subst (λ n. near_at (terms_of c k) c.blocks Look o sweep room far ≤ n) (sym (serves_near c k rate zero_is))
+      (subst (λ d. near_at (terms_of c k) c.blocks Look d sweep room far
+      ≤ near_other_bound c.threads (payloads c.width) c.blocks (units_told k) (most_events c k)) (sym same)
+      (omega (arith, low, first)))
+]
+
+-- at rest with a command left, where nobody is inside and the gate is open
 module _ (c : Config) (traces : List (List Command)) (job : IsJob c traces) (rate : ℕ)
     (planned : IsRate c rate) (t : ℕ) (tl : t < c.threads) (r : Run) (kept : Kept c traces r) (quiet : IsQuiet c r)
-    (has : HasCommand (local_in c r t))
-    (some : 0 < blocks_of c.width (command_of (local_in c r t))) where
+    (has : HasCommand (local_in c r t)) where
   abbrev first : LocalState
   first = local_at c r.state t
-
-  abbrev bound : ℕ
-  bound = near_bound c.threads (payloads c.width) c.blocks
-      (rate * blocks_of c.width (command_of first)) (blocks_of c.width (command_of first))
 
   at_rest : first.part ≡ Rest
   at_rest = Runs.at_rest c traces job rate planned t tl r kept quiet has
 
-  priced : (o : ℕ) → o ≡ rate * blocks_of c.width (command_of first)
-      → near_left (terms_of c (command_of first)) c.blocks (scene_of c (heap_in c r.state) t o Rest)
-      ≤ bound
-  priced o same =
-      subst (λ d. near_left (terms_of c (command_of first)) c.blocks
-      (scene_of c (heap_in c r.state) t d Rest) ≤ bound) (sym same)
-      (near (terms_of c (command_of first)) c.blocks (wide c.width).0 job.bounds.config.some_block
-      (rate * blocks_of c.width (command_of first)) _ (far_of c (heap_in c r.state) t) _
-      (lt-ltb 0 (blocks_of c.width (command_of first)) some)
-      (λ passes. far_few c.threads passes (grey_heads c (heap_in c r.state) t)))
-
   first_price : near_left (terms_of c (command_of first)) c.blocks
       (scene_of c (heap_in c r.state) t
-      (units_owed c.width rate (command_of first) - first.spent) first.part) ≤ bound
+      (units_owed c.width rate (command_of first) - first.spent) first.part)
+      ≤ command_near c rate (command_of first)
   first_price =
       let none = Runs.none_paid c traces job rate planned t tl r kept quiet has in
       subst (λ p. near_left (terms_of c (command_of first)) c.blocks
       (scene_of c (heap_in c r.state) t
-      (units_owed c.width rate (command_of first) - first.spent) p) ≤ bound) (sym at_rest)
-      (priced (units_owed c.width rate (command_of first) - first.spent)
-      (omega (arith, none, blocks_untold c.width (command_of first) some)))
+      (units_owed c.width rate (command_of first) - first.spent) p) ≤ command_near c rate (command_of first)) (sym at_rest)
+      (priced c (command_of first) rate (units_owed c.width rate (command_of first) - first.spent) _
+      (far_of c (heap_in c r.state) t) _ job.bounds.config (omega (arith, none))
+      (λ passes. far_few c.threads passes (grey_heads c (heap_in c r.state) t)))
 
-  pub near_ends : EndsWithin c t r bound
+  pub near_ends : EndsWithin c t r (command_near c rate (command_of (local_in c r t)))
   near_ends =
       let ended =
       ends c traces job rate planned t tl first.log (command_of first)
       (Runs.some_left c traces job rate planned t tl r kept quiet has)
       (Runs.command_is c traces job rate planned t tl r kept quiet has)
-      bound r (Runs.begins c traces job rate planned t tl r kept quiet has) first_price in
+      (command_near c rate (command_of first)) r (Runs.begins c traces job rate planned t tl r kept quiet has) first_price in
       record {
         turns = ended.0;
         few = ended.1;
@@ -197,25 +223,49 @@ module _ (c : Config) (traces : List (List Command)) (job : IsJob c traces) (rat
         quiet = ended.3.quiet;
       }
 
+-- an idle has one event
+idle_events : (c : Config) (k : Command) → is_idle k ≡ true → most_events c k ≡ 1
+idle_events c (commands.Idle u) e = refl
+idle_events c _ e = absurd cc
+
 -- a heap that has a rate has more blocks than threads
 threads_low : (w : Width) (n m : ℕ) → registers_end w n ≤ m → n ≤ m
 threads_low Four n m low = omega arith
 threads_low Eight n m low = omega arith
 
 -- the near bound is within the stated one
-pub stated : (c : Config) (k : Command) (rate : ℕ) → IsInBounds c → IsAdmitted c → 0 < blocks_of c.width k
-    → near_bound c.threads (payloads c.width) c.blocks (rate * blocks_of c.width k) (blocks_of c.width k)
-    ≤ command_bound c rate k
-stated c k rate bounds plan some =
-    let allocates : command_bound c rate k ≡ allocation_bound c.threads (blocks_of c.width k) rate =
-    ap (λ b. cond b (allocation_bound c.threads (blocks_of c.width k) rate)
-    (cond (is_idle k) (idle_bound c.threads (units_told k)) (other_bound c.object)))
-    (lt-ltb 0 (blocks_of c.width k) some) in
-    subst (λ n. near_bound c.threads (payloads c.width) c.blocks (rate * blocks_of c.width k)
-    (blocks_of c.width k) ≤ n) (sym allocates)
-    (near_within c.threads c.blocks (payloads c.width) rate (blocks_of c.width k) bounds.threads
-    (wide c.width).1
-    (threads_low c.width c.threads c.blocks (opening_room c plan)) bounds.some_block)
+pub stated : (c : Config) (k : Command) (rate : ℕ) → IsInBounds c → IsAdmitted c
+    → command_near c rate k ≤ command_bound c rate k
+stated c k rate bounds plan = elim (cases_lt 0 (blocks_of c.width k)) [
+  | inl some ↦
+      let allocates : command_bound c rate k ≡ allocation_bound c.threads (blocks_of c.width k) rate =
+      rw (lt-ltb 0 (blocks_of c.width k) some) refl in
+      subst (λ n. command_near c rate k ≤ n) (sym allocates)
+      (subst (λ n. n ≤ allocation_bound c.threads (blocks_of c.width k) rate) (sym (makes_near c k rate some))
+      (near_within c.threads c.blocks (payloads c.width) rate (blocks_of c.width k) bounds.threads
+      (wide c.width).1 more bounds.some_block))
+  | inr none ↦
+      let zero_is : blocks_of c.width k ≡ 0 = omega (arith, none) in
+      subst (λ n. n ≤ command_bound c rate k) (sym (serves_near c k rate zero_is))
+      (elim (cases_Bool (is_idle k)) [
+        | inl idle ↦
+            let bound : command_bound c rate k ≡ idle_bound c.threads (units_told k) =
+            rw (le-ltb 0 (blocks_of c.width k) none, idle) refl in
+            subst (λ n. near_other_bound c.threads (payloads c.width) c.blocks (units_told k) (most_events c k) ≤ n) (sym bound)
+            (subst (λ e. near_other_bound c.threads (payloads c.width) c.blocks (units_told k) e ≤ idle_bound c.threads (units_told k)) (sym (idle_events c k idle))
+            (idle_within c.threads c.blocks (payloads c.width) (units_told k) bounds.threads (wide c.width).1 more bounds.some_block))
+        | inr other ↦
+            let bound : command_bound c rate k ≡ other_bound c.object =
+            rw (le-ltb 0 (blocks_of c.width k) none, other) refl in
+            let few = events_few c k bounds in
+            subst (λ n. near_other_bound c.threads (payloads c.width) c.blocks (units_told k) (most_events c k) ≤ n) (sym bound)
+            (subst (λ u. near_other_bound c.threads (payloads c.width) c.blocks u (most_events c k) ≤ other_bound c.object) (sym (untold k other))
+            (omega arith))
+      ])
+]
+  where
+    more : c.threads ≤ c.blocks
+    more = threads_low c.width c.threads c.blocks (opening_room c plan)
 
 -- what ends within a bound ends within a greater one
 pub within : (c : Config) (t : ℕ) (r : Run) (few many : ℕ) → EndsWithin c t r few → few ≤ many

@@ -2,6 +2,7 @@
 use Rattle.std.proofs.Common.{◌≡◌, ℕ, zero, suc, ◌+◌, ◌-◌, ◌*◌, ◌≤◌, ◌<◌, Bool, true, false, cond, eqb, ◌&&◌, eq-eqb, ne_eqb, Option, Some, None, is_some, List, [], ◌∷◌, ◌++◌, length, get_or, append-nil, refl, sym, ap, ◌∙◌, subst, arith, inl, inr, ltb, ltb-true, ltb-false}
 use Rattle.std.proofs.lemmas.Bool.{cases_Bool}
 use Rattle.block_store.specs.declared.Config.{Config}
+use Rattle.block_store.specs.Configs.{IsInBounds}
 use Rattle.block_store.specs.declared.Width.{Width}
 use Rattle.block_store.specs.declared.Width.TheVariants.{Four, Eight}
 use Rattle.block_store.specs.Heaps.{Heap}
@@ -38,10 +39,10 @@ use Rattle.heap_system.proofs.SeenAndKept.{IsSettled, Seen}
 use Rattle.heap_system.proofs.SystemStart.{one_rate}
 use Rattle.heap_system.proofs.KeptByTurns.{seen, at_part, event, event_kept, word_is, local_new, heap_new, paid_new, new_local, new_heap, new_run, next_is}
 use Rattle.heap_system.proofs.WaitingTurns.{part_waits}
-use Rattle.heap_system.proofs.alone.FieldsLeft.{field_left, fields_low}
+use Rattle.heap_system.proofs.alone.FieldsLeft.{events_few, field_left, fields_first}
 use Rattle.heap_system.proofs.alone.Heads.{open_here}
 use Rattle.heap_system.proofs.alone.Laws.{lone_law}
-use Rattle.heap_system.proofs.alone.Low.{order_records}
+use Rattle.heap_system.proofs.alone.Low.{order_objects}
 use Rattle.heap_system.proofs.alone.LoneThread.{terms_of, spot_of, lone_of, LoneKnows, LoneStep, Alone, is_out, paid_left}
 
 -- a price of a unit that serves both widths
@@ -127,7 +128,7 @@ module _ (c : Config) (traces : List (List Command)) (job : IsJob c traces) (rat
       let free = open_here c (seen c traces (laws_of c) job.bounds.config job.plan z kept t tl)
       (record {
         others = others;
-        low = order_records c traces job.bounds.config job.plan z kept;
+        low = order_objects c traces job.bounds.config job.plan z kept;
       }) out in
       record { nobody = free.nobody; opened = free.opened }
 
@@ -147,7 +148,7 @@ module _ (c : Config) (traces : List (List Command)) (job : IsJob c traces) (rat
     pub alone : Alone c s
     alone = record {
       others = lone.others;
-      low = order_records c traces job.bounds.config job.plan r lone.kept;
+      low = order_objects c traces job.bounds.config job.plan r lone.kept;
     }
 
     pub here : is_out l.part ≡ false → command_of l ≡ k
@@ -357,14 +358,14 @@ idles : (c : Config) (k : Command) → is_idle k ≡ true → field_left c k (fi
 idles c (commands.Idle u) e = refl
 idles c _ e = absurd cc
 
-untold : (k : Command) → is_idle k ≡ false → units_told k ≡ 0
+pub untold : (k : Command) → is_idle k ≡ false → units_told k ≡ 0
 untold (commands.Idle u) e = absurd cc
 untold _ e = refl
 
-priced : (c : Config) (rate : ℕ) (k : Command) (owing : ℕ) (sweep ready : Bool)
+priced : (c : Config) (rate : ℕ) (k : Command) (owing : ℕ) (sweep ready : Bool) → IsInBounds c
     → owing ≡ units_owed c.width rate k
     → at_look (terms_of c k) (unit c) owing sweep ready ≤ command_bound c rate k
-priced c rate k owing sweep ready is = elim (cases_Bool (ltb 0 (blocks_of c.width k))) [
+priced c rate k owing sweep ready bounds is = elim (cases_Bool (ltb 0 (blocks_of c.width k))) [
   | inl makes ↦
       let low = wide c.width in
       let bound : command_bound c rate k ≡ allocation_bound c.threads (blocks_of c.width k) rate =
@@ -388,7 +389,8 @@ priced c rate k owing sweep ready is = elim (cases_Bool (ltb 0 (blocks_of c.widt
             (one_event (terms_of c k) (units_told k) sweep ready low.0 low.1 serves (idles c k idle)))
         | inr other ↦
             let bound : command_bound c rate k ≡ other_bound c.object = rw (serves, other) refl in
-            let few = fields_low c k in
+            let first = fields_first c k in
+            let few = events_few c k bounds in
             subst (λ n. at_look (terms_of c k) (unit c) owing sweep ready ≤ n) (sym bound)
             (subst (λ d. at_look (terms_of c k) (unit c) d sweep ready ≤ other_bound c.object)
             (let z : owing ≡ 0 = omega (arith, is, price, untold k other) in sym z)
@@ -445,7 +447,7 @@ module _ (c : Config) (traces : List (List Command)) (job : IsJob c traces) (rat
       (lone_of c (heap_in c r.state) t (units_owed c.width rate (command_of first) - first.spent) p)
       ≤ command_bound c rate (command_of first)) (sym at_rest)
       (priced c rate (command_of first)
-      (units_owed c.width rate (command_of first) - first.spent) _ _ (omega arith))
+      (units_owed c.width rate (command_of first) - first.spent) _ _ job.bounds.config (omega arith))
 
   pub lone_ends : EndsWithin c t r (command_bound c rate (command_of (local_in c r t)))
   lone_ends =

@@ -1,12 +1,10 @@
 -- A turn of a lone thread in a command that allocates nothing.
-use Rattle.std.proofs.Common.{◌≡◌, ℕ, ◌+◌, ◌-◌, ◌<◌, ◌≤◌, inl, inr, Option, Some, None, is_some, length, refl, sym, ap, ◌∙◌, subst, arith}
+use Rattle.std.proofs.Common.{◌≡◌, ℕ, ◌-◌, ◌<◌, ◌≤◌, inl, inr, Option, Some, None, is_some, length, refl, sym, ap, ◌∙◌, subst, arith}
 use Rattle.block_store.specs.declared.Config.{Config}
 use Rattle.block_store.specs.declared.Name.{Name}
 use Rattle.block_store.specs.declared.Shape.TheVariants as shapes
 use Rattle.block_store.specs.Heaps.{Heap}
 use Rattle.block_store.specs.Places.{extent}
-use Rattle.block_store.specs.Shapes.{IsShape}
-use Rattle.block_store.proofs.ShapeWords.{reads}
 use Rattle.object_lists.specs.Records.{record_blocks}
 use Rattle.never_heap.specs.declared.Command.{Command}
 use Rattle.never_heap.specs.declared.Reply.{Reply}
@@ -27,29 +25,33 @@ use Rattle.barrier_steps.specs.Rows.{FieldState, field_want, field_got, field_re
 use Rattle.barrier_steps.specs.Walks.{shape_length, links_to}
 use Rattle.barrier_steps.proofs.RowReads.{row_shown}
 use Rattle.lone_bound.specs.Moves.{Spot, Lone, Terms, Moves}
+use Rattle.heap_system.specs.Alone.{longest_array, most_links}
 use Rattle.heap_system.specs.Parts.{Serve}
 use Rattle.heap_system.specs.Locals.{if_replied}
 use Rattle.heap_system.proofs.PartLaws.{AtPart}
 use Rattle.heap_system.proofs.SeenAndKept.{Seen}
 use Rattle.heap_system.proofs.alone.FieldsLeft.{field_left, field_falls, ways_are_short, IsWayShort}
-use Rattle.heap_system.proofs.alone.Low.{RecordsAreLow}
+use Rattle.heap_system.proofs.alone.Low.{ObjectsAreLow}
 use Rattle.heap_system.proofs.alone.LoneThread.{Alone, LoneLaw, LoneKnows, terms_of, lone_of, heap_left, pass_left, paid_left, is_out}
 
-kind_low : (c : Config) (g : Graph) (a : Name) (kind : ObjectKind) (n : ℕ) → RecordsAreLow c g → (object_of g a).kind ≡ kind → length (object_of g a).fields ≡ n → (m : ℕ) → kind_shape kind n ≡ shapes.List m → record_blocks c.width m ≤ c.object
-kind_low c g a Record n low is long m e = (let same : n ≡ m = (let z : shapes.List n ≡ shapes.List m = e in cc) in subst (λ x. record_blocks c.width x ≤ c.object) (long ∙ same) (low a is))
-kind_low c g a Array n low is long m e = absurd (let z : shapes.Tree n ≡ shapes.List m = e in cc)
+record_low : (c : Config) (g : Graph) (a : Name) (kind : ObjectKind) (n : ℕ) → ObjectsAreLow c g → (object_of g a).kind ≡ kind → length (object_of g a).fields ≡ n → (m : ℕ) → kind_shape kind n ≡ shapes.List m → record_blocks c.width m ≤ c.object
+record_low c g a Record n low is long m e = (let same : n ≡ m = (let z : shapes.List n ≡ shapes.List m = e in cc) in subst (λ x. record_blocks c.width x ≤ c.object) (long ∙ same) ((low a).0 is))
+record_low c g a Array n low is long m e = absurd (let z : shapes.Tree n ≡ shapes.List m = e in cc)
+
+array_low : (c : Config) (g : Graph) (a : Name) (kind : ObjectKind) (n : ℕ) → ObjectsAreLow c g → (object_of g a).kind ≡ kind → length (object_of g a).fields ≡ n → (m : ℕ) → kind_shape kind n ≡ shapes.Tree m → m ≤ longest_array c
+array_low c g a Record n low is long m e = absurd (let z : shapes.List n ≡ shapes.Tree m = e in cc)
+array_low c g a Array n low is long m e = (let same : n ≡ m = (let z : shapes.Tree n ≡ shapes.Tree m = e in cc) in subst (λ x. x ≤ longest_array c) (long ∙ same) ((low a).1 is))
 
 -- the way in the object that is shown is short
-shown_short : (c : Config) (g : Graph) (t i w : ℕ) (r : ℕ) → RecordsAreLow c g → ShapeShown g t r w → i < shape_length (shape_in w) → links_to (extent c) (shape_in w) i ≤ c.object + 7
+shown_short : (c : Config) (g : Graph) (t i w : ℕ) (r : ℕ) → ObjectsAreLow c g → ShapeShown g t r w → i < shape_length (shape_in w) → links_to (extent c) (shape_in w) i ≤ most_links c i
 shown_short c g t i w r low shown =
     let kind = (object_of g shown.name).kind in
     let n = length (object_of g shown.name).fields in
     let shape : shape_in w ≡ kind_shape kind n = ap shape_or_empty shown.shape in
-    let in_range : IsShape (kind_shape kind n) = (reads w (kind_shape kind n) shown.shape).0 in
-    subst (λ f. i < shape_length f → links_to (extent c) f i ≤ c.object + 7) (sym shape)
-    (λ il. ways_are_short (extent c) (kind_shape kind n) i c.object in_range il (kind_low c g shown.name kind n low refl refl))
+    subst (λ f. i < shape_length f → links_to (extent c) f i ≤ most_links c i) (sym shape)
+    (λ il. ways_are_short c (kind_shape kind n) i il (record_low c g shown.name kind n low refl refl) (array_low c g shown.name kind n low refl refl))
 
-row_short : (c : Config) (g : Graph) (head : Name → ℕ) (t w : ℕ) (k : Command) (r : FieldRow) → RecordsAreLow c g → ShownAt head g t k r w → IsWayShort c k r w
+row_short : (c : Config) (g : Graph) (head : Name → ℕ) (t w : ℕ) (k : Command) (r : FieldRow) → ObjectsAreLow c g → ShownAt head g t k r w → IsWayShort c k r w
 row_short c g head t w k (rows.LoadShape x) low shown = shown_short c g t (field_index k) w _ low shown
 row_short c g head t w k _ low shown = tt
 

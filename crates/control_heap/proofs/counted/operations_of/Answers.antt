@@ -1,6 +1,6 @@
 use Rattle.std.proofs.Common.{◌-◌, ap, ◌∙◌, arith}
 use Rattle.control_heap.specs.declared.counted.Counted.{Counted}
-use Rattle.control_heap.proofs.Counts.{few_counted, has_counted}
+use Rattle.control_heap.proofs.Counts.{few_counted, has_counted, near_counted}
 use Rattle.control_heap.proofs.counted.operations_of.Goals as goal
 
 pub returns-in-Ok-clause-counted : goal.returns-in-Ok-clause-counted
@@ -22,3 +22,6 @@ returns-in-Ok-clause-few c = few_counted c.args.heap.now c.ask.new.self c.args.c
 
 pub returns-in-Err-clause-counted : goal.returns-in-Err-clause-counted
 returns-in-Err-clause-counted c = (c.in-Err._refused, c.in-Err.ensures.refused, c.in-Err.ensures.unchanged)
+
+pub returns-in-Ok-clause-near : goal.returns-in-Ok-clause-near
+returns-in-Ok-clause-near c = near_counted c.args.heap.now c.ask.new.self c.args.command _ (returns-in-Ok-clause-counted c)

@@ -1,5 +1,5 @@
-use Rattle.control_heap.proofs.GaugesRead.{told_most}
+use Rattle.heap_system.proofs.alone.Near.{stated}
 use Rattle.control_heap.proofs.laws.commands_take_what_is_told.Goals as goal
 
-pub returns : goal.returns
-returns _ c rate k n few near = told_most c rate k n few near
+pub returns-clause-stated : goal.returns-clause-stated
+returns-clause-stated _ c rate k bounds plan = stated c k rate bounds plan

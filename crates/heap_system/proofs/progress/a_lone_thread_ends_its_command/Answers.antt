@@ -1,5 +1,4 @@
-use Rattle.std.proofs.Common.{cond, ap, ◌∙◌, arith, inl, inr, le-ltb, lt-ltb}
-use Rattle.std.proofs.lemmas.Bool.{cases_lt}
+use Rattle.std.proofs.Common.{cond, ap, ◌∙◌, arith, le-ltb, lt-ltb}
 use Rattle.never_heap.specs.RightWork.{units_told}
 use Rattle.never_heap.specs.Steps.{blocks_of}
 use Rattle.barrier_steps.specs.Operands.{is_idle}
@@ -9,18 +8,14 @@ use Rattle.heap_system.specs.Machines.{local_in}
 use Rattle.heap_system.proofs.Always.{run_kept}
 use Rattle.heap_system.proofs.LawsOf.{laws_of}
 use Rattle.heap_system.proofs.alone.Near.{near_ends, stated, within}
-use Rattle.heap_system.proofs.alone.Runs.{lone_ends}
 use Rattle.heap_system.proofs.progress.a_lone_thread_ends_its_command.Goals as goal
 
 pub returns-clause-command : goal.returns-clause-command
 returns-clause-command _ c r t rate is planned quiet low has =
-    let kept = run_kept c is.traces (laws_of c) is.job is.turns r is.by_turns in
-    elim (cases_lt 0 (blocks_of c.width (command_of (local_in c r t)))) [
-      | inl some ↦
-          let s = stated c (command_of (local_in c r t)) rate is.job.bounds.config is.job.plan some in
-          within c t r _ _ (near_ends c is.traces is.job rate planned t low r kept quiet has some) s
-      | inr other ↦ lone_ends c is.traces is.job rate planned t low r kept quiet has
-    ]
+    within c t r _ _
+    (near_ends c is.traces is.job rate planned t low r
+    (run_kept c is.traces (laws_of c) is.job is.turns r is.by_turns) quiet has)
+    (stated c (command_of (local_in c r t)) rate is.job.bounds.config is.job.plan)
 
 pub returns-clause-allocation : goal.returns-clause-allocation
 returns-clause-allocation _ c k rate some =

@@ -1,5 +1,6 @@
 use Rattle.std.proofs.Common.{refl}
 use Rattle.rtheap_core.proofs.LogsWithoutFulls.{unfilled}
+use Rattle.rtheap_core.proofs.OwnersOfRuns.{owners_stand}
 use Rattle.rtheap_core.proofs.Verdicts.{completes}
 use Rattle.rtheap_core.proofs.top.rtheap.Goals as goal
 
@@ -12,4 +13,5 @@ returns g c = record {
     single = c.replays_end.ensures.single;
   }) _ c.carried_out.ensures.done;
   never_full = unfilled _ _ _ _ c.carried_out.ensures.done.headline;
+  owners = owners_stand c.texts_are_lives.ensures.owners _ _ _ _ c.carried_out.ensures.done.headline;
 }

@@ -1,4 +1,4 @@
-use Rattle.std.proofs.Common.{◌≡◌, ℕ, zero, suc, ◌<◌, arith, subst, sym, ap, ◌∙◌, List, [], ◌∷◌, length, get_or}
+use Rattle.std.proofs.Common.{◌≡◌, ℕ, zero, suc, ◌<◌, arith, subst, sym, ap, ◌∙◌, List, [], ◌∷◌, get_or}
 use Rattle.block_store.specs.declared.Config.{Config}
 use Rattle.shared_heap.specs.Workers.{AreEachOnce, AreInOrder, HasWorker, HeapState, IsSame, WorkerState}
 use Rattle.shared_heap.proofs.tests.a_note_passes_between_workers.Goals as goal

@@ -18,4 +18,4 @@ returns-in_default g c =
     c.args.self.now c.requires.may going in
     let more = run_more g.M.Memory.acts c.args.shared.now c.args.memory.now c.args.self.now c.args.memory.now c.args.self.now acted.0 c.event.new.memory c.event.new.self c.event.result
     (record { words = []; ran = (refl, refl); told = refl }) acted.1 (lead.reads acted.0 c.event.new.memory acted.1) going acted.2.0 acted.2.1 in
-    (more.0, omega (arith, more.1))
+    (more.0, omega (arith, more.1), omega (arith, more.1))

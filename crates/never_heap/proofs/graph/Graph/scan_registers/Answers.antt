@@ -8,14 +8,14 @@ use Rattle.never_heap.proofs.graph.Graph.scan_registers.Goals as goal
 pub loop-mutator-init : goal.loop-mutator-init
 loop-mutator-init c =
     let g = c.args.self.now.graph in
-    let blocks = c.register_blocks.result in
+    let blocks = c.register_blocks-scan.result in
     record {
       scanned = subst
-          (λ (l : List Name). Scanned c.args.self.now.width g c.in_ok-no_marks.field-0 l blocks)
-          (sym c.new.ensures.items)
-          (scanned_none c.args.self.now.width g c.in_ok-no_marks.field-0 blocks
-          c.in_ok-no_marks.ensures.places c.in_ok-no_marks.ensures.marks
-          c.register_blocks.ensures.value
+          (λ (l : List Name). Scanned c.args.self.now.width g c.clear_marks.new.marks l blocks)
+          (sym c.clear.ensures.items)
+          (scanned_none c.args.self.now.width g c.clear_marks.new.marks blocks
+          c.in_ok-clear_marks.ensures.places c.in_ok-clear_marks.ensures.marks
+          c.register_blocks-scan.ensures.value
           (subst (λ l. length l ≤ 16) c.mutators-mutator-items.ensures.mutators
           c.mutators-mutator-items.ensures.few));
       registers = λ b h has. absurd (let e : false ≡ true = h in cc);

@@ -1,104 +1,109 @@
-use Rattle.std.proofs.Common.{◌≡◌, List, ap, sym, subst, ◌∙◌, refl, arith, get_or, ◌+◌}
-use Rattle.atomic_table.specs.Seated.{TableId}
-use Rattle.never_heap.specs.declared.Entry.{Entry}
+use Rattle.std.proofs.Common.{◌≡◌, ◌+◌, ap, sym, subst, ◌∙◌, refl, arith}
 use Rattle.never_heap.specs.Bounds.{IsCommandInBounds}
-use Rattle.heap_system.specs.Locals.{LocalState, begun}
+use Rattle.heap_system.specs.Lives.{objects_of}
+use Rattle.heap_system.specs.Locals.{LocalState}
+use Rattle.shared_heap.specs.declared.port.Port.{Port}
+use Rattle.shared_heap.specs.Pending.{start_pending}
 use Rattle.shared_heap.specs.Shared.{held_of}
-use Rattle.shared_heap.specs.Ports.{HasThread, HasGoneOn}
 use Rattle.shared_heap.specs.Workers.{HeapState, WorkerState, HasRoom, IsKept}
-use Rattle.shared_heap.proofs.Asking.{answered, begin_objects, begin_units, has_begun, has_room, is_kept_then, unspent}
-use Rattle.shared_heap.proofs.Gifts.{gift_here}
+use Rattle.shared_heap.proofs.Answering.{answered, has_thread, in_time, kept_then, made_all, one_entry, pending_then, same_worker, value_then}
+use Rattle.shared_heap.proofs.Runs.{ran_on}
 use Rattle.shared_heap.proofs.heap.SharedHeap.request.Goals as goal
 
-pub compare_exchange_with-requires : goal.compare_exchange_with-requires
-compare_exchange_with-requires g c =
-    let w = c.who.inside in
-    let me = w.port.seat.me in
-    let id : TableId = w.port.seat.table_id in
-    let kept : IsKept me id w.local w.count w.objects = c.who.invariant.0 in
-    let seen : (held_of w.local me.0.threads).local ≡ c.args.who.now.thread = ap (λ (x : WorkerState). x.thread) c.who.view_is in
-    let fits : IsCommandInBounds (held_of w.local me.0.threads).local.config c.args.command = subst (λ (x : LocalState). IsCommandInBounds x.config c.args.command) (sym seen) c.requires.bounds in
-    let left : HasRoom (held_of w.local me.0.threads).local c.args.command = subst (λ (x : LocalState). HasRoom x c.args.command) (sym seen) c.requires.left in
-    let table : id ≡ c.self.inside.table.shared.table_id = ap (λ (x : WorkerState). x.heap) c.who.view_is ∙ c.requires.heap ∙ sym (ap (λ (x : HeapState). x.id) c.self.view_is) in
-    let none : c.self.inside.table.shared.table_id.slots ≡ 0 = c.self.invariant.1 in (
-      table,
-      omega (arith, c.self.invariant.2),
-      gift_here c.self.inside.table.shared.key c.self.inside.table.shared.table_id.slots w.port.seat.id 0 (held_of w.local me.0.threads) me.0.notes me c.args.command none kept.knows fits (has_room me id w.local w.count w.objects kept c.args.command fits left),
-    )
+pub announce-requires-clause-table : goal.announce-requires-clause-table
+announce-requires-clause-table g c =
+    (ap (λ (x : WorkerState). x.heap) c.who.view_is ∙ c.requires.heap ∙ sym (ap (λ (x : HeapState). x.id) c.self.view_is), c.self.invariant.1, omega (arith, c.self.invariant.2))
 
-pub begin-requires-clause-settled : goal.begin-requires-clause-settled
-begin-requires-clause-settled g c = unspent c.who.inside.port.seat.me c.who.inside.port.seat.table_id c.who.inside.local c.who.inside.count c.who.inside.objects c.who.invariant.0
-
-pub begin-requires-clause-units : goal.begin-requires-clause-units
-begin-requires-clause-units g c =
+pub announce-requires-clause-may : goal.announce-requires-clause-may
+announce-requires-clause-may g c =
     let w = c.who.inside in
-    let me = w.port.seat.me in
-    let id : TableId = w.port.seat.table_id in
-    let kept : IsKept me id w.local w.count w.objects = c.who.invariant.0 in
-    let seen : (held_of w.local me.0.threads).local ≡ c.args.who.now.thread = ap (λ (x : WorkerState). x.thread) c.who.view_is in
-    let fits : IsCommandInBounds (held_of w.local me.0.threads).local.config c.args.command = subst (λ (x : LocalState). IsCommandInBounds x.config c.args.command) (sym seen) c.requires.bounds in
-    let left : HasRoom (held_of w.local me.0.threads).local c.args.command = subst (λ (x : LocalState). HasRoom x c.args.command) (sym seen) c.requires.left in
-    let now = c.compare_exchange_with.new.seat in
-    let gives = c.compare_exchange_with.ensures.2 in
-    begin_units me id w.local w.count w.objects kept c.args.command fits left now.me gives
+    let seen : (held_of w.local w.port.seat.me.0.threads).local ≡ c.args.who.now.thread = ap (λ (x : WorkerState). x.thread) c.who.view_is in
+    record {
+      count = w.count;
+      objects = w.objects;
+      kept = c.who.invariant.0;
+      bounds = subst (λ (x : LocalState). IsCommandInBounds x.config c.args.command) (sym seen) c.requires.bounds;
+      left = subst (λ (x : LocalState). HasRoom x c.args.command) (sym seen) c.requires.left;
+    }
 
-pub begin-requires-clause-objects : goal.begin-requires-clause-objects
-begin-requires-clause-objects g c =
+pub drives-requires : goal.drives-requires
+drives-requires g c =
     let w = c.who.inside in
-    let me = w.port.seat.me in
-    let id : TableId = w.port.seat.table_id in
-    let kept : IsKept me id w.local w.count w.objects = c.who.invariant.0 in
-    let seen : (held_of w.local me.0.threads).local ≡ c.args.who.now.thread = ap (λ (x : WorkerState). x.thread) c.who.view_is in
-    let fits : IsCommandInBounds (held_of w.local me.0.threads).local.config c.args.command = subst (λ (x : LocalState). IsCommandInBounds x.config c.args.command) (sym seen) c.requires.bounds in
-    let left : HasRoom (held_of w.local me.0.threads).local c.args.command = subst (λ (x : LocalState). HasRoom x c.args.command) (sym seen) c.requires.left in
-    let now = c.compare_exchange_with.new.seat in
-    let gives = c.compare_exchange_with.ensures.2 in
-    begin_objects me id w.local w.count w.objects kept c.args.command fits left now.me gives
+    let begun = c.announce.new in
+    let same = c.announce.ensures.table ∙ ap (λ (x : WorkerState). x.heap) c.who.view_is ∙ c.requires.heap ∙ sym (ap (λ (x : HeapState). x.id) c.self.view_is) in
+    record { stands = has_thread begun.port.seat.me begun.port.seat.table_id begun.local (w.count + 1) (w.objects + objects_of c.args.command) (c.announce.ensures.pending w.count w.objects c.who.invariant.0) c.self.inside.table.shared.table_id same }
 
-pub serve-requires : goal.serve-requires
-serve-requires g c =
+pub reply_of-requires : goal.reply_of-requires
+reply_of-requires g c =
     let w = c.who.inside in
-    let me = w.port.seat.me in
-    let id : TableId = w.port.seat.table_id in
-    let kept : IsKept me id w.local w.count w.objects = c.who.invariant.0 in
-    let seen : (held_of w.local me.0.threads).local ≡ c.args.who.now.thread = ap (λ (x : WorkerState). x.thread) c.who.view_is in
-    let fits : IsCommandInBounds (held_of w.local me.0.threads).local.config c.args.command = subst (λ (x : LocalState). IsCommandInBounds x.config c.args.command) (sym seen) c.requires.bounds in
-    let left : HasRoom (held_of w.local me.0.threads).local c.args.command = subst (λ (x : LocalState). HasRoom x c.args.command) (sym seen) c.requires.left in
-    let table : id ≡ c.self.inside.table.shared.table_id = ap (λ (x : WorkerState). x.heap) c.who.view_is ∙ c.requires.heap ∙ sym (ap (λ (x : HeapState). x.id) c.self.view_is) in
-    let now = c.compare_exchange_with.new.seat in
-    let gives = c.compare_exchange_with.ensures.2 in
-    subst (λ x. HasThread now.me now.table_id c.self.inside.table.shared.table_id x) (sym c.begin.ensures)
-    (has_begun me id w.local w.count w.objects kept c.args.command fits left now.me gives now.table_id c.compare_exchange_with.ensures.0 c.self.inside.table.shared.table_id (c.compare_exchange_with.ensures.0 ∙ table))
+    let shared = c.self.inside.table.shared in
+    let begun = c.announce.new in
+    let z = c.drives.new in
+    let is = c.announce.ensures.pending w.count w.objects c.who.invariant.0 in
+    let same = c.announce.ensures.table ∙ ap (λ (x : WorkerState). x.heap) c.who.view_is ∙ c.requires.heap ∙ sym (ap (λ (x : HeapState). x.id) c.self.view_is) in
+    let run = c.drives.ensures.driven in
+    let on = ran_on _ (λ (p : Port). p.seat.me) (λ p. p.seat.table_id) (λ p. p.seat.id) (λ m s o w n turned. turned) shared begun.port begun.local run.words z.memory z.local run.ran in
+    one_entry z.memory.seat.me z.memory.seat.table_id z.local (w.count + 1) (w.objects + objects_of c.args.command) (pending_then begun.port.seat.me begun.port.seat.table_id begun.local (w.count + 1) (w.objects + objects_of c.args.command) is shared.table_id same z.memory.seat.me z.memory.seat.table_id z.local c.drives.ensures.stands run.words on) c.drives.ensures.done
 
 pub invariant_of-who : goal.invariant_of-who
 invariant_of-who g c =
     let w = c.who.inside in
-    let me = w.port.seat.me in
-    let id : TableId = w.port.seat.table_id in
-    let kept : IsKept me id w.local w.count w.objects = c.who.invariant.0 in
-    let seen : (held_of w.local me.0.threads).local ≡ c.args.who.now.thread = ap (λ (x : WorkerState). x.thread) c.who.view_is in
-    let fits : IsCommandInBounds (held_of w.local me.0.threads).local.config c.args.command = subst (λ (x : LocalState). IsCommandInBounds x.config c.args.command) (sym seen) c.requires.bounds in
-    let left : HasRoom (held_of w.local me.0.threads).local c.args.command = subst (λ (x : LocalState). HasRoom x c.args.command) (sym seen) c.requires.left in
-    let table : id ≡ c.self.inside.table.shared.table_id = ap (λ (x : WorkerState). x.heap) c.who.view_is ∙ c.requires.heap ∙ sym (ap (λ (x : HeapState). x.id) c.self.view_is) in
-    let now = c.compare_exchange_with.new.seat in
-    let gives = c.compare_exchange_with.ensures.2 in
-    let on : HasGoneOn now.me (begun c.args.command w.local) c.serve.new.port.seat.me c.serve.new.local = subst (λ x. HasGoneOn now.me x c.serve.new.port.seat.me c.serve.new.local) c.begin.ensures c.serve.ensures.on in (
-      subst (λ n. IsKept c.serve.new.port.seat.me c.serve.new.port.seat.table_id c.serve.new.local (w.count + 1) (w.objects + n)) (sym c.objects_of.ensures)
-          (is_kept_then me id w.local w.count w.objects kept c.args.command fits left now.me gives now.table_id c.compare_exchange_with.ensures.0 c.self.inside.table.shared.table_id (c.compare_exchange_with.ensures.0 ∙ table) c.serve.new.port.seat.me c.serve.new.port.seat.table_id c.serve.new.local c.serve.ensures.has on c.serve.ensures.done),
-      c.who.invariant.1 ∙ sym on.config,
+    let shared = c.self.inside.table.shared in
+    let begun = c.announce.new in
+    let z = c.drives.new in
+    let is = c.announce.ensures.pending w.count w.objects c.who.invariant.0 in
+    let same = c.announce.ensures.table ∙ ap (λ (x : WorkerState). x.heap) c.who.view_is ∙ c.requires.heap ∙ sym (ap (λ (x : HeapState). x.id) c.self.view_is) in
+    let run = c.drives.ensures.driven in
+    let on = ran_on _ (λ (p : Port). p.seat.me) (λ p. p.seat.table_id) (λ p. p.seat.id) (λ m s o w n turned. turned) shared begun.port begun.local run.words z.memory z.local run.ran in (
+      subst (λ n. IsKept z.memory.seat.me z.memory.seat.table_id z.local (w.count + 1) (w.objects + n)) (sym c.objects_of.ensures)
+          (kept_then z.memory.seat.me z.memory.seat.table_id z.local (w.count + 1) (w.objects + objects_of c.args.command) (pending_then begun.port.seat.me begun.port.seat.table_id begun.local (w.count + 1) (w.objects + objects_of c.args.command) is shared.table_id same z.memory.seat.me z.memory.seat.table_id z.local c.drives.ensures.stands run.words on) c.drives.ensures.done),
+      c.who.invariant.1 ∙ sym (on.config ∙ c.announce.ensures.config),
     )
+
+pub returns-clause-same : goal.returns-clause-same
+returns-clause-same g c =
+    let w = c.who.inside in
+    let shared = c.self.inside.table.shared in
+    let begun = c.announce.new in
+    let z = c.drives.new in
+    let is = c.announce.ensures.pending w.count w.objects c.who.invariant.0 in
+    let same = c.announce.ensures.table ∙ ap (λ (x : WorkerState). x.heap) c.who.view_is ∙ c.requires.heap ∙ sym (ap (λ (x : HeapState). x.id) c.self.view_is) in
+    let run = c.drives.ensures.driven in
+    let on = ran_on _ (λ (p : Port). p.seat.me) (λ p. p.seat.table_id) (λ p. p.seat.id) (λ m s o w n turned. turned) shared begun.port begun.local run.words z.memory z.local run.ran in
+    same_worker z.memory.seat.me z.memory.seat.table_id z.local (w.count + 1) (w.objects + objects_of c.args.command) (pending_then begun.port.seat.me begun.port.seat.table_id begun.local (w.count + 1) (w.objects + objects_of c.args.command) is shared.table_id same z.memory.seat.me z.memory.seat.table_id z.local c.drives.ensures.stands run.words on) c.drives.ensures.done _ _ (value_then begun.port.seat.me begun.port.seat.table_id begun.local (w.count + 1) (w.objects + objects_of c.args.command) is shared.table_id same z.memory.seat.me z.memory.seat.table_id z.local c.drives.ensures.stands run.words on (start_pending c.args.who.now c.args.command) (c.announce.ensures.value ∙ ap (λ x. start_pending x c.args.command) c.who.view_is)) refl
 
 pub returns-clause-answered : goal.returns-clause-answered
 returns-clause-answered g c =
     let w = c.who.inside in
-    let me = w.port.seat.me in
-    let id : TableId = w.port.seat.table_id in
-    let kept : IsKept me id w.local w.count w.objects = c.who.invariant.0 in
-    let seen : (held_of w.local me.0.threads).local ≡ c.args.who.now.thread = ap (λ (x : WorkerState). x.thread) c.who.view_is in
-    let fits : IsCommandInBounds (held_of w.local me.0.threads).local.config c.args.command = subst (λ (x : LocalState). IsCommandInBounds x.config c.args.command) (sym seen) c.requires.bounds in
-    let left : HasRoom (held_of w.local me.0.threads).local c.args.command = subst (λ (x : LocalState). HasRoom x c.args.command) (sym seen) c.requires.left in
-    let table : id ≡ c.self.inside.table.shared.table_id = ap (λ (x : WorkerState). x.heap) c.who.view_is ∙ c.requires.heap ∙ sym (ap (λ (x : HeapState). x.id) c.self.view_is) in
-    let now = c.compare_exchange_with.new.seat in
-    let gives = c.compare_exchange_with.ensures.2 in
-    let on : HasGoneOn now.me (begun c.args.command w.local) c.serve.new.port.seat.me c.serve.new.local = subst (λ x. HasGoneOn now.me x c.serve.new.port.seat.me c.serve.new.local) c.begin.ensures c.serve.ensures.on in
-    answered me id w.local w.count w.objects kept c.args.command fits left now.me gives now.table_id c.compare_exchange_with.ensures.0 c.self.inside.table.shared.table_id (c.compare_exchange_with.ensures.0 ∙ table) c.serve.new.port.seat.me c.serve.new.port.seat.table_id c.serve.new.local c.serve.ensures.has on c.serve.ensures.done _ _ (ap (λ (es : List Entry). (get_or es 0 _).reply) c.log.ensures) c.args.who.now _ c.who.view_is refl
+    let shared = c.self.inside.table.shared in
+    let begun = c.announce.new in
+    let z = c.drives.new in
+    let is = c.announce.ensures.pending w.count w.objects c.who.invariant.0 in
+    let same = c.announce.ensures.table ∙ ap (λ (x : WorkerState). x.heap) c.who.view_is ∙ c.requires.heap ∙ sym (ap (λ (x : HeapState). x.id) c.self.view_is) in
+    let run = c.drives.ensures.driven in
+    let on = ran_on _ (λ (p : Port). p.seat.me) (λ p. p.seat.table_id) (λ p. p.seat.id) (λ m s o w n turned. turned) shared begun.port begun.local run.words z.memory z.local run.ran in
+    answered z.memory.seat.me z.memory.seat.table_id z.local (w.count + 1) (w.objects + objects_of c.args.command) (pending_then begun.port.seat.me begun.port.seat.table_id begun.local (w.count + 1) (w.objects + objects_of c.args.command) is shared.table_id same z.memory.seat.me z.memory.seat.table_id z.local c.drives.ensures.stands run.words on) c.drives.ensures.done _ c.reply_of.ensures _ _ (value_then begun.port.seat.me begun.port.seat.table_id begun.local (w.count + 1) (w.objects + objects_of c.args.command) is shared.table_id same z.memory.seat.me z.memory.seat.table_id z.local c.drives.ensures.stands run.words on (start_pending c.args.who.now c.args.command) (c.announce.ensures.value ∙ ap (λ x. start_pending x c.args.command) c.who.view_is)) refl
+
+pub returns-clause-made : goal.returns-clause-made
+returns-clause-made g c =
+    let w = c.who.inside in
+    let shared = c.self.inside.table.shared in
+    let begun = c.announce.new in
+    let z = c.drives.new in
+    let is = c.announce.ensures.pending w.count w.objects c.who.invariant.0 in
+    let same = c.announce.ensures.table ∙ ap (λ (x : WorkerState). x.heap) c.who.view_is ∙ c.requires.heap ∙ sym (ap (λ (x : HeapState). x.id) c.self.view_is) in
+    let run = c.drives.ensures.driven in
+    let on = ran_on _ (λ (p : Port). p.seat.me) (λ p. p.seat.table_id) (λ p. p.seat.id) (λ m s o w n turned. turned) shared begun.port begun.local run.words z.memory z.local run.ran in
+    made_all begun.port.seat.me begun.port.seat.table_id begun.local (w.count + 1) (w.objects + objects_of c.args.command) is shared.table_id same z.memory.seat.me z.memory.seat.table_id z.local c.drives.ensures.stands run.words on c.args.who.now _ c.args.command (c.announce.ensures.value ∙ ap (λ x. start_pending x c.args.command) c.who.view_is) refl
+
+pub returns-clause-in_time : goal.returns-clause-in_time
+returns-clause-in_time g c =
+    let w = c.who.inside in
+    let shared = c.self.inside.table.shared in
+    let begun = c.announce.new in
+    let z = c.drives.new in
+    let is = c.announce.ensures.pending w.count w.objects c.who.invariant.0 in
+    let same = c.announce.ensures.table ∙ ap (λ (x : WorkerState). x.heap) c.who.view_is ∙ c.requires.heap ∙ sym (ap (λ (x : HeapState). x.id) c.self.view_is) in
+    let run = c.drives.ensures.driven in
+    let on = ran_on _ (λ (p : Port). p.seat.me) (λ p. p.seat.table_id) (λ p. p.seat.id) (λ m s o w n turned. turned) shared begun.port begun.local run.words z.memory z.local run.ran in
+    in_time z.memory.seat.me z.memory.seat.table_id z.local (w.count + 1) (w.objects + objects_of c.args.command) (pending_then begun.port.seat.me begun.port.seat.table_id begun.local (w.count + 1) (w.objects + objects_of c.args.command) is shared.table_id same z.memory.seat.me z.memory.seat.table_id z.local c.drives.ensures.stands run.words on) c.drives.ensures.done _ _ (value_then begun.port.seat.me begun.port.seat.table_id begun.local (w.count + 1) (w.objects + objects_of c.args.command) is shared.table_id same z.memory.seat.me z.memory.seat.table_id z.local c.drives.ensures.stands run.words on (start_pending c.args.who.now c.args.command) (c.announce.ensures.value ∙ ap (λ x. start_pending x c.args.command) c.who.view_is)) refl

@@ -1,0 +1,22 @@
+-- What a heap costs.
+use Rattle.std.specs.Prelude.{ℕ, ◌+◌, ◌-◌, ◌*◌, ◌/◌, ◌^◌, min}
+use Rattle.block_store.specs.declared.Config.{Config}
+use Rattle.block_store.specs.Places.{extent, words_count}
+use Rattle.block_store.specs.Widths.{payloads}
+use Rattle.lone_bound.specs.Near.{near_bound}
+
+-- the bytes of its words
+abbrev pub bytes : Config → ℕ
+bytes c = 8 * words_count (extent c)
+
+-- the most turns of an allocation of k blocks, of a thread that alone has turns
+abbrev pub turns : Config → ℕ → ℕ → ℕ
+turns c rate k = near_bound c.threads (payloads c.width) c.blocks (rate * k) k
+
+-- objects of one block in a year of 31,557,600 seconds, at ten a millisecond
+abbrev pub objects_a_year : ℕ
+objects_a_year = 315576000000
+
+-- the whole years of a life of such objects, which ends with its units or with its objects
+abbrev pub years : ℕ → ℕ
+years rate = min (2 ^ 45 / (rate * objects_a_year)) ((2 ^ 43 - 1) / objects_a_year)
