@@ -45,12 +45,12 @@ longest_of xs = longest_from None xs
 abbrev pub count_of : Width → Option Kind → List Entry → ℕ
 count_of w kind es = count_by (λ e. is_among w kind e.command) es
 
+abbrev pub count_over : Option ℕ → Width → Option Kind → List (List Entry) → ℕ
+count_over None w kind logs = sum_by (count_of w kind) logs
+count_over (Some t) w kind logs = count_of w kind (slice_index_or logs t [])
+
 abbrev pub count_in : Width → Which → List (List Entry) → ℕ
-count_in w which logs = by which.thread
-  where
-    by : Option ℕ → ℕ
-    by None = sum_by (count_of w which.kind) logs
-    by (Some t) = count_of w which.kind (slice_index_or logs t [])
+count_in w which logs = count_over which.thread w which.kind logs
 
 -- it is the command of this thread and number in the logs
 abbrev pub IsCommandOf : List (List Entry) → TimedCommand → Type 0
