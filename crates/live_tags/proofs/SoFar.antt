@@ -1,10 +1,9 @@
 -- Between any two steps, what was answered so far is a plain table's.
-use Rattle.std.proofs.Common.{◌≡◌, ℕ, zero, suc, ◌+◌, ◌<◌, ◌≤◌, Bool, true, false, eqb, eqb-true, Option, Some, None, inl, inr, refl, arith, subst, sym, ap, ◌∙◌, List, [], ◌∷◌, ◌++◌, length, map, take, drop, get_or, slice_index_or}
+use Rattle.std.proofs.Common.{◌≡◌, ℕ, zero, suc, ◌+◌, ◌<◌, ◌≤◌, eqb, eqb-true, Option, Some, None, inl, inr, refl, arith, subst, sym, ap, ◌∙◌, List, [], ◌∷◌, ◌++◌, length, map, take, drop, get_or, slice_index_or}
 use Rattle.std.specs.Prelude.{flat_map}
 use Rattle.std.proofs.lemmas.Bool.{cases_Bool, cases_lt}
 use Rattle.std.proofs.lemmas.List.{append_assoc, append-nil, length-append, length-map, map-append, get_or_past, take-append-drop}
 use Rattle.std.proofs.Math.ListN.{get_or-map}
-use Rattle.std.proofs.Math.Seq.{take-length}
 use mathlib.Core.Option.{some}
 use lib.ListN.{get_elem?}
 use Rattle.atomic_table.specs.Table as table
@@ -18,11 +17,11 @@ use Rattle.never_heap.specs.declared.Command.TheVariants as commands
 use Rattle.never_heap.specs.declared.Entry.{Entry}
 use Rattle.never_heap.specs.declared.Reply.{Reply}
 use Rattle.never_heap.specs.Graphs.{Graph}
-use Rattle.never_heap.specs.Histories.{HistoryItem, HasTraces, part, parts, parts_from, replay}
+use Rattle.never_heap.specs.Histories.{HistoryItem, part, parts, replay}
 use Rattle.never_heap.specs.Licensed.{Licensed, NoFulls}
 use Rattle.never_heap.specs.RightWork.{RightWork}
 use Rattle.heap_system.specs.Locals.{LocalState, PartFits, command_of, entries_of}
-use Rattle.heap_system.specs.Machines.{Run, heap_in, local_in, no_local}
+use Rattle.heap_system.specs.Machines.{heap_in, local_in, no_local}
 use Rattle.heap_system.specs.Parts.{Part, Serve}
 use Rattle.heap_system.specs.Pictures.{entries_waiting, waiting}
 use Rattle.heap_system.specs.Systems.{Whole}
@@ -38,7 +37,7 @@ use Rattle.shared_heap.specs.Workers.{WorkerState}
 use Rattle.shared_heap.proofs.Grown.{here, kept_of}
 use Rattle.shared_heap.proofs.Prefixes.{fits_one, fits_order}
 use Rattle.tag_table.specs.declared.operation.Operation.{Operation}
-use Rattle.tag_table.specs.Tables.{Tag, Row, rows_of, command_at, decides, ends, answer, table_after, empty_table, answers_of, told_from, tag_config, AreInTable}
+use Rattle.tag_table.specs.Tables.{Tag, Row, rows_of, command_at, decides, ends, answer, table_after, empty_table, answers_of, told_from, AreInTable}
 use Rattle.tag_table.proofs.Chunks.{by_chunks}
 use Rattle.tag_table.proofs.TableApplication.{tables_so_far}
 use Rattle.live_tags.specs.Decoding.{operations_of}
@@ -164,281 +163,270 @@ module _ (k : Whole) (s : table.State Command View) (kept : SharedKept k s) wher
   own_of : (h : Held) → Fits c kept.run h → h.local ≡ local_in c kept.run h.local.thread
   own_of h fit = here c h.local.thread fit.0 kept.run kept.by.after h.local fit.1
 
-module _ (k : Whole) (s : table.State Command View) (kept : SharedKept k s)
-    (tags : IsTagHeap k.config) (scripts : List (List Operation))
-    (execute : Execute k.config s scripts) where
-  abbrev c : Config
-  c = k.config
+  module _ (tags : IsTagHeap k.config) (scripts : List (List Operation))
+      (execute : Execute k.config s scripts) where
+    abbrev script : ℕ → List Operation
+    script t = slice_index_or scripts t []
 
-  abbrev history : List HistoryItem
-  history = kept.run.order
+    abbrev fits : FitsOneHistory c s
+    fits = fits_one k s kept
 
-  abbrev script : ℕ → List Operation
-  script t = slice_index_or scripts t []
+    same : fits.order ≡ history
+    same = fits_order k s kept
 
-  fits : FitsOneHistory c s
-  fits = fits_one k s kept
+    abbrev own : (t : ℕ) → t < c.threads
+        → LocalKept c (get_or kept.by.after.traces t []) (replay c history) history
+        (heap_in c kept.run.state) kept.run.names t (local_in c kept.run t)
+    own t tl = all.locals t tl
 
-  same : fits.order ≡ history
-  same = fits_order k s kept
+    first_of : (t : ℕ) → t < c.threads → (rest : List Command)
+        × ((local_in c kept.run t).trace ≡ commands_in (part t history) ++ rest)
+    first_of t tl = first_commands c (get_or kept.by.after.traces t []) (replay c history) history
+        (heap_in c kept.run.state) kept.run.names t (local_in c kept.run t) (own t tl)
 
-  abbrev own : (t : ℕ) → t < c.threads
-      → LocalKept c (get_or kept.by.after.traces t []) (replay c history) history
-      (heap_in c kept.run.state) kept.run.names t (local_in c kept.run t)
-  own t tl = (all k s kept).locals t tl
+    others : (u : ℕ) → c.threads ≤ u → part u history ≡ []
+    others u high = all.foreign u high
 
-  first_of : (t : ℕ) → t < c.threads → (rest : List Command)
-      × ((local_in c kept.run t).trace ≡ commands_in (part t history) ++ rest)
-  first_of t tl = first_commands c (get_or kept.by.after.traces t []) (replay c history) history
-      (heap_in c kept.run.state) kept.run.names t (local_in c kept.run t) (own t tl)
+    -- what was done of a script, and the commands that are left of it
+    script_so_far : (t : ℕ) → t < c.threads
+        → (rest : List Command) × (commands_of (script t) ≡ commands_in (part t history) ++ rest)
+    script_so_far t tl =
+        let at : IsAt scripts (local_in c kept.run t) =
+        of_each (IsAt scripts) execute.each t tl in
+        let first = first_of t tl in (
+          first.0 ++ at.0,
+          ap (λ u. commands_of (script u)) (sym (own t tl).thread) ∙ at.1
+              ∙ ap (λ ks. ks ++ at.0) first.1
+              ∙ append_assoc (commands_in (part t history)) first.0 at.0,
+        )
 
-  others : (u : ℕ) → c.threads ≤ u → part u history ≡ []
-  others u high = (all k s kept).foreign u high
+    -- ---- its run
 
-  -- what was done of a script, and the commands that are left of it
-  script_so_far : (t : ℕ) → t < c.threads
-      → (rest : List Command) × (commands_of (script t) ≡ commands_in (part t history) ++ rest)
-  script_so_far t tl =
-      let at : IsAt scripts (local_in c kept.run t) =
-      of_each k s kept (IsAt scripts) execute.each t tl in
-      let first = first_of t tl in (
-        first.0 ++ at.0,
-        ap (λ u. commands_of (script u)) (sym (own t tl).thread) ∙ at.1
-            ∙ ap (λ ks. ks ++ at.0) first.1
-            ∙ append_assoc (commands_in (part t history)) first.0 at.0,
+    abbrev firsts : List (List Command)
+    firsts = map commands_in (parts c.threads history)
+
+    firsts_at : (t : ℕ) → get_or firsts t [] ≡ commands_in (part t history)
+    firsts_at t = elim (cases_lt t c.threads) [
+      | inl low ↦ get_or-map commands_in (parts c.threads history) t []
+          ∙ ap commands_in (sym (logged c.threads history (parts c.threads history) t refl low))
+      | inr high ↦ get_or_past firsts t []
+          (omega (
+            arith,
+            length-map (parts c.threads history) commands_in,
+            parts_count 0 c.threads history,
+          ))
+          ∙ ap commands_in (sym (others t high))
+    ]
+
+    trace_at : (t : ℕ) → get_or (traces_of rows_of command_at scripts) t [] ≡ commands_of (script t)
+    trace_at t =
+        get_or-map (λ (ops : List Operation). map command_at (flat_map rows_of ops)) scripts t []
+
+    begins : (t : ℕ) → (rest : List Command)
+        × (get_or (traces_of rows_of command_at scripts) t [] ≡ get_or firsts t [] ++ rest)
+    begins t = elim (cases_lt t c.threads) [
+      | inl low ↦
+          let so = script_so_far t low in
+          (so.0, trace_at t ∙ so.1 ∙ ap (λ ks. ks ++ so.0) (sym (firsts_at t)))
+      | inr high ↦ (
+        commands_of (script t),
+        trace_at t ∙ ap (λ ks. ks ++ commands_of (script t))
+            (sym (firsts_at t ∙ ap commands_in (others t high))),
+      )
+    ]
+
+    abbrev rate : ℕ
+    rate = kept.by.after.by_turns.opening.rate
+
+    run : IsRunSoFar c rate (traces_of rows_of command_at scripts) history
+    run = record {
+      firsts = firsts;
+      run = record {
+        legal = all.names.ordered.legal;
+        traces_whole = λ t. sym (firsts_at t);
+        licensed = subst (λ o. Licensed c o) same fits.licensed;
+        right_work = subst (λ o. RightWork c.width rate o) same
+            (fits.right rate kept.by.after.by_turns.opening.planned);
+      };
+      begins = begins;
+    }
+
+    abbrev tables : (order : List (Call Operation Tag))
+        × IsLinearizationSoFar rows_of decides ends answer table_after (empty_table c.shared) scripts
+        history order
+        × NoFulls history
+    tables = tables_so_far c.threads c.shared c.blocks rate scripts history execute.count
+        execute.inside
+        (subst (λ (k : Config).
+        IsRunSoFar k rate (traces_of rows_of command_at scripts) history) tags run)
+
+    -- ---- a worker between two operations
+
+    module _ (h : Held) (fit : Fits c kept.run h) (at : IsAt scripts h.local) (w : WorkerState)
+        (its : w.thread ≡ h.local) (between : IsTagWorker w) where
+      abbrev l : LocalState
+      l = h.local
+
+      abbrev done : List Operation
+      done = operations_of l.trace
+
+      asked : l.trace ≡ commands_of done
+      asked = subst (λ (x : LocalState). x.trace ≡ commands_of (operations_of x.trace)) its between.asked
+
+      long : length l.log ≡ length l.trace
+      long = subst (λ (x : LocalState). length x.log ≡ length x.trace) its between.long
+
+      is : l ≡ local_in c kept.run l.thread
+      is = own_of h fit
+
+      told : part l.thread history ≡ l.log ++ entries_waiting (replay c history) l
+      told = subst (λ (x : LocalState).
+          part l.thread history ≡ x.log ++ entries_waiting (replay c history) x) (sym is)
+          (own l.thread fit.0).told
+
+      first : (rest : List Command) × (l.trace ≡ commands_in (part l.thread history) ++ rest)
+      first = subst (λ (x : LocalState).
+          (rest : List Command) × (x.trace ≡ commands_in (part l.thread history) ++ rest)) (sym is)
+          (first_of l.thread fit.0)
+
+      -- its part is its log, whose commands are those of its operations
+      part_is : part l.thread history ≡ l.log
+      part_is = none_left l.log (entries_waiting (replay c history) l) (part l.thread history) told
+          (omega (
+            arith,
+            long,
+            ap length told,
+            length-append l.log (entries_waiting (replay c history) l),
+            ap length first.1,
+            length-append (commands_in (part l.thread history)) first.0,
+            length-map (part l.thread history) (λ (e : Entry). e.command),
+          ))
+
+      rows_long : length (part l.thread history) ≡ length (flat_map rows_of done)
+      rows_long = omega (
+        arith,
+        ap length part_is,
+        long,
+        ap length asked,
+        length-map (flat_map rows_of done) command_at,
       )
 
-  -- ---- its run
+      more : (more : List Operation) × (script l.thread ≡ done ++ more)
+      more = begins_so done (script l.thread) at.0 (at.1 ∙ ap (λ ks. ks ++ at.0) asked)
 
-  abbrev firsts : List (List Command)
-  firsts = map commands_in (parts c.threads history)
+      done_is : map (λ (d : Call Operation Tag). d.operation) (calls_of l.thread tables.0) ≡ done
+      done_is =
+          ops_of_calls l.thread tables.0
+          ∙ ap (ops_of l.thread) tables.1.deciding
+          ∙ decided_so_far scripts history l.thread done more.0 0 more.1
+          (omega (arith, rows_long))
+          ∙ append-nil done
 
-  firsts_at : (t : ℕ) → get_or firsts t [] ≡ commands_in (part t history)
-  firsts_at t = elim (cases_lt t c.threads) [
-    | inl low ↦ get_or-map commands_in (parts c.threads history) t []
-        ∙ ap commands_in (sym (logged c.threads history (parts c.threads history) t refl low))
-    | inr high ↦ get_or_past firsts t []
-        (omega (
-          arith,
-          length-map (parts c.threads history) commands_in,
-          parts_count 0 c.threads history,
-        ))
-        ∙ ap commands_in (sym (others t high))
-  ]
+      as_told : answers_told ends [] (flat_map rows_of (script l.thread)) (replies_in l.thread history)
+          ≡ answers_of done (replies l.log)
+      as_told =
+          let rs : List Reply = replies_in l.thread history in
+          let enough : length rs ≡ length (flat_map rows_of done) =
+          omega (arith, rows_long, length-map (part l.thread history) (λ (e : Entry). e.reply)) in
+          ap (λ ops. answers_told ends [] (flat_map rows_of ops) rs) more.1
+          ∙ ap (λ rows. answers_told ends [] rows rs) (rows_more done more.0)
+          ∙ told_within (flat_map rows_of done) (flat_map rows_of more.0) [] rs enough
+          ∙ by_chunks done rs (omega (arith, enough))
+          ∙ ap (λ es. answers_of done (replies es)) part_is
 
-  trace_at : (t : ℕ) → get_or (traces_of rows_of command_at scripts) t [] ≡ commands_of (script t)
-  trace_at t =
-      get_or-map (λ (ops : List Operation). map command_at (flat_map rows_of ops)) scripts t []
+      answers_are : map (λ (d : Call Operation Tag). d.answer) (calls_of l.thread tables.0)
+          ≡ answers_of done (replies l.log)
+      answers_are =
+          let t = tables.1.told l.thread in
+          let calls : List (Call Operation Tag) = calls_of l.thread tables.0 in
+          none_left (answers_of done (replies l.log)) t.0
+          (map (λ (d : Call Operation Tag). d.answer) calls)
+          (t.1 ∙ ap (λ xs. xs ++ t.0) as_told)
+          (omega (
+            arith,
+            length-map calls (λ (d : Call Operation Tag). d.answer),
+            length-map calls (λ (d : Call Operation Tag). d.operation),
+            ap length done_is,
+            as_many_answers done (replies l.log),
+          ))
 
-  begins : (t : ℕ) → (rest : List Command)
-      × (get_or (traces_of rows_of command_at scripts) t [] ≡ get_or firsts t [] ++ rest)
-  begins t = elim (cases_lt t c.threads) [
-    | inl low ↦
-        let so = script_so_far t low in
-        (so.0, trace_at t ∙ so.1 ∙ ap (λ ks. ks ++ so.0) (sym (firsts_at t)))
-    | inr high ↦ (
-      commands_of (script t),
-      trace_at t ∙ ap (λ ks. ks ++ commands_of (script t))
-          (sym (firsts_at t ∙ ap commands_in (others t high))),
-    )
-  ]
+      has_calls : HasCalls tables.0 (tag_worker w)
+      has_calls = subst (λ (x : LocalState).
+          HasCalls tables.0 (tag_worker (record w { thread = x }))) (sym its)
+          (record { done = done_is; answers = answers_are })
 
-  abbrev rate : ℕ
-  rate = kept.by.after.by_turns.opening.rate
+    all_have_calls : (hs : List Held) → AllFit c kept.run hs → AllThreads (IsAt scripts) hs
+        → AllHaveCalls tables.0 hs
+    all_have_calls [] fit at = tt
+    all_have_calls (h ∷ hs) fit at =
+        (λ w its between. has_calls h fit.0 at.0 w its between, all_have_calls hs fit.1 at.1)
 
-  run : IsRunSoFar c rate (traces_of rows_of command_at scripts) history
-  run = record {
-    firsts = firsts;
-    run = record {
-      legal = (all k s kept).names.ordered.legal;
-      traces_whole = λ t. sym (firsts_at t);
-      licensed = subst (λ o. Licensed c o) same fits.licensed;
-      right_work = subst (λ o. RightWork c.width rate o) same
-          (fits.right rate kept.by.after.by_turns.opening.planned);
-    };
-    begins = begins;
-  }
+    pub fits_table : FitsOneTable c s scripts history
+    fits_table = record {
+      order = tables.0;
+      rate = rate;
+      planned = kept.by.after.by_turns.opening.planned;
+      run = run;
+      linear = tables.1;
+      none_full = tables.2;
+      each = λ id v at.
+          (let f = fits.parts id v at in (
+            all_have_calls v.threads (kept.each id v at).0 (execute.each id v at),
+            subst (λ o. AllSeenIn o v.threads) same f.1,
+            subst (λ o. AllNotedIn o v.notes) same f.2,
+          ));
+    }
 
-  abbrev tables : (order : List (Call Operation Tag))
-      × IsLinearizationSoFar rows_of decides ends answer table_after (empty_table c.shared) scripts
-      history order
-      × NoFulls history
-  tables = tables_so_far c.threads c.shared c.blocks rate scripts history execute.count
-      execute.inside
-      (subst (λ (k : Config).
-      IsRunSoFar k rate (traces_of rows_of command_at scripts) history) tags run)
+  -- ---- a moment at which all workers are between two operations
 
-  -- ---- a worker between two operations
+  module _ (between : AllSeats IsBetween s) where
+    abbrev done_by : LocalState → List Operation
+    done_by l = operations_of l.trace
 
-  module _ (h : Held) (fit : Fits c kept.run h) (at : IsAt scripts h.local) (w : WorkerState)
-      (its : w.thread ≡ h.local) (between : IsTagWorker w) where
-    abbrev l : LocalState
-    l = h.local
+    abbrev done_scripts : List (List Operation)
+    done_scripts = map done_by kept.run.state.locals
 
-    abbrev done : List Operation
-    done = operations_of l.trace
+    script_is : (t : ℕ) → slice_index_or done_scripts t [] ≡ done_by (local_in c kept.run t)
+    script_is t = get_or-map done_by kept.run.state.locals t (no_local c)
 
-    asked : l.trace ≡ commands_of done
-    asked = subst (λ (x : LocalState). x.trace ≡ commands_of (operations_of x.trace)) its between.asked
+    done_count : length done_scripts ≡ c.threads
+    done_count = length-map kept.run.state.locals done_by ∙ all.threads
 
-    long : length l.log ≡ length l.trace
-    long = subst (λ (x : LocalState). length x.log ≡ length x.trace) its between.long
+    in_table : (t : ℕ) → t < c.threads → AreInTable c.shared (done_by (local_in c kept.run t))
+    in_table t tl =
+        let b : IsBetween (local_in c kept.run t) = of_each IsBetween between t tl in
+        subst (λ (x : Config). AreInTable x.shared (done_by (local_in c kept.run t)))
+        (all.locals t tl).config
+        (subst (λ (x : LocalState). AreInTable x.config.shared (done_by x)) b.1 b.2.inside)
 
-    is : l ≡ local_in c kept.run l.thread
-    is = own_of k s kept h fit
+    done_inside : (t : ℕ) → AreInTable c.shared (slice_index_or done_scripts t [])
+    done_inside t = elim (cases_lt t c.threads) [
+      | inl low ↦ subst (λ (l : List Operation). AreInTable c.shared l) (sym (script_is t))
+          (in_table t low)
+      | inr high ↦ subst (λ (l : List Operation). AreInTable c.shared l)
+          (sym (get_or_past done_scripts t [] (omega (arith, done_count)))) tt
+    ]
 
-    told : part l.thread history ≡ l.log ++ entries_waiting (replay c history) l
-    told = subst (λ (x : LocalState).
-        part l.thread history ≡ x.log ++ entries_waiting (replay c history) x) (sym is)
-        (own l.thread fit.0).told
-
-    first : (rest : List Command) × (l.trace ≡ commands_in (part l.thread history) ++ rest)
-    first = subst (λ (x : LocalState).
-        (rest : List Command) × (x.trace ≡ commands_in (part l.thread history) ++ rest)) (sym is)
-        (first_of l.thread fit.0)
-
-    -- its part is its log, whose commands are those of its operations
-    part_is : part l.thread history ≡ l.log
-    part_is = none_left l.log (entries_waiting (replay c history) l) (part l.thread history) told
-        (omega (
-          arith,
-          long,
-          ap length told,
-          length-append l.log (entries_waiting (replay c history) l),
-          ap length first.1,
-          length-append (commands_in (part l.thread history)) first.0,
-          length-map (part l.thread history) (λ (e : Entry). e.command),
-        ))
-
-    rows_long : length (part l.thread history) ≡ length (flat_map rows_of done)
-    rows_long = omega (
-      arith,
-      ap length part_is,
-      long,
-      ap length asked,
-      length-map (flat_map rows_of done) command_at,
+    is_at : (h : Held) → Fits c kept.run h → IsBetween h.local → IsAt done_scripts h.local
+    is_at h fit b = (
+      [],
+      ap commands_of (script_is h.local.thread ∙ ap done_by (sym (own_of h fit)))
+          ∙ sym (subst (λ (x : LocalState). x.trace ≡ commands_of (done_by x)) b.1 b.2.asked)
+          ∙ sym (append-nil h.local.trace),
     )
 
-    more : (more : List Operation) × (script l.thread ≡ done ++ more)
-    more = begins_so done (script l.thread) at.0 (at.1 ∙ ap (λ ks. ks ++ at.0) asked)
+    are_at : (hs : List Held) → AllFit c kept.run hs → AllThreads IsBetween hs
+        → AllThreads (IsAt done_scripts) hs
+    are_at [] fit b = tt
+    are_at (h ∷ hs) fit b = (is_at h fit.0 b.0, are_at hs fit.1 b.1)
 
-    done_is : map (λ (d : Call Operation Tag). d.operation) (calls_of l.thread tables.0) ≡ done
-    done_is =
-        ops_of_calls l.thread tables.0
-        ∙ ap (ops_of l.thread) tables.1.deciding
-        ∙ decided_so_far scripts history l.thread done more.0 0 more.1
-        (omega (arith, rows_long))
-        ∙ append-nil done
+    executed : Execute c s done_scripts
+    executed = record {
+      count = done_count;
+      inside = done_inside;
+      each = λ id v at. are_at v.threads (kept.each id v at).0 (between id v at);
+    }
 
-    as_told : answers_told ends [] (flat_map rows_of (script l.thread)) (replies_in l.thread history)
-        ≡ answers_of done (replies l.log)
-    as_told =
-        let rs : List Reply = replies_in l.thread history in
-        let enough : length rs ≡ length (flat_map rows_of done) =
-        omega (arith, rows_long, length-map (part l.thread history) (λ (e : Entry). e.reply)) in
-        ap (λ ops. answers_told ends [] (flat_map rows_of ops) rs) more.1
-        ∙ ap (λ rows. answers_told ends [] rows rs) (rows_more done more.0)
-        ∙ told_within (flat_map rows_of done) (flat_map rows_of more.0) [] rs enough
-        ∙ by_chunks done rs (omega (arith, enough))
-        ∙ ap (λ es. answers_of done (replies es)) part_is
-
-    answers_are : map (λ (d : Call Operation Tag). d.answer) (calls_of l.thread tables.0)
-        ≡ answers_of done (replies l.log)
-    answers_are =
-        let t = tables.1.told l.thread in
-        let calls : List (Call Operation Tag) = calls_of l.thread tables.0 in
-        none_left (answers_of done (replies l.log)) t.0
-        (map (λ (d : Call Operation Tag). d.answer) calls)
-        (t.1 ∙ ap (λ xs. xs ++ t.0) as_told)
-        (omega (
-          arith,
-          length-map calls (λ (d : Call Operation Tag). d.answer),
-          length-map calls (λ (d : Call Operation Tag). d.operation),
-          ap length done_is,
-          as_many_answers done (replies l.log),
-        ))
-
-    has_calls : HasCalls tables.0 (tag_worker w)
-    has_calls = subst (λ (x : LocalState).
-        HasCalls tables.0 (tag_worker (record w { thread = x }))) (sym its)
-        (record { done = done_is; answers = answers_are })
-
-  all_have_calls : (hs : List Held) → AllFit c kept.run hs → AllThreads (IsAt scripts) hs
-      → AllHaveCalls tables.0 hs
-  all_have_calls [] fit at = tt
-  all_have_calls (h ∷ hs) fit at =
-      (λ w its between. has_calls h fit.0 at.0 w its between, all_have_calls hs fit.1 at.1)
-
-  pub fits_table : FitsOneTable c s scripts history
-  fits_table = record {
-    order = tables.0;
-    rate = rate;
-    planned = kept.by.after.by_turns.opening.planned;
-    run = run;
-    linear = tables.1;
-    none_full = tables.2;
-    each = λ id v at.
-        (let f = fits.parts id v at in (
-          all_have_calls v.threads (kept.each id v at).0 (execute.each id v at),
-          subst (λ o. AllSeenIn o v.threads) same f.1,
-          subst (λ o. AllNotedIn o v.notes) same f.2,
-        ));
-  }
-
--- ---- a moment at which all workers are between two operations
-
-module _ (k : Whole) (s : table.State Command View) (kept : SharedKept k s)
-    (between : AllSeats IsBetween s) where
-  abbrev c : Config
-  c = k.config
-
-  abbrev done_by : LocalState → List Operation
-  done_by l = operations_of l.trace
-
-  abbrev scripts : List (List Operation)
-  scripts = map done_by kept.run.state.locals
-
-  script_is : (t : ℕ) → slice_index_or scripts t [] ≡ done_by (local_in c kept.run t)
-  script_is t = get_or-map done_by kept.run.state.locals t (no_local c)
-
-  count : length scripts ≡ c.threads
-  count = length-map kept.run.state.locals done_by ∙ (all k s kept).threads
-
-  in_table : (t : ℕ) → t < c.threads → AreInTable c.shared (done_by (local_in c kept.run t))
-  in_table t tl =
-      let b : IsBetween (local_in c kept.run t) = of_each k s kept IsBetween between t tl in
-      subst (λ (x : Config). AreInTable x.shared (done_by (local_in c kept.run t)))
-      ((all k s kept).locals t tl).config
-      (subst (λ (x : LocalState). AreInTable x.config.shared (done_by x)) b.1 b.2.inside)
-
-  inside : (t : ℕ) → AreInTable c.shared (slice_index_or scripts t [])
-  inside t = elim (cases_lt t c.threads) [
-    | inl low ↦ subst (λ (l : List Operation). AreInTable c.shared l) (sym (script_is t))
-        (in_table t low)
-    | inr high ↦ subst (λ (l : List Operation). AreInTable c.shared l)
-        (sym (get_or_past scripts t [] (omega (arith, count)))) tt
-  ]
-
-  is_at : (h : Held) → Fits c kept.run h → IsBetween h.local → IsAt scripts h.local
-  is_at h fit b = (
-    [],
-    ap commands_of (script_is h.local.thread ∙ ap done_by (sym (own_of k s kept h fit)))
-        ∙ sym (subst (λ (x : LocalState). x.trace ≡ commands_of (done_by x)) b.1 b.2.asked)
-        ∙ sym (append-nil h.local.trace),
-  )
-
-  are_at : (hs : List Held) → AllFit c kept.run hs → AllThreads IsBetween hs
-      → AllThreads (IsAt scripts) hs
-  are_at [] fit b = tt
-  are_at (h ∷ hs) fit b = (is_at h fit.0 b.0, are_at hs fit.1 b.1)
-
-  execute : Execute c s scripts
-  execute = record {
-    count = count;
-    inside = inside;
-    each = λ id v at. are_at v.threads (kept.each id v at).0 (between id v at);
-  }
-
-  pub fits_between : IsTagHeap c
-      → (scripts : List (List Operation)) × FitsOneTable c s scripts kept.run.order
-  fits_between tags = (scripts, fits_table k s kept tags scripts execute)
+    pub fits_between : IsTagHeap c
+        → (scripts : List (List Operation)) × FitsOneTable c s scripts kept.run.order
+    fits_between tags = (done_scripts, fits_table tags done_scripts executed)
