@@ -28,7 +28,7 @@ use Rattle.live_tags.proofs.Cuts.{stands}
 use Rattle.never_heap.proofs.HistoryGrowth.{part_append}
 use Rattle.shared_heap.specs.Shared.{IsStartOf}
 
-parts_count : (t n : ℕ) (h : List HistoryItem) → length (parts_from t n h) ≡ n
+pub parts_count : (t n : ℕ) (h : List HistoryItem) → length (parts_from t n h) ≡ n
 parts_count t zero h = refl
 parts_count t (suc n) h = ap suc (parts_count (t + 1) n h)
 

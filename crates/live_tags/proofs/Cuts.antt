@@ -50,7 +50,7 @@ take_past (x ∷ xs) ys k =
 
 -- ---- operations of one thread among decided ones
 
-abbrev ops_of : ℕ → List (ℕ × Operation) → List Operation
+abbrev pub ops_of : ℕ → List (ℕ × Operation) → List Operation
 ops_of u [] = []
 ops_of u (p ∷ ps) = cond (p.0 == u) (p.1 ∷ ops_of u ps) (ops_of u ps)
 
@@ -64,7 +64,7 @@ ops_append : (u : ℕ) (xs ys : List (ℕ × Operation))
 ops_append u [] ys = refl
 ops_append u (p ∷ xs) ys = ops_cons (p.0 == u) p.1 _ _ _ (ops_append u xs ys)
 
-abbrev pair_of_call : Call Operation Tag → ℕ × Operation
+abbrev pub pair_of_call : Call Operation Tag → ℕ × Operation
 pair_of_call d = (d.thread, d.operation)
 
 mapped_cond : (b : Bool) (d : Call Operation Tag) (xs : List (Call Operation Tag))
@@ -74,7 +74,7 @@ mapped_cond : (b : Bool) (d : Call Operation Tag) (xs : List (Call Operation Tag
 mapped_cond true d xs = refl
 mapped_cond false d xs = refl
 
-ops_of_calls : (u : ℕ) (xs : List (Call Operation Tag))
+pub ops_of_calls : (u : ℕ) (xs : List (Call Operation Tag))
     → map (λ (x : Call Operation Tag). x.operation) (calls_of u xs) ≡ ops_of u (map pair_of_call xs)
 ops_of_calls u [] = refl
 ops_of_calls u (d ∷ xs) =
@@ -113,7 +113,7 @@ next_ops u t (row ∷ rows) n e =
     ∙ op_by_more (decides row) (ops_in decides (take n rows))
 
 module _ (scripts : List (List Operation)) where
-  abbrev behind : List HistoryItem → List HistoryItem → List (ℕ × Operation)
+  abbrev pub behind : List HistoryItem → List HistoryItem → List (ℕ × Operation)
   behind past items = decided_behind rows_of decides scripts past items
 
   abbrev left : List HistoryItem → ℕ → List Row
@@ -228,12 +228,26 @@ read_on (Read i ∷ ops) made v q ks =
     let r = read_on ops made v q ks in
     record { made_then = r.made_then; v_then = r.v_then; q_then = r.q_then; told = ap (λ l. Read i ∷ l) r.told }
 
-begins_so : (ops script : List Operation) (ks : List Command)
+pub begins_so : (ops script : List Operation) (ks : List Command)
     → commands_of script ≡ commands_of ops ++ ks
     → (more : List Operation) × (script ≡ ops ++ more)
 begins_so ops script ks e =
     let r = read_on ops false 0 0 ks in
     (_, sym (decoded script) ∙ ap operations_of e ∙ r.told)
+
+-- what thread u has decided at a start in which it has done these operations and so many rows more
+pub decided_so_far : (scripts : List (List Operation)) (start : List HistoryItem) (u : ℕ)
+    (done more : List Operation) (n : ℕ) → slice_index_or scripts u [] ≡ done ++ more
+    → length (part u start) ≡ length (flat_map rows_of done) + n
+    → ops_of u (behind scripts [] start) ≡ done ++ ops_in decides (take n (flat_map rows_of more))
+decided_so_far scripts start u done more n script long =
+    let rows_are : flat_map rows_of (slice_index_or scripts u [])
+    ≡ flat_map rows_of done ++ flat_map rows_of more =
+    ap (flat_map rows_of) script ∙ rows_more done more in
+    ops_behind scripts u [] start
+    ∙ (λ i. ops_in decides (take (long i) (rows_are i)))
+    ∙ ap (ops_in decides) (take_past (flat_map rows_of done) (flat_map rows_of more) n)
+    ∙ whole_ops done (take n (flat_map rows_of more))
 
 -- ---- the cut
 
@@ -264,8 +278,6 @@ module _ (scripts : List (List Operation)) (h : List HistoryItem) (order : List 
       sym all ∙ ap commands parts ∙ map-append (λ (e : Entry). e.command) log (rest ++ part u begins.0)
       ∙ ap (λ l. l ++ commands (rest ++ part u begins.0)) rows in
       let m = begins_so done script (commands (rest ++ part u begins.0)) so in
-      let rows_are : flat_map rows_of script ≡ flat_map rows_of done ++ flat_map rows_of m.0 =
-      ap (flat_map rows_of) m.1 ∙ rows_more done m.0 in
       let long : length (part u start) ≡ length (flat_map rows_of done) + length rest =
       omega (
         arith,
@@ -278,10 +290,7 @@ module _ (scripts : List (List Operation)) (h : List HistoryItem) (order : List 
         flat_map rows_of m.0,
         ops_of_calls u cut.first
             ∙ ap (ops_of u) cut.is_first
-            ∙ ops_behind scripts u [] start
-            ∙ (λ i. ops_in decides (take (long i) (rows_are i)))
-            ∙ ap (ops_in decides) (take_past (flat_map rows_of done) (flat_map rows_of m.0) (length rest))
-            ∙ whole_ops done (take (length rest) (flat_map rows_of m.0)),
+            ∙ decided_so_far scripts start u done m.0 (length rest) m.1 long,
       )
 
   pub stands : (u t : ℕ) (these those : List Operation) (log rest own : List Entry)

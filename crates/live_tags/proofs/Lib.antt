@@ -6,3 +6,4 @@ pub mod Crews
 pub mod Opening
 pub mod Cuts
 pub mod Closing
+pub mod SoFar

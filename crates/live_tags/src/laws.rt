@@ -1,13 +1,18 @@
-//! A law of a table that no single call can state. It is the contract of a function that does
+//! Laws of a table that no single call can state. Each is the contract of a function that does
 //! nothing.
 
 ghost use Rattle.std.specs.Prelude.{ℕ, List};
+ghost use Rattle.atomic_table.specs.Table as table;
 ghost use Rattle.block_store.specs.declared.Config.{Config};
-ghost use Rattle.shared_heap.specs.Shared.{IsStartOf};
+ghost use Rattle.never_heap.specs.declared.Command.{Command};
+ghost use Rattle.heap_system.specs.Systems.{Whole};
+ghost use Rattle.shared_heap.specs.declared.rules.View.{View};
+ghost use Rattle.shared_heap.specs.Shared.{IsStartOf, SharedKept};
 ghost use Rattle.tag_table.specs.declared.operation.Operation.{Operation};
 ghost use Rattle.tag_table.specs.Tables.{Tag};
 ghost use Rattle.live_tags.specs.Behind.{StandsBehind};
-ghost use Rattle.live_tags.specs.Live.{HasDone, HasSeenAll, HaveOneTable, TagWorkerState, thread_of};
+ghost use Rattle.live_tags.specs.Live.{HasDone, HasSeenAll, HaveOneTable, IsTagHeap, TagWorkerState, thread_of};
+ghost use Rattle.live_tags.specs.SoFar.{AllSeats, Execute, FitsOneTable, IsBetween};
 
 /// In the order of a closed table, an operation comes after all operations that a worker `a` had
 /// done, if what `a` had seen is a prefix of the history at which the operation began
@@ -19,4 +24,21 @@ pub fn operations_stand_behind_what_was_seen()
         (did : HasDone old op tag new) → HasSeenAll a → IsStartOf a.worker.seen did.start
         → IsStartOf new.worker.seen is.history
         → StandsBehind is.order (thread_of a) a.done (thread_of old) old.done }
+{}
+
+/// Suppose that the rule of the heap's table holds, as it does between any two steps of any
+/// threads. Then what was answered so far is a plain table's: all operations that have taken effect
+/// have one order, which keeps each thread's own, and in which each was answered as by a plain
+/// table. A worker between two operations has exactly the operations that it did there, with the
+/// answers that it got. The order is that of the history of the rule's run.
+///
+/// Here all workers are between two operations (`between`), or the threads execute the operations
+/// of some scripts, and may be in the middle of one (`meanwhile`).
+pub fn what_was_answered_is_a_tables()
+    ensures between { (k : Whole) (s : table.State Command View) (kept : SharedKept k s)
+        → AllSeats IsBetween s → IsTagHeap k.config
+        → (scripts : List (List Operation)) × FitsOneTable k.config s scripts kept.run.order }
+    ensures meanwhile { (k : Whole) (s : table.State Command View) (kept : SharedKept k s)
+        → IsTagHeap k.config → (scripts : List (List Operation)) → Execute k.config s scripts
+        → FitsOneTable k.config s scripts kept.run.order }
 {}

@@ -22,7 +22,8 @@ use Rattle.never_heap.specs.Licensed.{NoFulls}
 use Rattle.never_heap.specs.Runs.{IsRun}
 use Rattle.operations.specs.Linearizations.{Call, replies_in, traces_of, IsLinearization}
 use Rattle.operations.specs.Applications.{Progress, Application, fresh, ops_in}
-use Rattle.operations.proofs.LinearizedRuns.{linearized}
+use Rattle.operations.specs.SoFar.{IsRunSoFar, IsLinearizationSoFar}
+use Rattle.operations.proofs.LinearizedRuns.{linearized, linearized_so_far}
 use Rattle.operations.proofs.LiveBound.{total}
 use Rattle.operations.proofs.Tables.{Spot, nowhere, Table, spot_of, IsProper, Lasts, InSpot}
 use Rattle.operations.proofs.RowRules.{Says}
@@ -170,6 +171,17 @@ module _ {Op Row Answer Cell K L : Type 0} (a : Table Op Row Answer Cell K L) (c
     ordered rate h run =
         linearized c rows_of a.command_at a.decides a.ends a.say a.act (replicate a.size a.none)
         scripts (Kept a c.threads) applied rate h run
+
+    -- so has the beginning of every run
+    pub ordered_so_far : (rate : ℕ) (h : List HistoryItem)
+        → IsRunSoFar c rate (traces_of rows_of a.command_at scripts) h
+        → (order : List (Call Op Answer))
+        × IsLinearizationSoFar rows_of a.decides a.ends a.say a.act (replicate a.size a.none)
+        scripts h order
+        × NoFulls h
+    ordered_so_far rate h begun =
+        linearized_so_far c rows_of a.command_at a.decides a.ends a.say a.act
+        (replicate a.size a.none) scripts (Kept a c.threads) applied rate h begun
 
 -- the replies of a run are as many as its rows
 pub as_many_replies : {Op Row : Type 0} (c : Config) (rate : ℕ) (rows_of : Op → List Row)

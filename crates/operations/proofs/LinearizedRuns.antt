@@ -21,6 +21,7 @@ use Rattle.never_heap.proofs.HistoryGrowth.{replay_more, part_append}
 use Rattle.never_heap.proofs.RunInduction.{walk_all}
 use Rattle.operations.specs.Applications.{Progress, said, acted, kept_next, Tells, op_by, ops_in, moved, fresh, Application}
 use Rattle.operations.specs.Linearizations.{Call, calls_of, after_calls, AreAnswered, rows_left, traces_of, decided_by, decided_next, decided_at, decided_behind, told_next, seen_next, answers_told, replies_in, IsLinearization}
+use Rattle.operations.specs.SoFar.{IsRunSoFar, IsLinearizationSoFar}
 
 -- the call that a row of thread t makes, if it decides an operation
 abbrev pub calls_by :
@@ -94,6 +95,47 @@ drop_next zero [] a rest e = cc
 drop_next zero (x ∷ xs) a rest e = cc
 drop_next (suc n) [] a rest e = cc
 drop_next (suc n) (x ∷ xs) a rest e = drop_next n xs a rest e
+
+drop_within : {X : Type 0} (n : ℕ) (xs ys : List X) (a : X) (rest : List X)
+    → drop n xs ≡ a ∷ rest → drop n (xs ++ ys) ≡ a ∷ rest ++ ys
+drop_within zero [] ys a rest e = absurd cc
+drop_within zero (x ∷ xs) ys a rest e = ap (λ l. l ++ ys) e
+drop_within (suc n) [] ys a rest e = absurd cc
+drop_within (suc n) (x ∷ xs) ys a rest e = drop_within n xs ys a rest e
+
+-- what may come in a run of the first commands of each trace may come in one of the traces
+may_come_in : (c : Config) (rate : ℕ) (firsts traces : List (List Command))
+    (past : List HistoryItem) (i : HistoryItem)
+    → ((t : ℕ) → (rest : List Command)
+    × (slice_index_or traces t [] ≡ slice_index_or firsts t [] ++ rest))
+    → MayCome c rate firsts past i → MayCome c rate traces past i
+may_come_in c rate firsts traces past Started begins may = record {
+  first = may.first;
+  next = tt;
+  answered = may.answered;
+  licensed = may.licensed;
+  right_work = may.right_work;
+}
+may_come_in c rate firsts traces past (Did e) begins may =
+    let t : ℕ = e.thread in
+    let n : ℕ = length (part t past) in
+    let b = begins t in
+    record {
+      first = may.first;
+      next = (
+        may.next.0 ++ b.0,
+        ap (drop n) b.1
+            ∙ drop_within n (slice_index_or firsts t []) b.0 e.command may.next.0 may.next.1,
+      );
+      answered = may.answered;
+      licensed = may.licensed;
+      right_work = may.right_work;
+    }
+
+none_told : {Row Answer : Type 0} (ends : Row → Option (List Reply → Answer)) (seen : List Reply)
+    (rows : List Row) → answers_told ends seen rows [] ≡ []
+none_told ends seen [] = refl
+none_told ends seen (row ∷ rows) = refl
 
 next_of : {Row : Type 0} (command_at : Row → Command) (rows : List Row) (command : Command)
     (rest : List Command) → map command_at rows ≡ command ∷ rest
@@ -433,3 +475,34 @@ module _ {Op Row Answer S : Type 0} (c : Config)
     linearized h run =
         let both = walk_all c rate traces Inv within item_step h first run in
         (both.0.order, done h run both.0, both.1)
+
+    so_far : (h : List HistoryItem) → (inv : Inv h)
+        → IsLinearizationSoFar rows_of decides ends say act empty scripts h inv.order
+    so_far h inv = record {
+      each = λ t. (ops_in decides (inv.at t).todo, (inv.own t).each);
+      deciding = inv.deciding;
+      answered = inv.answered;
+      told = λ t. let o = inv.own t in (
+        (inv.at t).pending,
+        o.pends
+            ∙ ap (λ (l : List Answer). l ++ (inv.at t).pending)
+            (sym (ap (λ (l : List Reply). answers_told ends [] (script_rows t) l)
+            (sym (append-nil (replies_in t h)))
+            ∙ o.tells []
+            ∙ ap (λ (l : List Answer). o.told ++ l)
+            (none_told ends (inv.at t).seen (inv.at t).todo)
+            ∙ append-nil o.told)),
+      );
+    }
+
+    -- so does the beginning of every run
+    pub linearized_so_far : (h : List HistoryItem) → IsRunSoFar c rate traces h
+        → (order : List (Call Op Answer))
+        × IsLinearizationSoFar rows_of decides ends say act empty scripts h order
+        × NoFulls h
+    linearized_so_far h begun =
+        let both = walk_all c rate begun.firsts Inv within
+        (λ past i may nf inv.
+        item_step past i (may_come_in c rate begun.firsts traces past i begun.begins may) nf inv)
+        h first begun.run in
+        (both.0.order, so_far h both.0, both.1)

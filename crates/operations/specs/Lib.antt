@@ -1,2 +1,3 @@
 pub mod Linearizations
 pub mod Applications
+pub mod SoFar

@@ -1,8 +1,9 @@
-//! Times the commands of a job on a heap that its threads ask beside each other. `bench/shared` and
-//! `bench/longest` run it.
+//! Times the commands of a job on a heap that its threads ask beside each other, for `bench/shared`
+//! and `bench/longest`, and the operations of a table of tags, for `bench/live_tags`.
 #![tactic(auto)]
 
 mod help;
+mod tags;
 
 ghost use Rattle.std.specs.Prelude.{◌≡◌};
 
@@ -36,7 +37,11 @@ fn main(rt: HostRuntime) -> ExitCode {
         let mut sink = StdSink::new(rt.stdout());
         return ExitCode::from(put_line(question.answer(HELP, VERSION).as_bytes(), 0, &mut sink));
     }
-    match run(&rt, &rt, &words) {
+    let done = match words.first() {
+        Some(word) if word.as_str() == "tags" => tags::run(&rt, &rt, &words),
+        _ => run(&rt, &rt, &words),
+    };
+    match done {
         Some(()) => ExitCode::SUCCESS,
         None => ExitCode::FAILURE,
     }
@@ -60,10 +65,12 @@ fn run<R: Threads + Wait + Clock + Sync>(
         tell(
             rt,
             kind,
+            "commands",
             times_of(rt.alloc(), &job, plan, &all, Some(kind))?,
         )?;
     }
-    tell(rt, "all", times_of(rt.alloc(), &job, plan, &all, None)?)
+    let times = times_of(rt.alloc(), &job, plan, &all, None)?;
+    tell(rt, "all", "commands", times)
 }
 
 /// The number in one of the words.
@@ -203,8 +210,9 @@ fn times_of(
     Some(found)
 }
 
-/// Prints the median of times, what 999 of 1,000 are within, and the longest.
-fn tell(rt: &HostRuntime, kind: &str, times: Vec<u64>) -> Option<()> {
+/// Prints the median of times of commands or operations, what 999 of 1,000 are within, and the
+/// longest.
+fn tell(rt: &HostRuntime, kind: &str, of: &str, times: Vec<u64>) -> Option<()> {
     let mut times = times;
     times.sort_unstable();
     let count = times.len();
@@ -215,6 +223,6 @@ fn tell(rt: &HostRuntime, kind: &str, times: Vec<u64>) -> Option<()> {
     let most = times.get(count.saturating_sub(count / 1000 + 1))?;
     let longest = times.last()?;
     println!(rt;
-        "{kind}: {count} commands, median {median} ns, 99.9 per cent {most} ns, longest {longest} ns"
+        "{kind}: {count} {of}, median {median} ns, 99.9 per cent {most} ns, longest {longest} ns"
     ).ok()
 }
