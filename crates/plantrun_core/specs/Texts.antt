@@ -1,6 +1,6 @@
 -- What is printed of a plant.
 use Rattle.std.specs.List.{flat_map}
-use Rattle.std.specs.Prelude.{ℕ, ◌+◌, ◌≡◌, ◌⊎◌, Option, List, [], ◌∷◌, ◌++◌, codes, decimal, Some, None}
+use Rattle.std.specs.Prelude.{ℕ, ◌≡◌, ◌==◌, if◌then◌else◌, ◌⊎◌, Option, List, [], ◌∷◌, ◌++◌, codes, decimal, Some, None}
 use Rattle.trace_text.specs.Lines.{ended}
 use Rattle.trace_text.specs.Streams.{Appends, AppendsPrefix}
 use Rattle.tag_table.specs.Tables.{Tag}
@@ -12,10 +12,11 @@ use Rattle.plantrun_core.specs.declared.telling.Cycles.{Cycles}
 
 -- what a thread is called
 abbrev pub thread_text : ℕ → List ℕ
-thread_text 0 = codes "input"
-thread_text 1 = codes "control"
-thread_text 2 = codes "alarms"
-thread_text _ = codes "history"
+thread_text t =
+    if t == 0 then codes "input"
+    else if t == 1 then codes "control"
+    else if t == 2 then codes "alarms"
+    else codes "history"
 
 abbrev pub tag_text : Tag → List ℕ
 tag_text None = codes "none"

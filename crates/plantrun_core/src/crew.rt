@@ -2,15 +2,14 @@
 
 ghost use Rattle.std.specs.Prelude.{◌≡◌, ◌≤◌, ◌∷◌, [], length, IfOk};
 ghost use Rattle.std.specs.Vec.{vec_capacity};
-ghost use Rattle.live_tags.specs.Live.{HaveOneTable, IsFresh, IsOf, IsSameWorker, opened_config};
+ghost use Rattle.live_tags.specs.Live.{AreFresh, AreInOrder, HaveOneTable, IsFresh, IsOf, IsSameWorker, opened_config};
 ghost use Rattle.plantrun_core.specs.Ends.{HasPlant, IsCrew, IsWorker};
 
 use crate::calls::Logs;
 use crate::clock::Ticks;
 use crate::hand::Hand;
-use crate::law::Loop;
 use crate::places::{PLACES, RING};
-use crate::roles::{Role, reads, rereads, works};
+use crate::roles::{Role, first_control, reads, rereads, works};
 use crate::stops::Stop;
 use crate::telling::Figures;
 use live_tags::{LiveTags, TagWorker};
@@ -40,18 +39,24 @@ pub struct Closed {
 }
 
 /// A worker that has done nothing, with room in its log for so many operations.
-fn hand_of(alloc: Global, who: TagWorker, room: u64) -> Result<Hand, Stop>
-    requires { IsFresh who }
-    ensures { IfOk result (λ h. h.who ≡ who) }
+fn hand_of(
+    alloc: Global,
+    _table: &LiveTags,
+    thread: u32,
+    who: TagWorker,
+    room: u64,
+) -> Result<Hand, Stop>
+    requires own { IsWorker _table.now thread who }
+    requires fresh { IsFresh who }
+    ensures { IfOk result (λ h. IsWorker _table.now thread h.who) }
 {
     let Ok(calls) = Vec::with_capacity(alloc, room as usize) else {
         return Err(Stop::NoMemory);
     };
-    let figures = Figures::none(who.thread());
     Ok(Hand {
         who,
         calls,
-        figures,
+        figures: Figures::none(thread),
         stop: None,
     })
 }
@@ -69,6 +74,21 @@ fn four_of(workers: Vec<TagWorker>) -> (TagWorker, TagWorker, TagWorker, TagWork
     (first, second, third, fourth)
 }
 
+/// The four workers of a new table.
+fn workers_of(
+    _table: &LiveTags,
+    workers: Vec<TagWorker>,
+) -> (TagWorker, TagWorker, TagWorker, TagWorker)
+    requires config { _table.now.config ≡ opened_config 4 48 }
+    requires order { AreInOrder _table.now workers.items }
+    requires fresh { AreFresh workers.items }
+    ensures order { IsWorker _table.now 0 result.0 × IsWorker _table.now 1 result.1
+        × IsWorker _table.now 2 result.2 × IsWorker _table.now 3 result.3 }
+    ensures fresh { IsFresh result.0 × IsFresh result.1 × IsFresh result.2 × IsFresh result.3 }
+{
+    four_of(workers)
+}
+
 /// Opens a table with its four workers, for so many ticks. All memory of the run is taken here.
 pub(crate) fn opened(alloc: Global, ticks: u64) -> Result<(LiveTags, Crew), Stop>
     requires { ticks ≤ 1048576 }
@@ -78,12 +98,16 @@ pub(crate) fn opened(alloc: Global, ticks: u64) -> Result<(LiveTags, Crew), Stop
     let Ok((table, workers)) = LiveTags::open(alloc, PLACES, 4) else {
         return Err(Stop::NoMemory);
     };
-    let (input, control, alarms, history) = four_of(workers);
+    let (input, control, alarms, history) = workers_of(&table, workers);
+    let input = hand_of(alloc, &table, 0, input, 2 * ticks + 64)?;
+    let control = hand_of(alloc, &table, 1, control, 3 * ticks)?;
+    let alarms = hand_of(alloc, &table, 2, alarms, 4 * ticks + 16)?;
+    let history = hand_of(alloc, &table, 3, history, ticks + u64::from(RING) + 2)?;
     let crew = Crew {
-        input: hand_of(alloc, input, 2 * ticks + 64)?,
-        control: hand_of(alloc, control, 3 * ticks)?,
-        alarms: hand_of(alloc, alarms, 4 * ticks + 16)?,
-        history: hand_of(alloc, history, ticks + u64::from(RING) + 2)?,
+        input,
+        control,
+        alarms,
+        history,
     };
     Ok((table, crew))
 }
@@ -104,16 +128,12 @@ fn at_ticks<R: Threads + Wait + Clock + Sync>(
     ensures history { IsSameWorker hands.2.who result.2.who }
 {
     let (control, alarms, history) = hands;
-    let closed = Loop {
-        integral: 0,
-        output: 0,
-    };
     let (control, (alarms, history)) = join(
         rt,
         || -> Hand
             requires { IsOf table.now control.who }
             ensures { IsSameWorker control.who result.who }
-        { works(rt, table, ticks, halt, Role::Control(closed), control) },
+        { works(rt, table, ticks, halt, first_control(), control) },
         || -> (Hand, Hand)
             requires { IsOf table.now alarms.who × IsOf table.now history.who }
             ensures { IsSameWorker alarms.who result.0.who × IsSameWorker history.who result.1.who }

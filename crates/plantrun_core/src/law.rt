@@ -99,6 +99,8 @@ pub fn integral_after(set: u64, measured: u64, integral: u64, output: u64) -> u6
     if winds_up || winds_down {
         integral
     } else {
-        (integral + RESET * set).saturating_sub(RESET * measured).min(MOST)
+        (integral + RESET * set)
+            .saturating_sub(RESET * measured)
+            .min(MOST)
     }
 }

@@ -1,4 +1,5 @@
 //! What each thread does.
+#![tactic(auto, using(live_tags::proofs::Crews::same_first, live_tags::proofs::Crews::same_then, live_tags::proofs::Crews::of_same))]
 
 ghost use Rattle.std.specs.Prelude.{◌≡◌, ◌≤◌, ◌<◌, IfOk};
 ghost use Rattle.live_tags.specs.Live.{IsOf, IsSameWorker};
@@ -23,7 +24,6 @@ use trace_text::Source;
 const SCAN: u64 = 5;
 
 /// Computes the output from the measured tag and the set point, and writes it.
-#[tactic(auto, using(live_tags::proofs::Crews::same_first, live_tags::proofs::Crews::same_then, live_tags::proofs::Crews::of_same))]
 fn control<R: Wait + Clock>(
     rt: &R,
     table: &LiveTags,
@@ -52,7 +52,6 @@ fn control<R: Wait + Clock>(
 }
 
 /// Looks at an alarm, and changes the list where it is to be changed.
-#[tactic(auto, using(live_tags::proofs::Crews::same_first, live_tags::proofs::Crews::same_then, live_tags::proofs::Crews::of_same))]
 fn scan<R: Wait + Clock>(
     rt: &R,
     table: &LiveTags,
@@ -66,9 +65,21 @@ fn scan<R: Wait + Clock>(
     ensures did { IfOk result (λ _.
         HasScanned limits.now alarm hand.old.calls.items hand.new.calls.items) }
 {
-    let kept = hand.does(rt, table, Operation::Read { place: LISTED + alarm })?;
+    let kept = hand.does(
+        rt,
+        table,
+        Operation::Read {
+            place: LISTED + alarm,
+        },
+    )?;
     let measured = hand.does(rt, table, Operation::Read { place: alarm })?;
-    let told = hand.does(rt, table, Operation::Read { place: ACKNOWLEDGED + alarm })?;
+    let told = hand.does(
+        rt,
+        table,
+        Operation::Read {
+            place: ACKNOWLEDGED + alarm,
+        },
+    )?;
     match act_of(move_of(limits, kept, measured, told), alarm, told) {
         Some(op) => {
             hand.does(rt, table, op)?;
@@ -79,7 +90,6 @@ fn scan<R: Wait + Clock>(
 }
 
 /// Looks at all alarms.
-#[tactic(auto, using(live_tags::proofs::Crews::same_first, live_tags::proofs::Crews::same_then, live_tags::proofs::Crews::of_same))]
 fn scan_all<R: Wait + Clock>(rt: &R, table: &LiveTags, hand: &mut Hand) -> Result<(), Stop>
     requires { IsOf table.now hand.old.who }
     ensures { IsSameWorker hand.old.who hand.new.who }
@@ -91,13 +101,7 @@ fn scan_all<R: Wait + Clock>(rt: &R, table: &LiveTags, hand: &mut Hand) -> Resul
 }
 
 /// Puts the measured tag into a place of the ring, where there is one.
-#[tactic(auto, using(live_tags::proofs::Crews::same_first, live_tags::proofs::Crews::same_then, live_tags::proofs::Crews::of_same))]
-fn keep<R: Wait + Clock>(
-    rt: &R,
-    table: &LiveTags,
-    hand: &mut Hand,
-    number: u64,
-) -> Result<(), Stop>
+fn keep<R: Wait + Clock>(rt: &R, table: &LiveTags, hand: &mut Hand, number: u64) -> Result<(), Stop>
     requires { IsOf table.now hand.old.who }
     ensures same { IsSameWorker hand.old.who hand.new.who }
     ensures did { IfOk result (λ _.
@@ -123,9 +127,18 @@ pub(crate) enum Role {
     History,
 }
 
+/// What the controller does at its first tick: its output is closed.
+pub(crate) fn first_control() -> Role
+    ensures { IsFine result }
+{
+    Role::Control(Loop {
+        integral: 0,
+        output: 0,
+    })
+}
+
 impl Role {
     /// Does what is due at a tick, and returns what is to be done at the next.
-    #[tactic(auto, using(live_tags::proofs::Crews::same_first, live_tags::proofs::Crews::same_then, live_tags::proofs::Crews::of_same))]
     fn tick<R: Wait + Clock>(
         self,
         rt: &R,
@@ -151,7 +164,6 @@ impl Role {
 }
 
 /// Works at each tick until the last one, or until the plant is halted.
-#[tactic(auto, using(live_tags::proofs::Crews::same_first, live_tags::proofs::Crews::same_then, live_tags::proofs::Crews::of_same))]
 pub(crate) fn works<R: Wait + Clock>(
     rt: &R,
     table: &LiveTags,
@@ -185,7 +197,6 @@ pub(crate) fn works<R: Wait + Clock>(
 
 /// Reads a line, waits for its tick, and writes its tag. `false` at the end of the input, and at a
 /// line whose tick is none of these. The word of the tag tells its line, from 1.
-#[tactic(auto, using(live_tags::proofs::Crews::same_first, live_tags::proofs::Crews::same_then, live_tags::proofs::Crews::of_same))]
 fn take<R: Wait + Clock, S: Source>(
     rt: &R,
     table: &LiveTags,
@@ -216,7 +227,6 @@ fn take<R: Wait + Clock, S: Source>(
 }
 
 /// Writes a reading into its tag.
-#[tactic(auto, using(live_tags::proofs::Crews::same_first, live_tags::proofs::Crews::same_then, live_tags::proofs::Crews::of_same))]
 fn put<R: Wait + Clock>(
     rt: &R,
     table: &LiveTags,
@@ -232,14 +242,15 @@ fn put<R: Wait + Clock>(
     let op = Operation::Write {
         place: reading.tag,
         value: reading.value,
-        quality: number.saturating_mul(2).saturating_add(u64::from(reading.good)),
+        quality: number
+            .saturating_mul(2)
+            .saturating_add(u64::from(reading.good)),
     };
     hand.does(rt, table, op)?;
     Ok(true)
 }
 
 /// Takes the readings of the input. At a line that is wrong it halts the plant.
-#[tactic(auto, using(live_tags::proofs::Crews::same_first, live_tags::proofs::Crews::same_then, live_tags::proofs::Crews::of_same))]
 pub(crate) fn reads<R: Wait + Clock, S: Source>(
     rt: &R,
     table: &LiveTags,
@@ -267,7 +278,6 @@ pub(crate) fn reads<R: Wait + Clock, S: Source>(
 }
 
 /// Reads all places of the ring, in the order of places.
-#[tactic(auto, using(live_tags::proofs::Crews::same_first, live_tags::proofs::Crews::same_then, live_tags::proofs::Crews::of_same))]
 pub(crate) fn rereads<R: Wait + Clock>(rt: &R, table: &LiveTags, hand: Hand) -> Hand
     requires { IsOf table.now hand.who }
     ensures { IsSameWorker hand.who result.who }

@@ -43,19 +43,19 @@ impl Figures {
 
 /// What has a line of its own.
 pub(crate) trait Told {
-    ghost line: { Self → List ℕ };
+    ghost text: { Self → List ℕ };
 
     /// Makes the line, in place of what the buffer held.
     fn fill(&self, line: &mut LineBuffer)
-        ensures { line.new ≡ line self.now };
+        ensures { line.new ≡ text self.now };
 }
 
 /// Writes a line for each, each by one `put`.
 pub(crate) fn write_all<T: Told, K: Sink>(all: &[T], sink: &mut K) -> Result<(), Failed>
     ensures written { OnOk result
-        (Appends (K.held sink.old) (K.held sink.new) (flat_map T.line all.now)) }
+        (Appends (K.held sink.old) (K.held sink.new) (flat_map T.text all.now)) }
     ensures prefix { OnErr result
-        (AppendsPrefix (K.held sink.old) (K.held sink.new) (flat_map T.line all.now)) }
+        (AppendsPrefix (K.held sink.old) (K.held sink.new) (flat_map T.text all.now)) }
 {
     let mut line = LineBuffer::new();
     for one in all {
@@ -66,7 +66,7 @@ pub(crate) fn write_all<T: Told, K: Sink>(all: &[T], sink: &mut K) -> Result<(),
 }
 
 impl Told for Step {
-    ghost line = { step_line };
+    ghost text = { step_line };
 
     fn fill(&self, line: &mut LineBuffer) {
         line.clear();
@@ -80,7 +80,7 @@ impl Told for Step {
 }
 
 impl Told for Figures {
-    ghost line = { figures_line };
+    ghost text = { figures_line };
 
     fn fill(&self, line: &mut LineBuffer) {
         line.clear();
@@ -101,7 +101,7 @@ pub(crate) struct Cycles {
 }
 
 impl Told for Cycles {
-    ghost line = { cycles_line };
+    ghost text = { cycles_line };
 
     fn fill(&self, line: &mut LineBuffer) {
         line.clear();

@@ -17,7 +17,13 @@ fn lines_are_read(rt: HostRuntime) {
         good: true,
     };
     assert_eq!(rt; reading_of(b"12 0 512 1"), Some(reading));
-    for line in [b"12 9 512 1".as_slice(), b"12 0 512", b"", b"12 0 4294967296 1", b"1 0 1 2"] {
+    for line in [
+        b"12 9 512 1".as_slice(),
+        b"12 0 512",
+        b"",
+        b"12 0 4294967296 1",
+        b"1 0 1 2",
+    ] {
         assert_eq!(rt; reading_of(line), None);
     }
 }
@@ -52,10 +58,22 @@ fn an_alarm_goes_its_way(rt: HostRuntime) {
     assert_eq!(rt; move_of(limits, None, high, None), Move::Raise);
     assert_eq!(rt; move_of(limits, None, Some((950_000, 2)), None), Move::Stay);
     assert_eq!(rt; move_of(limits, Some((1, 0)), low, None), Move::Stay);
-    assert_eq!(rt; move_of(limits, Some((1, 0)), low, Some((1, 7))), Move::Acknowledge);
-    assert_eq!(rt; move_of(limits, Some((1, 7)), low, Some((1, 7))), Move::Stay);
-    assert_eq!(rt; move_of(limits, Some((2, 7)), high, Some((1, 7))), Move::Stay);
-    assert_eq!(rt; move_of(limits, Some((2, 7)), low, Some((1, 7))), Move::Clear);
+    assert_eq!(rt;
+        move_of(limits, Some((1, 0)), low, Some((1, 7))),
+        Move::Acknowledge
+    );
+    assert_eq!(rt;
+        move_of(limits, Some((1, 7)), low, Some((1, 7))),
+        Move::Stay
+    );
+    assert_eq!(rt;
+        move_of(limits, Some((2, 7)), high, Some((1, 7))),
+        Move::Stay
+    );
+    assert_eq!(rt;
+        move_of(limits, Some((2, 7)), low, Some((1, 7))),
+        Move::Clear
+    );
 }
 
 // A plant of 40 ticks ends, and all that its threads did has an order.

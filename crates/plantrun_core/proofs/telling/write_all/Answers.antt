@@ -10,5 +10,5 @@ returns-in_err-put-clause-prefix g c =
     λ text. AppendsPrefix (held c.loop-one.sink) (held c.put.new.self) text in
     let front = subst P (c.bytes.ensures ∙ c.fill.ensures) c.in_err-put.ensures.prefix in
     at_err c.from_residual.result
-    (lines_front g.T.Told.line _ _ _ c.args.all.now c.loop-one.one-index _ c.loop-one-test.true
+    (lines_front g.T.Told.text _ _ _ c.args.all.now c.loop-one.one-index _ c.loop-one-test.true
     c.loop-one.invariant front)

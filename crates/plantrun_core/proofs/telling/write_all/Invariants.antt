@@ -7,4 +7,4 @@ use Rattle.plantrun_core.proofs.telling.write_all.Given as goal
 abbrev pub invariant-loop-one : goal.invariant-loop-one
 invariant-loop-one g l =
     let held = g.K.Sink.held in
-    Appends (held l.initial.sink) (held l.sink) (flat_map g.T.Told.line (take l.one-index l.all))
+    Appends (held l.initial.sink) (held l.sink) (flat_map g.T.Told.text (take l.one-index l.all))
