@@ -1,0 +1,250 @@
+"""Makes the readings of a simulated plant, and judges what `plantrun` printed for them.
+
+    plantrun.py make SEED TICKS            prints readings
+    plantrun.py judge TICKS READINGS TOLD  prints figures, or the first line that is wrong (status 1)
+
+The judge is a plain table of 48 tags and four small programs, one for each thread. Each line has to
+be what its thread does next by the lines before it, and its answer what the table has.
+"""
+import sys
+
+PLACES, SENSORS, SET_POINT, ACKNOWLEDGED, OUTPUT, LISTED, KEPT, RING = 48, 4, 4, 5, 9, 10, 14, 32
+SCAN = 5  # ticks from one scan of the alarms to the next, and from one reading that is kept
+SPAN, FULL, GAIN, SCALE = 1_000_000, 1_000, 8, 16_384
+LIMITS = [
+    (100_000, 900_000, 20_000),
+    (200_000, 700_000, 10_000),
+    (0, 800_000, 30_000),
+    (50_000, 950_000, 5_000),
+]
+
+
+class Wrong(Exception):
+    """A line that does not follow from those before it."""
+
+
+def make(seed, ticks):
+    """Values that wander between 0 and 1,000,000; some are bad, and alarms are acknowledged."""
+    state = seed * 2 + 1
+
+    def drawn(below):
+        nonlocal state
+        state = (state * 6364136223846793005 + 1442695040888963407) % 2**64
+        return (state >> 33) % below
+
+    values = [400_000, 450_000, 500_000, 550_000]
+    for tick in range(ticks):
+        if tick % 1000 == 0:
+            print(tick, SET_POINT, 300_000 + drawn(400_000), 1)
+        for sensor in range(SENSORS):
+            if (tick + sensor) % SCAN == 0:
+                step = drawn(60_001) - 30_000
+                values[sensor] = min(max(values[sensor] + step, 0), SPAN)
+                print(tick, sensor, values[sensor], 0 if drawn(50) == 0 else 1)
+        if drawn(40) == 0:
+            print(tick, ACKNOWLEDGED + drawn(SENSORS), 1, 1)
+
+
+def good_value(tag):
+    """The value of a tag whose word is odd, at most SPAN."""
+    return min(tag[0], SPAN) if tag is not None and tag[1] % 2 == 1 else None
+
+
+def wants(wanted, operation):
+    if operation != wanted:
+        raise Wrong(f"wanted {' '.join(map(str, wanted))}")
+
+
+def input_thread(readings, counts):
+    """Writes the readings, each with the number of its line."""
+    for number, (_, tag, value, good) in enumerate(readings, 1):
+        operation, _ = yield
+        wants(("write", tag, value, number * 2 + good), operation)
+        counts["readings"] += 1
+
+
+def control_thread(ticks, counts):
+    """At each tick reads the sensor and the set point, and writes the output."""
+    integral = output = 0
+    for tick in range(ticks):
+        operation, answer = yield
+        wants(("read", 0), operation)
+        measured = good_value(answer)
+        operation, answer = yield
+        wants(("read", SET_POINT), operation)
+        wanted = good_value(answer)
+        good = 0
+        if measured is not None and wanted is not None:
+            good = 1
+            output = min(max((GAIN * (wanted - measured) + integral) // SCALE, 0), FULL)
+            stuck = output == FULL if measured < wanted else output == 0
+            if not stuck:
+                integral = min(max(integral + wanted - measured, 0), FULL * SCALE)
+        operation, _ = yield
+        wants(("write", OUTPUT, output, tick * 2 + good), operation)
+        counts["outputs"] += 1
+
+
+def alarms_thread(ticks, counts):
+    """At each scan looks at each alarm, and raises, acknowledges or clears it."""
+    for _ in range(0, ticks, SCAN):
+        for alarm, (low, high, dead) in enumerate(LIMITS):
+            operation, listed = yield
+            wants(("read", LISTED + alarm), operation)
+            operation, answer = yield
+            wants(("read", alarm), operation)
+            value = good_value(answer)
+            operation, told = yield
+            wants(("read", ACKNOWLEDGED + alarm), operation)
+            word = told[1] if told is not None else 0
+            if listed is None:
+                if value is not None and not low <= value <= high:
+                    operation, _ = yield
+                    wants(("write", LISTED + alarm, 1, word), operation)
+                    counts["raised"] += 1
+            elif listed[0] == 1:
+                if word > listed[1]:
+                    operation, _ = yield
+                    wants(("write", LISTED + alarm, 2, word), operation)
+                    counts["acknowledged"] += 1
+            elif value is not None and low + dead <= value <= high - dead:
+                operation, _ = yield
+                wants(("clear", LISTED + alarm), operation)
+                counts["cleared"] += 1
+
+
+def history_thread(ticks, counts):
+    """Keeps readings of sensor 0 in a ring, and reads the ring at the end."""
+    ring = [None] * RING
+    for number, _ in enumerate(range(0, ticks, SCAN)):
+        operation, answer = yield
+        wants(("read", 0), operation)
+        if answer is not None:
+            operation, _ = yield
+            wants(("write", KEPT + number % RING, *answer), operation)
+            ring[number % RING] = answer
+            counts["kept"] += 1
+    for place, reading in enumerate(ring):
+        operation, answer = yield
+        wants(("read", KEPT + place), operation)
+        if answer != reading:
+            raise Wrong(f"the ring has {reading}")
+
+
+def numbers_of(words):
+    """Numbers as they are printed: digits, with no 0 in front of others."""
+    numbers = tuple(map(int, words))
+    if list(map(str, numbers)) != words:
+        raise Wrong("a number is not spelled as it is printed")
+    return numbers
+
+
+def parsed(line):
+    """The thread, the operation and the answer of a line."""
+    front, _, back = line.partition(" was ")
+    thread, kind, *others = front.split(" ")
+    numbers = numbers_of(others)
+    if {"write": 3, "clear": 1, "read": 1}.get(kind) != len(numbers) or numbers[0] >= PLACES:
+        raise Wrong("no operation")
+    answer = None if back == "none" else numbers_of(back.split(" "))
+    if answer is not None and len(answer) != 2:
+        raise Wrong("no answer")
+    return thread, (kind, *numbers), answer
+
+
+def judge(ticks, readings, told):
+    """Reads the lines told one after the other, and prints figures."""
+    counts = dict.fromkeys(
+        ["readings", "outputs", "raised", "acknowledged", "cleared", "kept"], 0
+    )
+    taken = []
+    for reading in readings:
+        if reading[0] >= ticks:
+            break
+        taken.append(reading)
+    threads = {
+        "input": input_thread(taken, counts),
+        "control": control_thread(ticks, counts),
+        "alarms": alarms_thread(ticks, counts),
+        "history": history_thread(ticks, counts),
+    }
+    ended = set()
+
+    def go_on(name, item):
+        """Lets a thread go on until it wants its next operation."""
+        try:
+            threads[name].send(item)
+        except StopIteration:
+            ended.add(name)
+
+    for name in threads:
+        go_on(name, None)
+    table = [None] * PLACES
+    operations = 0
+    for line in told:
+        if " was " not in line:
+            last = line
+            break
+        name, operation, answer = parsed(line)
+        if name in ended or name not in threads:
+            raise Wrong("this thread does no more")
+        place = operation[1]
+        if answer != table[place]:
+            raise Wrong(f"the tag was {table[place]}")
+        if operation[0] == "write":
+            table[place] = operation[2:]
+        elif operation[0] == "clear":
+            table[place] = None
+        go_on(name, (operation, answer))
+        operations += 1
+    else:
+        raise Wrong("there are no figures")
+    if ended != set(threads):
+        raise Wrong(f"not ended: {', '.join(sorted(set(threads) - ended))}")
+    figures = judge_figures(last, told, ticks, counts["readings"])
+    print(f"judged {operations} operations:", ", ".join(f"{k} {v}" for k, v in counts.items()))
+    for line in figures:
+        print(line)
+
+
+def judge_figures(first, told, ticks, readings):
+    """The lines at the end: the figures of each thread, and the cycles."""
+    lines = [first, *told]
+    names = ["input", "control", "alarms", "history"]
+    if len(lines) != 5 or not lines[4].startswith("end cycles "):
+        raise Wrong("wanted four lines of figures, and the cycles")
+    for name, line in zip(names, lines):
+        done = readings if name == "input" else ticks
+        words = line.split(" ")
+        if words[:4] != [name, "ticks", str(done), "late"] or words[5] != "longest":
+            raise Wrong(f"wanted {name} ticks {done} late .. longest .., not {line}")
+    return lines
+
+
+def main():
+    mode, *words = sys.argv[1:]
+    if mode == "make":
+        make(int(words[0]), int(words[1]))
+        return 0
+    ticks = int(words[0])
+    readings = [tuple(map(int, line.split(" "))) for line in open(words[1], encoding="ascii")]
+    number = 0
+
+    def lines():
+        nonlocal number
+        for line in open(words[2], encoding="ascii"):
+            number += 1
+            if not line.endswith("\n"):
+                raise Wrong("no line feed")
+            yield line[:-1]
+
+    try:
+        judge(ticks, readings, lines())
+    except (Wrong, ValueError) as wrong:
+        print(f"line {number}: {wrong}")
+        return 1
+    return 0
+
+
+if __name__ == "__main__":
+    sys.exit(main())
