@@ -20,7 +20,7 @@ use Rattle.control_heap.specs.declared.control.Refused.{Refused}
 use Rattle.control_heap.specs.declared.control.Refused.TheVariants as refusals
 use Rattle.control_heap.specs.declared.faults.Fault.{Fault}
 use Rattle.control_heap.specs.Controls.{ControlOf, Stands, Answers, HasAnswered, HasLeft, HasMade, asked, entries_in}
-use Rattle.control_heap.specs.Calls.{MayAnswer, Says, HasAsked, HasTold, outcome_of}
+use Rattle.control_heap.specs.Calls.{MayAnswer, Says, HasAsked, IsOutcome, WasRefused, outcome_of}
 use Rattle.control_heap.specs.Refusals.{IsRefused}
 use Rattle.control_heap.proofs.HeapAsRun.{kept_of}
 
@@ -74,7 +74,7 @@ may_full : (k : Command) (a : Reply) → is_full a ≡ true → makes_object k �
 may_full k (replies.Full c) f m = m
 may_full k _ f m = absurd cc
 
-may_answered : (g : Graph) (e : Entry) → IsAnswered g (Did e) → MayAnswer e.command e.reply
+pub may_answered : (g : Graph) (e : Entry) → IsAnswered g (Did e) → MayAnswer e.command e.reply
 may_answered g e (inl is) = subst (MayAnswer e.command) (sym is) (may_step g e.thread e.command)
 may_answered g e (inr full) = may_full e.command e.reply full.0 full.1
 
@@ -120,13 +120,9 @@ module _ {M : Type 0} (old new : ControlOf M) (k : Command) (a : Reply) (same : 
 
 -- ---- what a call tells
 
-module _ {M : Type 0} (acts : Acts M (Unit {0})) (old new : ControlOf M) (k : Command) where
-  refused_told : (r : Refused) → IsRefused old k r → new ≡ old → HasTold (λ a. a) acts old k new (outcome_of (Err r))
-  refused_told refusals.OutOfBounds is same = (is, same)
-  refused_told refusals.NoLifeLeft is same = (is, same)
-
-  reply_told : (a : Reply) → MayAnswer k a → HasAsked acts old k a new
-      → HasTold (λ x. x) acts old k new (outcome_of (Ok a)) × IfOk (outcome_of (Ok a)) (Says k)
+module _ (done : Reply → Type 0) (refused : Refused → Type 0) (k : Command) where
+  reply_told : (a : Reply) → MayAnswer k a → done a
+      → IsOutcome (λ x. x) done refused k (outcome_of (Ok a)) × IfOk (outcome_of (Ok a)) (Says k)
   reply_told (replies.Full c) may is = ((may, is), tt)
   reply_told replies.Null may is = ((may, is), tt)
   reply_told replies.Kind may is = ((may, is), tt)
@@ -139,35 +135,42 @@ module _ {M : Type 0} (acts : Acts M (Unit {0})) (old new : ControlOf M) (k : Co
   reply_told replies.No may is = (is, may)
   reply_told replies.Idle may is = (is, may)
 
-  refused_says : (r : Refused) → IfOk (outcome_of (Err r)) (Says k)
-  refused_says refusals.OutOfBounds = tt
-  refused_says refusals.NoLifeLeft = tt
+  refusal_told : (r : Refused) → refused r
+      → IsOutcome (λ x. x) done refused k (outcome_of (Err r)) × IfOk (outcome_of (Err r)) (Says k)
+  refusal_told refusals.OutOfBounds is = (is, tt)
+  refusal_told refusals.NoLifeLeft is = (is, tt)
 
-  pub told_of : (x : Result Reply Refused)
+  pub outcome_told : (x : Result Reply Refused) → IfOk x (MayAnswer k) → IfOk x done → IfErr x refused
+      → IsOutcome (λ a. a) done refused k (outcome_of x) × IfOk (outcome_of x) (Says k)
+  outcome_told (Ok a) may is none = reply_told a may is
+  outcome_told (Err r) may is none = refusal_told r none
+
+  pub told_call : (x : Result Reply Refused) (y : Result Reply Fault) → y ≡ outcome_of x
+      → IfOk x (MayAnswer k) → IfOk x done → IfErr x refused → IsOutcome (λ a. a) done refused k y
+  told_call x y is may done_ refused_ = subst (IsOutcome (λ a. a) done refused k) (sym is) (outcome_told x may done_ refused_).0
+
+module _ {M : Type 0} (acts : Acts M (Unit {0})) (old new : ControlOf M) (k : Command) where
+  pub all_asked : (x : Result Reply Refused)
       → OnOk x (IsCommandInBounds old.config k × HasLeft old k)
       → OnOk x (asked new ≡ asked old + 1)
       → OnOk x (new.objects ≡ old.objects + objects_of k)
       → IfOk x (λ a. HasAnswered old k a new)
       → OnOk x (HasMade acts old k new)
-      → IfOk x (MayAnswer k)
-      → IfErr x (IsRefused old k)
-      → OnErr x (new ≡ old)
-      → HasTold (λ a. a) acts old k new (outcome_of x) × IfOk (outcome_of x) (Says k)
-  told_of (Ok a) can more objects answered made may refused same = reply_told a may (record {
+      → IfOk x (λ a. HasAsked acts old k a new)
+  all_asked (Ok a) can more objects answered made = record {
     bounds = can.0;
     left = can.1;
     one_more = more;
     objects = objects;
     answered = answered;
     made = made;
-  })
-  told_of (Err r) can more objects answered made may refused same = (refused_told r refused same, refused_says r)
+  }
+  all_asked (Err r) can more objects answered made = tt
 
--- and of the outcome of a call
-pub told_call : {M : Type 0} (acts : Acts M (Unit {0})) (old new : ControlOf M) (k : Command)
-    (x : Result Reply Refused) (y : Result Reply Fault) → y ≡ outcome_of x
-    → HasTold (λ a. a) acts old k new (outcome_of x) → HasTold (λ a. a) acts old k new y
-told_call acts old new k x y is told = subst (λ z. HasTold (λ a. a) acts old k new z) (sym is) told
+  pub all_refused : (x : Result Reply Refused) → IfErr x (IsRefused old k) → OnErr x (new ≡ old)
+      → IfErr x (WasRefused old k new)
+  all_refused (Ok a) is same = tt
+  all_refused (Err r) is same = (is, same)
 
 pub may_now : {M : Type 0} (h now : ControlOf M) → h ≡ now → (r : Run) → Stands h r → (new : ControlOf M)
     (k : Command) (a : Reply) → new.config ≡ h.config → HasAnswered now k a new → MayAnswer k a

@@ -1,12 +1,12 @@
 -- What the gauges read.
-use Rattle.std.proofs.Common.{◌≡◌, ℕ, ◌+◌, ◌-◌, ◌*◌, ◌<◌, ◌≤◌, true, length, refl, sym, ap, ◌∙◌, subst, arith}
+use Rattle.std.proofs.Common.{◌≡◌, ℕ, ◌+◌, ◌-◌, ◌*◌, ◌<◌, ◌≤◌, max, true, false, length, refl, sym, ap, ◌∙◌, subst, arith}
 use Rattle.block_store.specs.declared.Config.{Config}
 use Rattle.block_store.specs.declared.Width.{Width}
 use Rattle.block_store.specs.declared.Width.TheVariants.{Four, Eight}
 use Rattle.block_store.specs.Configs.{IsInBounds}
 use Rattle.block_store.specs.Counts.{total}
 use Rattle.block_store.specs.Heaps.{heap_of}
-use Rattle.block_store.specs.Phases.{cycle_of}
+use Rattle.block_store.specs.Phases.{cycle_of, is_sweep}
 use Rattle.block_store.specs.Places.{ColourOf, FreeCount, Phase, extent, words_count}
 use Rattle.block_store.specs.Registers.{registers_end}
 use Rattle.block_store.specs.Widths.{payloads}
@@ -15,6 +15,8 @@ use Rattle.rate_plan.specs.Rates.{IsAdmitted, IsRate}
 use Rattle.never_heap.specs.declared.Command.{Command}
 use Rattle.never_heap.specs.declared.Command.TheVariants as commands
 use Rattle.never_heap.specs.Bounds.{IsCommandInBounds}
+use Rattle.never_heap.specs.Cycles.{graph_at}
+use Rattle.never_heap.specs.Given.{given}
 use Rattle.never_heap.specs.Histories.{replay, starts_in}
 use Rattle.never_heap.specs.LiveBlocks.{live_blocks}
 use Rattle.never_heap.specs.RightWork.{units_owed, units_told}
@@ -23,19 +25,26 @@ use Rattle.never_heap.proofs.StepAnswers.{owes_told}
 use Rattle.lone_bound.specs.Near.{near_bound, near_other_bound}
 use Rattle.heap_machine.specs.FreeBlocks.{FreeKept, count_free}
 use Rattle.heap_machine.specs.Holdings.{free_held, holds_nothing}
-use Rattle.heap_system.specs.Locals.{is_rest}
+use Rattle.cycle_tally.specs.Kept.{live_before}
+use Rattle.cycle_tally.specs.Tallies.{given_now, reserved_now}
+use Rattle.heap_system.specs.Locals.{is_rest, view}
 use Rattle.heap_system.specs.Machines.{Run, heap_in, local_in}
 use Rattle.heap_system.specs.Pictures.{holding, holdings_in}
 use Rattle.heap_system.specs.Alone.{most_events}
 use Rattle.heap_system.proofs.Kept.{Kept}
+use Rattle.heap_system.proofs.LawsOf.{laws_of}
+use Rattle.heap_system.proofs.RunTally.{RunTallied, run_tallied}
 use Rattle.heap_system.proofs.SystemStart.{one_rate}
+use Rattle.heap_system.proofs.TalliesOf.{tallies_of}
+use Rattle.heap_system.proofs.TallyLaw.{reserved_for}
 use Rattle.heap_system.proofs.TurnFacts.{rest_is}
 use Rattle.heap_system.proofs.alone.Near.{makes_near, owes_blocks, serves_near}
 use Rattle.control_heap.specs.Controls.{ControlOf, Stands}
-use Rattle.control_heap.specs.Gauges.{most_operations}
+use Rattle.control_heap.specs.Gauges.{cycle_before, live_at_start, live_or_made, most_operations}
 use Rattle.control_heap.proofs.CommandBound.{config_is, rate_is, rests}
 use Rattle.control_heap.proofs.HeapAsRun.{kept_of}
-use Rattle.control_heap.proofs.InUse.{live_few}
+use Rattle.control_heap.proofs.InUse.{live_few, start_few}
+use Rattle.control_heap.proofs.KnownAtStart.{knows_start}
 
 module _ {M : Type 0} (h : ControlOf M) (r : Run) (st : Stands h r) where
   kept : Kept h.config st.run.after.traces r
@@ -78,6 +87,10 @@ one_block : (w : Width) → blocks_of w (commands.New 0 0) ≡ 1
 one_block Four = refl
 one_block Eight = refl
 
+-- what the smallest object owes is the rate
+pub owes_rate : (w : Width) (rate n : ℕ) → n ≡ units_owed w rate (commands.New 0 0) → n ≡ rate
+owes_rate w rate n is = is ∙ (ap (λ b. rate * b + 0) (one_block w) ∙ omega arith)
+
 pub smallest_fits : (c : Config) → IsInBounds c → IsCommandInBounds c (commands.New 0 0)
 smallest_fits c is = record {
   range = (omega arith, omega arith);
@@ -92,8 +105,7 @@ module _ {M : Type 0} (h : ControlOf M) (r : Run) (st : Stands h r) where
 
   pub rate_told : (now : ControlOf M) → h ≡ now → (n : ℕ) → n ≡ units_owed h.thread.config.width h.thread.rate (commands.New 0 0) → IsRate now.config n
   rate_told now same n is =
-      let one = one_block h.thread.config.width in
-      let e : n ≡ h.thread.rate = is ∙ (ap (λ b. h.thread.rate * b + 0) one ∙ omega arith) in
+      let e : n ≡ h.thread.rate = owes_rate h.thread.config.width h.thread.rate n is in
       subst (λ (x : ControlOf M). IsRate x.config n) same (subst (λ p. IsRate h.config p) (sym e) (rate_is h r st))
 
 -- ---- the most operations
@@ -152,3 +164,32 @@ module _ {M : Type 0} (h : ControlOf M) (r : Run) (st : Stands h r) where
 
   pub in_use_told : (n : ℕ) → n ≡ h.config.blocks - count_free (extent h.config) (λ x. heap_of (extent h.config) h.words (ColourOf x)) → live_blocks h.config.width (replay h.config r.order) ≤ n
   in_use_told n is = omega (arith, is, live_here)
+
+  pub start_told : (n : ℕ) → n ≡ h.config.blocks - count_free (extent h.config) (λ x. heap_of (extent h.config) h.words (ColourOf x)) → is_sweep (heap_of (extent h.config) h.words Phase) ≡ false → live_at_start h.config r.order ≤ n
+  start_told n is mark =
+      let a = st.run.after in
+      let here : is_sweep (heap_in h.config r.state Phase) ≡ false = ap (λ ws. is_sweep (heap_of (extent h.config) ws Phase)) st.words ∙ mark in
+      let some = start_few h.config a.traces r (kept_of h.config st.single r a) (roots_low h.config a.job.plan) here (knows_start h.config r a) in
+      let low = subst (λ ws. live_at_start h.config r.order + count_free (extent h.config) (λ x. heap_of (extent h.config) ws (ColourOf x)) ≤ h.config.blocks) st.words some in
+      omega (arith, is, low)
+
+  -- the tally's account of the blocks, where nothing is reserved
+  reserved_none : (rate : ℕ) → (counts : RunTallied h.config rate r) → reserved_now h.config.threads counts.tally ≡ 0
+  reserved_none rate counts = total_none h.config.threads _ (λ t tl.
+      let zero_is : 0 ≡ t = (let s = st.single in omega (arith, tl, s)) in
+      let rest : is_rest (local_in h.config r 0).part ≡ true = ap (λ l. is_rest l.part) st.thread ∙ rests h r st in
+      let none : reserved_for h.config.width (view h.config (local_in h.config r 0).part).build ≡ 0 = ap (λ p. reserved_for h.config.width (view h.config p).build) (rest_is (local_in h.config r 0).part rest) in
+      (counts.threads t tl).reserved ∙ subst (λ u. reserved_for h.config.width (view h.config (local_in h.config r u).part).build ≡ 0) zero_is none)
+
+  pub made_told : (n : ℕ) → n ≡ h.config.blocks - count_free (extent h.config) (λ x. heap_of (extent h.config) h.words (ColourOf x)) → n ≤ live_or_made h.config r.order
+  made_told n is =
+      let c = h.config in
+      let a = st.run.after in
+      let rate = a.by_turns.opening.rate in
+      let counts : RunTallied c rate r = run_tallied c a.traces a.job rate a.by_turns.opening.planned (laws_of c) (tallies_of c) a.turns r a.by_turns in
+      let free : counts.tally.free ≡ count_free (extent c) (λ x. heap_of (extent c) h.words (ColourOf x)) = counts.of.free ∙ ap (λ ws. heap_of (extent c) ws FreeCount) st.words ∙ free_here h r st in
+      let cycle : counts.tally.cycle ≡ starts_in r.order = sym counts.kept.starts ∙ ap starts_in counts.of.order in
+      let before : live_before c counts.tally ≡ live_blocks c.width (graph_at c r.order (cycle_before r.order)) = λ i. live_blocks c.width (graph_at c (counts.of.order i) (max 1 (cycle i - 1))) in
+      let last : given c.width counts.tally.order (counts.tally.cycle - 1) ≡ given c.width r.order (starts_in r.order - 1) = λ i. given c.width (counts.of.order i) (cycle i - 1) in
+      let now : given_now c.threads counts.tally ≡ given c.width r.order (starts_in r.order) = counts.kept.handed ∙ (λ i. given c.width (counts.of.order i) (cycle i)) in
+      omega (arith, is, free, before, last, now, counts.kept.room, reserved_none rate counts)

@@ -8,17 +8,21 @@ use Rattle.block_store.specs.declared.Name.{Name}
 use Rattle.block_store.specs.declared.Width.{Width}
 use Rattle.block_store.specs.Colours.{is_free}
 use Rattle.block_store.specs.Counts.{times, total}
-use Rattle.block_store.specs.Phases.{bit}
-use Rattle.block_store.specs.Places.{ColourOf, extent}
+use Rattle.block_store.specs.Phases.{bit, is_sweep}
+use Rattle.block_store.specs.Places.{ColourOf, Phase, extent}
 use Rattle.block_store.specs.Registers.{registers_end}
 use Rattle.block_store.proofs.Functions.{total_none}
 use Rattle.never_heap.specs.declared.Command.{Command}
-use Rattle.never_heap.specs.Graphs.{Graph, object_of, same_name}
-use Rattle.never_heap.specs.Histories.{replay}
+use Rattle.never_heap.specs.Cycles.{after_start, before_start, graph_at}
+use Rattle.never_heap.specs.Graphs.{Graph, object_of, same_name, start_graph}
+use Rattle.never_heap.specs.Histories.{replay, replay_from, starts_in}
 use Rattle.never_heap.specs.LiveBlocks.{live_blocks, live_of, object_blocks}
 use Rattle.never_heap.specs.Reach.{names, reachable}
 use Rattle.never_heap.proofs.LiveBlocksBound.{once_below}
 use Rattle.never_heap.proofs.NameLists.{same_itself}
+use Rattle.never_heap.proofs.ReachSteps.{reachable_named}
+use Rattle.never_heap.proofs.StartGraph.{threads_of_start}
+use Rattle.never_heap.proofs.UnchangedBySteps.{replay_shape}
 use Rattle.shown_graph.specs.Events.{pending_registers}
 use Rattle.shown_graph.specs.Words.{block_words}
 use Rattle.shown_graph.proofs.WordReads.{blocks_apart}
@@ -29,8 +33,11 @@ use Rattle.heap_machine.specs.FreeBlocks.{count_free}
 use Rattle.heap_system.specs.Machines.{Run, heap_in}
 use Rattle.heap_system.specs.Pictures.{kept_state, tasks_in}
 use Rattle.heap_system.proofs.Kept.{Kept as KeptRun}
+use Rattle.cycle_tally.specs.InUse.{graph_then}
+use Rattle.cycle_tally.proofs.MadeNames.{replay_parts, same_blocks, threads_of_replay}
 use Rattle.cycle_tally.proofs.BlockLists.{blocks_at, length_blocks, length_these, these, times_append, total_plus}
 use Rattle.cycle_tally.proofs.Sums.{total_below}
+use Rattle.control_heap.proofs.KnownAtStart.{KnowsStart}
 
 none_above : (n y : ℕ) → n < y → total n (λ x. bit (eqb (suc x) y)) ≡ 0
 none_above zero y h = refl
@@ -193,6 +200,13 @@ both_counts : (m : ℕ) (free : ℕ → Bool) → total m (λ x. bit (free (suc 
 both_counts zero free = refl
 both_counts (suc m) free = omega (arith, both_counts m free, one_of (free (suc m)))
 
+-- what was live in an earlier graph, of which all that it reached is kept, and has the same sizes
+pub record IsKeptNow (c : Config) (r : Run) (g : Graph) : Type 0 where
+  pub threads : length g.mutators ≡ c.threads
+  pub kept : (a : Name) → reachable g a ≡ true → r.names.kept a ≡ true
+  pub sizes : (a : Name) → reachable g a ≡ true
+      → object_blocks c.width (object_of g a) ≡ object_blocks c.width (object_of (replay c r.order) a)
+
 module _ (c : Config) (traces : List (List Command)) (r : Run) (kept : KeptRun c traces r) (high : registers_end c.width c.threads ≤ c.blocks) where
   abbrev graph : Graph
   graph = replay c r.order
@@ -200,40 +214,64 @@ module _ (c : Config) (traces : List (List Command)) (r : Run) (kept : KeptRun c
   abbrev free_at : ℕ → Bool
   free_at x = is_free (heap_in c r.state (ColourOf x))
 
-  -- a block that is counted is of an object that is reached
-  reached : (a : Name) (o : ℕ) → o < live_of c.width graph a → (reachable graph a ≡ true) × (o < object_blocks c.width (object_of graph a))
-  reached a o l = elim (cases_Bool (reachable graph a)) [
-    | inl is ↦ (is, subst (λ b. o < cond b (object_blocks c.width (object_of graph a)) 0) is l)
-    | inr not_it ↦ absurd (let z : o < 0 = subst (λ b. o < cond b (object_blocks c.width (object_of graph a)) 0) not_it l in omega (arith, z))
-  ]
-
-  its : (a : Name) → reachable graph a ≡ true → r.names.kept a ≡ true
-  its a is = reached_kept c (kept_state c r) kept.names a is
-
-  live_apart : (a b : Name) (o p : ℕ) → o < live_of c.width graph a → p < live_of c.width graph b → r.names.at a o ≡ r.names.at b p → (a ≡ b) × (o ≡ p)
-  live_apart a b o p ol pl e =
-      let x = reached a o ol in
-      let y = reached b p pl in
-      blocks_apart c.width c.threads c.blocks (Kept (kept_state c r)) graph r.names.at (block_words (heap_in c r.state)) (pending_registers (λ t. (tasks_in c r.state t).loading))
-      kept.names.follows.shows a b o p (its a x.0) (its b y.0) x.1 y.1 e
-
-  live_placed : (a : Name) (o : ℕ) → o < live_of c.width graph a → (registers_end c.width c.threads < r.names.at a o) × (r.names.at a o ≤ c.blocks)
-  live_placed a o l =
-      let x = reached a o l in
-      let p = kept.names.follows.shows.placed in (p.behind a o (its a x.0) x.1, p.within a o (its a x.0) x.1)
-
-  live_used : (a : Name) (o : ℕ) → o < live_of c.width graph a → free_at (r.names.at a o) ≡ false
-  live_used a o l =
-      let x = reached a o l in
-      reached_solid c (kept_state c r) kept.names (r.names.at a o) (inr (record { name = a; ordinal = o; kept = x.0; low = x.1; is = refl }))
-
   roots_used : (x : ℕ) → 0 < x → x ≤ registers_end c.width c.threads → free_at x ≡ false
   roots_used x pos low = reached_solid c (kept_state c r) kept.names x (inl (pos, low))
 
+  module _ (g : Graph) (now : IsKeptNow c r g) where
+    -- a block that is counted is of an object that was reached
+    reached : (a : Name) (o : ℕ) → o < live_of c.width g a → (r.names.kept a ≡ true) × (o < object_blocks c.width (object_of graph a))
+    reached a o l = elim (cases_Bool (reachable g a)) [
+      | inl is ↦ (
+        now.kept a is,
+        subst (λ n. o < n) (now.sizes a is) (subst (λ b. o < cond b (object_blocks c.width (object_of g a)) 0) is l),
+      )
+      | inr not_it ↦ absurd (let z : o < 0 = subst (λ b. o < cond b (object_blocks c.width (object_of g a)) 0) not_it l in omega (arith, z))
+    ]
+
+    live_apart : (a b : Name) (o p : ℕ) → o < live_of c.width g a → p < live_of c.width g b → r.names.at a o ≡ r.names.at b p → (a ≡ b) × (o ≡ p)
+    live_apart a b o p ol pl e =
+        let x = reached a o ol in
+        let y = reached b p pl in
+        blocks_apart c.width c.threads c.blocks (Kept (kept_state c r)) graph r.names.at (block_words (heap_in c r.state)) (pending_registers (λ t. (tasks_in c r.state t).loading))
+        kept.names.follows.shows a b o p x.0 y.0 x.1 y.1 e
+
+    live_placed : (a : Name) (o : ℕ) → o < live_of c.width g a → (registers_end c.width c.threads < r.names.at a o) × (r.names.at a o ≤ c.blocks)
+    live_placed a o l =
+        let x = reached a o l in
+        let p = kept.names.follows.shows.placed in (p.behind a o x.0 x.1, p.within a o x.0 x.1)
+
+    live_used : (a : Name) (o : ℕ) → o < live_of c.width g a → free_at (r.names.at a o) ≡ false
+    live_used a o l =
+        let x = reached a o l in
+        kept.names.painted.solid a o x.0 x.1
+
+    pub few_then : live_blocks c.width g + count_free (extent c) (λ x. heap_in c r.state (ColourOf x)) ≤ c.blocks
+    few_then =
+        let some = few g r.names.at (live_of c.width g) live_apart c.blocks (registers_end c.width c.threads) free_at high live_placed roots_used live_used in
+        let both = both_counts c.blocks free_at in
+        let ends : registers_end c.width (length g.mutators) ≡ registers_end c.width c.threads = ap (registers_end c.width) now.threads in
+        let sum = live_sum c.width g in
+        omega (arith, some, both, ends, sum)
+
   pub live_few : live_blocks c.width graph + count_free (extent c) (λ x. heap_in c r.state (ColourOf x)) ≤ c.blocks
-  live_few =
-      let some = few graph r.names.at (live_of c.width graph) live_apart c.blocks (registers_end c.width c.threads) free_at high live_placed roots_used live_used in
-      let both = both_counts c.blocks free_at in
-      let ends : registers_end c.width (length graph.mutators) ≡ registers_end c.width c.threads = ap (registers_end c.width) kept.names.follows.shows.sized.threads in
-      let sum = live_sum c.width graph in
-      omega (arith, some, both, ends, sum)
+  live_few = few_then graph (record {
+    threads = kept.names.follows.shows.sized.threads;
+    kept = reached_kept c (kept_state c r) kept.names;
+    sizes = λ a is. refl;
+  })
+
+  -- while the phase is Mark nothing that was live at its start was freed
+  pub start_few : is_sweep (heap_in c r.state Phase) ≡ false → KnowsStart c r → live_blocks c.width (graph_then c r.order) + count_free (extent c) (λ x. heap_in c r.state (ColourOf x)) ≤ c.blocks
+  start_few mark known =
+      let z = starts_in r.order in
+      let some : 1 ≤ z = (let o = kept.names.ordered in omega (arith, o.some, o.started)) in
+      let first : Graph = graph_at c r.order z in
+      let on : replay c r.order ≡ replay_from first (after_start z r.order) = replay_parts (start_graph c) r.order z some (omega arith) in
+      few_then first (record {
+        threads = threads_of_replay (start_graph c) (before_start z r.order) ∙ threads_of_start c;
+        kept = λ a is. (kept.names.marking mark).all a (known a is);
+        sizes = λ a is.
+            let shape = replay_shape first (after_start z r.order) a (reachable_named c (before_start z r.order) a is) in
+            sym (same_blocks c.width (object_of first a) (object_of (replay_from first (after_start z r.order)) a) shape)
+            ∙ ap (λ (q : Graph). object_blocks c.width (object_of q a)) (sym on);
+      })

@@ -7,8 +7,10 @@ pub mod Items
 pub mod Left
 pub mod OpeningRun
 pub mod Fitting
+pub mod KnownAtStart
 pub mod InUse
 pub mod GaugesRead
+pub mod FieldsRead
 pub mod Pace
 pub mod WayBacks
 pub mod GrownJobs

@@ -92,26 +92,32 @@ pub record HasAsked {M : Type 0} (acts : Acts M (Unit {0})) (old : ControlOf M) 
   pub answered : HasAnswered old k a new
   pub made : HasMade acts old k new
 
--- when each fault comes: the command was done and had that reply, which it can have; or it was
--- refused for that cause, and the heap is unchanged
-abbrev pub HasFault : {M : Type 0} → Acts M (Unit {0}) → ControlOf M → Command → ControlOf M → Fault
-    → Type 0
-HasFault acts old k new (faults.Full c) =
-    (makes_object k ≡ true) × HasAsked acts old k (replies.Full c) new
-HasFault acts old k new faults.Null =
-    (has_base (operands k) ≡ true) × HasAsked acts old k replies.Null new
-HasFault acts old k new faults.Kind =
-    (has_base (operands k) ≡ true) × HasAsked acts old k replies.Kind new
-HasFault acts old k new faults.Range =
-    (has_field (operands k) ≡ true) × HasAsked acts old k replies.Range new
-HasFault acts old k new faults.OutOfBounds = IsRefused old k refusals.OutOfBounds × (new ≡ old)
-HasFault acts old k new faults.NoLifeLeft = IsRefused old k refusals.NoLifeLeft × (new ≡ old)
+-- When each fault comes, where `done` says what holds if the command was executed and had a reply,
+-- and `refused` what holds if it was refused: it had that reply, which it can have; or it was refused
+-- for that cause.
+abbrev pub IsFaultOf : (Reply → Type 0) → (Refused → Type 0) → Command → Fault → Type 0
+IsFaultOf done refused k (faults.Full c) = (makes_object k ≡ true) × done (replies.Full c)
+IsFaultOf done refused k faults.Null = (has_base (operands k) ≡ true) × done replies.Null
+IsFaultOf done refused k faults.Kind = (has_base (operands k) ≡ true) × done replies.Kind
+IsFaultOf done refused k faults.Range = (has_field (operands k) ≡ true) × done replies.Range
+IsFaultOf done refused k faults.OutOfBounds = refused refusals.OutOfBounds
+IsFaultOf done refused k faults.NoLifeLeft = refused refusals.NoLifeLeft
 
--- The result of a call: the command was done, and its reply carries this value; or a fault.
+-- The result of a call, in these words: the command was executed, and its reply carries this value;
+-- or a fault. The heap may be any that executes commands.
+abbrev pub IsOutcome : {T : Type 0} → (T → Reply) → (Reply → Type 0) → (Refused → Type 0) → Command
+    → Result T Fault → Type 0
+IsOutcome says done refused k (Ok x) = done (says x)
+IsOutcome says done refused k (Err f) = IsFaultOf done refused k f
+
+-- of this heap: a command that is refused leaves it unchanged
+abbrev pub WasRefused : {M : Type 0} → ControlOf M → Command → ControlOf M → Refused → Type 0
+WasRefused old k new r = IsRefused old k r × (new ≡ old)
+
 abbrev pub HasTold : {M T : Type 0} → (T → Reply) → Acts M (Unit {0}) → ControlOf M → Command
     → ControlOf M → Result T Fault → Type 0
-HasTold says acts old k new (Ok x) = HasAsked acts old k (says x) new
-HasTold says acts old k new (Err f) = HasFault acts old k new f
+HasTold says acts old k new =
+    IsOutcome says (λ a. HasAsked acts old k a new) (WasRefused old k new) k
 
 -- the replies that carry no value, and yes or no
 abbrev pub stored : Unit {0} → Reply

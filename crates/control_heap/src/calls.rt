@@ -4,87 +4,12 @@
 ghost use Rattle.std.specs.Prelude.{◌≡◌, IfOk};
 ghost use Rattle.never_heap.specs.declared.Command.TheVariants as commands;
 ghost use Rattle.never_heap.specs.declared.Reply.TheVariants as replies;
-ghost use Rattle.control_heap.specs.Calls.{HasTold, IsIdle, IsLength, IsName, IsStored, IsTest, IsValue, Says, idled, outcome_of, stored, tested};
+ghost use Rattle.control_heap.specs.Calls.{HasTold, Says, idled, stored, tested};
 
-use crate::{ControlHeap, Fault, Refused, Store};
+use crate::outcomes::{idle_in, length_in, name_in, outcome_of, stored_in, test_in, value_in};
+use crate::{ControlHeap, Fault, Store};
 use block_store::{Name, Value};
 use never_heap::{Command, Reply};
-
-// Turns replies that carry no result (`Full`, `Null`, `Kind`, `Range`) and refusals into faults.
-fn outcome_of(asked: Result<Reply, Refused>) -> Result<Reply, Fault>
-    ensures { result ≡ outcome_of asked }
-{
-    match asked {
-        Ok(Reply::Full(cycle)) => Err(Fault::Full(cycle)),
-        Ok(Reply::Null) => Err(Fault::Null),
-        Ok(Reply::Kind) => Err(Fault::Kind),
-        Ok(Reply::Range) => Err(Fault::Range),
-        Ok(Reply::New(name)) => Ok(Reply::New(name)),
-        Ok(Reply::Stored) => Ok(Reply::Stored),
-        Ok(Reply::Val(value)) => Ok(Reply::Val(value)),
-        Ok(Reply::Len(length)) => Ok(Reply::Len(length)),
-        Ok(Reply::Yes) => Ok(Reply::Yes),
-        Ok(Reply::No) => Ok(Reply::No),
-        Ok(Reply::Idle) => Ok(Reply::Idle),
-        Err(refused) => Err(Fault::from(refused)),
-    }
-}
-
-fn name_in(reply: Reply) -> Name
-    requires { IsName reply }
-    ensures { reply ≡ replies.New result }
-{
-    let Reply::New(name) = reply else {
-        unreachable!()
-    };
-    name
-}
-
-fn value_in(reply: Reply) -> Value
-    requires { IsValue reply }
-    ensures { reply ≡ replies.Val result }
-{
-    let Reply::Val(value) = reply else {
-        unreachable!()
-    };
-    value
-}
-
-fn length_in(reply: Reply) -> u64
-    requires { IsLength reply }
-    ensures { reply ≡ replies.Len result }
-{
-    let Reply::Len(length) = reply else {
-        unreachable!()
-    };
-    length
-}
-
-fn test_in(reply: Reply) -> bool
-    requires { IsTest reply }
-    ensures { reply ≡ tested result }
-{
-    match reply {
-        Reply::Yes => true,
-        Reply::No => false,
-        _ => unreachable!(),
-    }
-}
-
-// Drops a reply that carries no value.
-fn stored_in(reply: Reply)
-    requires { IsStored reply }
-    ensures { reply ≡ replies.Stored }
-{
-    let _reply = reply;
-}
-
-fn idle_in(reply: Reply)
-    requires { IsIdle reply }
-    ensures { reply ≡ replies.Idle }
-{
-    let _reply = reply;
-}
 
 impl<M: Store> ControlHeap<M> {
     // Does a command.

@@ -16,8 +16,12 @@ ghost use Rattle.heap_system.specs.Machines.{Run};
 ghost use Rattle.heap_system.specs.Openings.{opening_heap};
 ghost use Rattle.control_heap.specs.Controls.{ControlOf, CanOpen, HasLeft, Stands, HasAnswered, HasMade, ServedBy, HasBegun, asked, units};
 ghost use Rattle.control_heap.specs.Calls.{MayAnswer};
-ghost use Rattle.control_heap.specs.Gauges.{most_operations};
+ghost use Rattle.control_heap.specs.Gauges.{live_or_made, most_operations};
 ghost use Rattle.control_heap.specs.Refusals.{IsOpenFault, IsRefused};
+
+mod reads;
+mod shown;
+mod watch;
 
 use crate::Store;
 use crate::gauges::{allocation_operations, cycle_in, free_in, other_operations};
@@ -216,10 +220,13 @@ impl ControlHeap {
     }
 
     /// How many blocks are not free. The live blocks are at most so many; the others are garbage
-    /// that no sweep has freed yet. Reads one word.
+    /// that no sweep has freed yet. They are at most the blocks that were live when the cycle
+    /// before the present one began, and those made since (`made`). Reads one word.
     pub fn blocks_in_use(&self) -> u64
         ensures live { (r : Run) → Stands self.now r
             → live_blocks self.now.config.width (replay self.now.config r.order) ≤ result }
+        ensures made { (r : Run) → Stands self.now r
+            → result ≤ live_or_made self.now.config r.order }
         ensures rest { result ≡ self.now.config.blocks - count_free (extent self.now.config)
             (λ x. heap_of (extent self.now.config) self.now.words (ColourOf x)) }
     {

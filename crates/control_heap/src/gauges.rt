@@ -3,7 +3,7 @@
 ghost use Rattle.std.specs.Prelude.{◌≡◌, ◌≤◌, ◌+◌, ◌*◌, ◌^◌, ℕ, length};
 ghost use Rattle.block_store.specs.Configs.{IsInBounds};
 ghost use Rattle.block_store.specs.Heaps.{heap_of};
-ghost use Rattle.block_store.specs.Phases.{cycle_of};
+ghost use Rattle.block_store.specs.Phases.{cycle_of, is_sweep};
 ghost use Rattle.block_store.specs.Places.{FreeCount, Phase, extent, words_count};
 ghost use Rattle.block_store.specs.Widths.{payloads};
 ghost use Rattle.lone_bound.specs.Near.{changes_cost, near_bound, near_other_bound, near_unit};
@@ -21,6 +21,15 @@ pub fn cycle_in(c: &Config, words: &Words) -> u64
     ensures { result ≡ cycle_of (heap_of (extent c.now) words.now Phase) }
 {
     read_phase(words.word(Places::new(c).phase())).cycle
+}
+
+/// Whether the phase is Sweep, and not Mark.
+pub fn sweeps_in(c: &Config, words: &Words) -> bool
+    requires bounds { IsInBounds c.now }
+    requires there { length words.now ≡ words_count (extent c.now) }
+    ensures { result ≡ is_sweep (heap_of (extent c.now) words.now Phase) }
+{
+    read_phase(words.word(Places::new(c).phase())).sweep
 }
 
 /// The free count: how many blocks are free.

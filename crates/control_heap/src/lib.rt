@@ -7,9 +7,13 @@ mod counted;
 mod faults;
 mod gauges;
 mod laws;
+pub mod outcomes;
+mod readings;
 mod store;
 #[cfg(test)]
 mod tests;
+#[cfg(test)]
+mod watch_tests;
 
 pub use control::{ControlHeap, OpenFault, Refused};
 pub use counted::{Counted, operations_of};

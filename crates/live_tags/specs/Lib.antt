@@ -3,3 +3,4 @@ pub mod Life
 pub mod Live
 pub mod Behind
 pub mod SoFar
+pub mod Texts

@@ -3,6 +3,7 @@
 
 mod commands;
 mod crew;
+mod faults;
 mod laws;
 mod note;
 mod table;

@@ -25,7 +25,7 @@ use tag_table::Operation;
 // The most commands of a worker's lifetime.
 const MOST_COMMANDS: u64 = 1 << 60;
 
-/// Why a table is not opened.
+/// Why a table is not opened. Its printed text also says what to do.
 #[derive(Clone, Copy, Debug, PartialEq, Eq)]
 pub enum OpenFault {
     /// There are more than 1,024 tags, no thread, or more than 16.
@@ -34,7 +34,7 @@ pub enum OpenFault {
     NoMemory,
 }
 
-/// Why an operation is refused.
+/// Why an operation is refused. Its printed text also says what to do.
 #[derive(Clone, Copy, Debug, PartialEq, Eq)]
 pub enum Refused {
     /// The table has no such place, or a number is 2^62 or more. This is checked first.

@@ -88,7 +88,7 @@ module _ (me : table.Me Command View) (id : TableId) (l : LocalState) (n o : ℕ
   pub unspent : l.spent ≡ 0
   unspent = sym (ap (λ (x : LocalState). x.spent) kept.history) ∙ its_spent whole.config one.past whole kept.told kept.done
 
-  own_rate : IsRate whole.config l.rate
+  pub own_rate : IsRate whole.config l.rate
   own_rate = subst (λ x. IsRate whole.config x) (ap (λ (x : LocalState). x.rate) kept.history) (its_rate whole.config one.past whole kept.told)
 
   pub sound : (w : WorkerState) → worker_of id one me.0.notes ≡ w → HasSeenIts w

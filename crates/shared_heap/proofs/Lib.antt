@@ -14,3 +14,4 @@ pub mod Endings
 pub mod Prefixes
 pub mod Behind
 pub mod Orders
+pub mod Fitting

@@ -8,3 +8,4 @@ pub mod Pending
 pub mod Refusals
 pub mod Prefixes
 pub mod Behind
+pub mod Calls

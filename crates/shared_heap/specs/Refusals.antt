@@ -1,4 +1,5 @@
 -- Why a heap is not opened, and why a command is refused.
+use Rattle.std.specs.Prelude.{ℕ, List, codes}
 use Rattle.block_store.specs.declared.Config.{Config}
 use Rattle.block_store.specs.Configs.{IsInBounds}
 use Rattle.rate_plan.specs.Rates.{IsRefusal}
@@ -7,8 +8,8 @@ use Rattle.never_heap.specs.declared.Command.{Command}
 use Rattle.never_heap.specs.Bounds.{IsCommandInBounds}
 use Rattle.shared_heap.specs.declared.heap.OpenFault.{OpenFault}
 use Rattle.shared_heap.specs.declared.heap.OpenFault.TheVariants.{OutOfBounds, LiveTooSmall, NoRate, NoMemory}
-use Rattle.shared_heap.specs.declared.worker.Refused.{Refused}
-use Rattle.shared_heap.specs.declared.worker.Refused.TheVariants as refusals
+use Rattle.control_heap.specs.declared.control.Refused.{Refused}
+use Rattle.control_heap.specs.declared.control.Refused.TheVariants as refusals
 use Rattle.shared_heap.specs.Workers.{CanOpen, HasLeft, WorkerState}
 
 -- The cause of each fault. At most one fits a configuration; one that can be opened has only the
@@ -23,3 +24,12 @@ IsOpenFault c NoMemory = CanOpen c
 abbrev pub IsRefused : WorkerState → Command → Refused → Type 0
 IsRefused w k refusals.OutOfBounds = ¬ IsCommandInBounds w.thread.config k
 IsRefused w k refusals.NoLifeLeft = IsCommandInBounds w.thread.config k × ¬ HasLeft w k
+
+-- the printed text of a fault
+abbrev pub open_fault_text : OpenFault → List ℕ
+open_fault_text OutOfBounds = codes "a number of the configuration is out of range; correct it"
+open_fault_text LiveTooSmall =
+    codes "the registers and the shared array exceed the live limit; raise `live`"
+open_fault_text NoRate =
+    codes "the live limit leaves too few blocks; raise `blocks`, or lower `live`"
+open_fault_text NoMemory = codes "memory ran out; free memory, or open a smaller heap"

@@ -16,9 +16,10 @@ use crate::drives::drives;
 use crate::note::Note;
 use crate::port::Port;
 use crate::rules::{Both, Cut, Given, Law, Noted, View};
-use crate::worker::{Refused, Worker, objects_of};
+use crate::worker::{Worker, objects_of};
 use atomic_table::{Seat, Shared, Table};
 use block_store::{Config, OutOfMemory, read_phase};
+use control_heap::Refused;
 use heap_system::{Local, System};
 use never_heap::{Command, Reply};
 use rate_plan::{PlanFault, plan};
@@ -26,7 +27,7 @@ use std::alloc::Global;
 use std::marker::Model;
 use std::sync::Wait;
 
-/// Why a heap is not opened.
+/// Why a heap is not opened. Its printed text also says what to do.
 #[derive(Clone, Copy, Debug, PartialEq, Eq)]
 pub enum OpenFault {
     /// A number of the configuration is out of range. This is checked first.

@@ -5,7 +5,7 @@ ghost use Rattle.std.specs.Prelude.{◌≡◌, IfOk};
 ghost use Rattle.shared_heap.specs.Workers.{AreEachOnce, AreInOrder, IsSame};
 
 use crate::heap::first_and_rest;
-use crate::{OpenFault, Refused, SharedHeap, Worker};
+use crate::{Fault, OpenFault, Refused, SharedHeap, Worker};
 use block_store::{Config, Name, OutOfMemory, Value, Width};
 use never_heap::{Command, Reply};
 use std::sync::Wait;
@@ -315,5 +315,47 @@ fn a_note_is_learned(rt: HostRuntime) {
         let seven = Ok(Reply::Val(Value::Int(7)));
         assert_eq!(rt; heap.ask(&rt, &mut who, say), seven);
         assert_eq!(rt; who.asked(), 2);
+    }
+}
+
+// Makes an array and a record, and reads the number that the record keeps. A list of the outcomes.
+#[tactic(auto, using(crate::proofs::Crews::same_here, crate::proofs::Crews::same_on))]
+fn keeps<R: Wait>(rt: &R, heap: &SharedHeap, who: &mut Worker) -> Result<(Value, bool, u64), Fault>
+    requires { who.old.heap ≡ heap.now.id }
+    ensures { IsSame who.old who.new }
+{
+    let _record = heap.record(rt, who, 1, 2)?;
+    heap.set(rt, who, 2, 7)?;
+    heap.put(rt, who, 1, 1, 2)?;
+    let _array = heap.array(rt, who, 3, 4)?;
+    heap.put(rt, who, 3, 0, 1)?;
+    let value = heap.get(rt, who, 4, 1, 1)?;
+    let same = heap.same(rt, who, 2, 4)?;
+    Ok((value, same, heap.len(rt, who, 3)?))
+}
+
+#[test]
+fn each_call_returns_its_reply_or_a_fault(rt: HostRuntime) {
+    let Ok((heap, workers)) = SharedHeap::open(rt.alloc(), heap_of(1)) else {
+        assert!(rt; false, "it opens");
+        return;
+    };
+    for who in workers {
+        let mut who = who;
+        assert_eq!(rt; keeps(&rt, &heap, &mut who), Ok((Value::Int(7), true, 4)));
+        assert_eq!(rt; heap.swap(&rt, &mut who, 1, 1, 5), Ok(Value::Int(7)));
+        assert_eq!(rt; heap.cas(&rt, &mut who, 1, 1, 5, 2), Ok(true));
+        assert_eq!(rt; heap.mov(&rt, &mut who, 6, 1), Ok(()));
+        assert_eq!(rt; heap.nil(&rt, &mut who, 1), Ok(()));
+        assert_eq!(rt; heap.get(&rt, &mut who, 4, 1, 1), Err(Fault::Null));
+        assert_eq!(rt; heap.len(&rt, &mut who, 2), Err(Fault::Kind));
+        assert_eq!(rt; heap.put(&rt, &mut who, 6, 2, 2), Err(Fault::Range));
+        assert_eq!(rt; heap.say(&rt, &mut who, 16), Err(Fault::OutOfBounds));
+        assert_eq!(rt; heap.idle(&rt, &mut who, 10), Ok(()));
+        assert_eq!(rt;
+            (who.objects_made(), who.commands_left()),
+            (2, (1 << 60) - 16)
+        );
+        assert_eq!(rt; who.units_made(), 2 * who.rate() + 10);
     }
 }

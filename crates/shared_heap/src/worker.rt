@@ -14,22 +14,12 @@ use never_heap::Command;
 use std::marker::Model;
 
 // The most commands of a lifetime.
-const MOST_COMMANDS: u64 = 1 << 60;
+pub(crate) const MOST_COMMANDS: u64 = 1 << 60;
 
 // The most units of work of a lifetime, and the most commands that make an object.
 const MOST_UNITS: u64 = 1 << 45;
 
 const MOST_OBJECTS: u64 = (1 << 43) - 1;
-
-/// Why a command is refused.
-#[derive(Clone, Copy, Debug, PartialEq, Eq)]
-pub enum Refused {
-    /// A register, number, index, length or number of units of the command is out of range on this
-    /// heap, or the heap's version does not have the command. This is checked first.
-    OutOfBounds,
-    /// The command exceeds the worker's lifetime: its units, its objects or its commands.
-    NoLifeLeft,
-}
 
 /// One thread of a heap, between two commands. It may move to any thread of the program.
 ///
