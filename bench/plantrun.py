@@ -24,7 +24,8 @@ class Wrong(Exception):
 
 
 def make(seed, ticks):
-    """Values that wander between 0 and 1,000,000; some are bad, and alarms are acknowledged."""
+    """Values that wander between 0 and 1,000,000, with peaks that raise alarms. Some are bad, and
+    alarms are acknowledged at times."""
     state = seed * 2 + 1
 
     def drawn(below):
@@ -40,8 +41,9 @@ def make(seed, ticks):
             if (tick + sensor) % SCAN == 0:
                 step = drawn(60_001) - 30_000
                 values[sensor] = min(max(values[sensor] + step, 0), SPAN)
-                print(tick, sensor, values[sensor], 0 if drawn(50) == 0 else 1)
-        if drawn(40) == 0:
+                value = SPAN - drawn(30_000) if drawn(20) == 0 else values[sensor]
+                print(tick, sensor, value, 0 if drawn(50) == 0 else 1)
+        if drawn(20) == 0:
             print(tick, ACKNOWLEDGED + drawn(SENSORS), 1, 1)
 
 
