@@ -14,7 +14,7 @@ ghost use Rattle.atom_board.specs.Ends.{EndsAlone};
 ghost use Rattle.atom_board.specs.Mutators.{BoardState, MutatorState, AreInOrder, AreEachOnce, HasMutator, AreAmong, AreLogsOf, AllAreDone, AreFresh, HasFewTurns, Moved, IsLater, IsFinishedBy, start_mutator, held_of, local_of, log_of};
 
 use crate::closed::Closed;
-use crate::drives::drives;
+use crate::driver::drives;
 use crate::mutator::Mutator;
 use crate::port::Port;
 use crate::rules::{Both, Cut, Law, View};

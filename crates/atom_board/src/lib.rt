@@ -3,7 +3,7 @@
 
 mod board;
 mod closed;
-mod drives;
+mod driver;
 mod laws;
 mod mutator;
 mod port;
@@ -13,6 +13,7 @@ mod tests;
 
 pub use board::AtomBoard;
 pub use closed::Closed;
+pub use driver::drives;
 pub use laws::{closed_runs_show_their_logs, turns_lengthen_the_list};
 pub use mutator::Mutator;
 pub use rules::{Both, Cut, Held, Law, Turned, View};

@@ -63,3 +63,12 @@ fn the_letters_of_two_senders_are_taken_in_their_order(rt: HostRuntime) -> Resul
     assert_eq!(rt; taken.numbers(1), [6, 7].as_slice());
     Ok(())
 }
+
+#[test]
+fn a_post_has_room_for_many_letters(rt: HostRuntime) -> Result<(), Fail> {
+    let (post, mut senders, mut taker) = Post::new(rt.alloc(), 1, 100_000)?;
+    post.send(&rt, &mut senders[0], 7);
+    comes(&rt, &post, &mut taker, Some((0, 7)))?;
+    post.gather(&rt, &mut taker, senders);
+    comes(&rt, &post, &mut taker, None)
+}

@@ -8,3 +8,4 @@ pub mod JobLaws
 pub mod AnswerLaws
 pub mod OneThread
 pub mod CarriedOut
+pub mod NearSmall

@@ -1,9 +1,9 @@
 -- What a heap costs.
-use Rattle.std.specs.Prelude.{ℕ, ◌+◌, ◌-◌, ◌*◌, ◌/◌, ◌^◌, min}
+use Rattle.std.specs.Prelude.{ℕ, ◌+◌, ◌-◌, ◌*◌, ◌/◌, ◌<◌, ◌^◌, min, Option, SomeIff}
 use Rattle.block_store.specs.declared.Config.{Config}
 use Rattle.block_store.specs.Places.{extent, words_count}
 use Rattle.block_store.specs.Widths.{payloads}
-use Rattle.lone_bound.specs.Near.{near_bound}
+use Rattle.lone_bound.specs.Near.{changes_cost, near_bound, near_unit}
 
 -- the bytes of its words
 abbrev pub bytes : Config → ℕ
@@ -12,6 +12,14 @@ bytes c = 8 * words_count (extent c)
 -- the most turns of an allocation of k blocks, of a thread that alone has turns
 abbrev pub turns : Config → ℕ → ℕ → ℕ
 turns c rate k = near_bound c.threads (payloads c.width) c.blocks (rate * k) k
+
+-- the turns of r units, and of the changes of phase among them
+abbrev pub collecting : Config → ℕ → ℕ
+collecting c r = r * near_unit (payloads c.width) + changes_cost c.threads c.blocks r
+
+-- it is this number, where that has 64 bits, and else it is none
+abbrev pub IsInWord : Option ℕ → ℕ → Type 0
+IsInWord o n = SomeIff o (n < 2 ^ 64) n
 
 -- objects of one block in a year of 31,557,600 seconds, at ten a millisecond
 abbrev pub objects_a_year : ℕ

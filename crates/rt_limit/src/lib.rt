@@ -12,4 +12,5 @@ mod top;
 pub use blocks::least_blocks;
 pub use counts::Figures;
 pub use laws::{enough_is_never_full, live_grows, most_live_is_the_greatest};
+pub use prices::{near_other_turns, near_turns};
 pub use top::{LimitExit, limit};

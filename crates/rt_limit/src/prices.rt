@@ -3,10 +3,10 @@
 ghost use Rattle.std.specs.Prelude.{◌≡◌, ◌<◌, ◌≤◌, ◌+◌, ◌*◌};
 ghost use Rattle.block_store.specs.Configs.{IsInBounds};
 ghost use Rattle.block_store.specs.Widths.{payloads};
-ghost use Rattle.lone_bound.specs.Near.{changes_cost, farthest};
+ghost use Rattle.lone_bound.specs.Near.{changes_cost, farthest, near_bound, near_other_bound};
 ghost use Rattle.rt_limit.specs.Prices as prices;
 
-use block_store::{Config, Width};
+use block_store::Config;
 
 /// Objects of one block a year, at ten a millisecond: a year has 31,557,600 seconds.
 const OBJECTS_A_YEAR: u64 = 315_576_000_000;
@@ -21,7 +21,7 @@ pub(crate) fn bytes(heap: &Config) -> u32
     requires { IsInBounds heap.now }
     ensures value { result ≡ prices.bytes heap.now }
 {
-    8 * (3 + 2 * heap.threads + (3 + payloads_of(heap.width)) * heap.blocks)
+    8 * (3 + 2 * heap.threads + (3 + heap.width.payloads()) * heap.blocks)
 }
 
 /// The whole years of a life at this rate.
@@ -39,12 +39,10 @@ pub(crate) fn turns(heap: &Config, rate: u64, blocks: u32) -> u64
     requires blocks { blocks ≤ 1024 }
     ensures { result ≡ prices.turns heap.now rate blocks }
 {
-    let words = u64::from(payloads_of(heap.width));
-    let units = units_of(rate, blocks);
-    let made = units * (2 * words + 7);
-    let changes = changes_of(heap.threads, heap.blocks, units);
-    let written = (words + 4) * u64::from(blocks);
-    made + changes + (written + u64::from(heap.threads) + 7)
+    let Some(turns) = near_turns(heap, units_of(rate, blocks), blocks) else {
+        unreachable!()
+    };
+    turns
 }
 
 fn units_of(rate: u64, blocks: u32) -> u64
@@ -56,35 +54,56 @@ fn units_of(rate: u64, blocks: u32) -> u64
     rate * u64::from(blocks)
 }
 
-fn payloads_of(width: Width) -> u32
-    ensures payloads { result ≡ payloads width }
-    ensures few { result ≤ 8 }
+/// The near bound of an allocation of so many blocks that owes so many units: the most turns that
+/// it takes of a thread that alone has turns. None where the number is too large for 64 bits.
+pub fn near_turns(heap: &Config, units: u64, blocks: u32) -> Option<u64>
+    requires { IsInBounds heap.now }
+    ensures { prices.IsInWord result (near_bound heap.now.threads (payloads heap.now.width)
+        heap.now.blocks units blocks) }
 {
-    match width {
-        Width::Four => 4,
-        Width::Eight => 8,
-    }
+    let collecting = collecting_turns(heap, units)?;
+    let written = u64::from(heap.width.payloads() + 4) * u64::from(blocks);
+    let rest = u64::from(heap.threads) + 7;
+    collecting.checked_add(written)?.checked_add(rest)
+}
+
+/// The same of a command that makes no object: it owes so many units, and makes so many events
+/// between going in and going out.
+pub fn near_other_turns(heap: &Config, units: u64, events: u32) -> Option<u64>
+    requires { IsInBounds heap.now }
+    ensures { prices.IsInWord result (near_other_bound heap.now.threads
+        (payloads heap.now.width) heap.now.blocks units events) }
+{
+    collecting_turns(heap, units)?.checked_add(u64::from(events) + 3)
+}
+
+/// The turns of so many units, and of the changes of phase among them.
+fn collecting_turns(heap: &Config, units: u64) -> Option<u64>
+    requires { IsInBounds heap.now }
+    ensures { prices.IsInWord result (prices.collecting heap.now units) }
+{
+    let made = units.checked_mul(u64::from(2 * heap.width.payloads() + 7))?;
+    made.checked_add(changes_turns(heap.threads, heap.blocks, units)?)
 }
 
 /// The turns of the changes of phase among so many units, in a heap of so many blocks.
-fn changes_of(threads: u32, blocks: u32, units: u64) -> u64
+fn changes_turns(threads: u32, blocks: u32, units: u64) -> Option<u64>
     requires threads { threads ≤ 16 }
     requires some { 1 ≤ blocks }
-    requires units { units ≤ 134215680 }
-    ensures turns { result ≡ changes_cost threads blocks units }
-    ensures few { result ≤ 8455588200 }
+    ensures { prices.IsInWord result (changes_cost threads blocks units) }
 {
     if units == 0 {
-        return 0;
+        return Some(0);
     }
     let later = units - 1;
-    let flip = 2 * threads + 7 + farthest_of(threads, later);
+    let flip = 2 * threads + 7 + farthest_turns(threads, later);
     let cycle = 3 * threads + 15;
-    u64::from(flip.max(cycle)) + u64::from(cycle) * (later / u64::from(blocks))
+    let cycles = u64::from(cycle).checked_mul(later / u64::from(blocks))?;
+    u64::from(flip.max(cycle)).checked_add(cycles)
 }
 
 /// The most turns of so many passes to the grey lists of others.
-fn farthest_of(threads: u32, passes: u64) -> u32
+fn farthest_turns(threads: u32, passes: u64) -> u32
     requires { threads ≤ 16 }
     ensures turns { result ≡ farthest threads passes }
     ensures few { result ≤ 256 }

@@ -28,7 +28,7 @@ use Rattle.rtheap_core.specs.Outcomes.{HasTotals}
 use Rattle.rtheap_core.specs.Refusals.{LeavesUndone}
 use Rattle.rtheap_core.specs.Outcomes as outcomes
 use Rattle.threaded_runs.specs.Ends.{commands_of}
-use Rattle.threaded_runs.proofs.Shown.{TurnLaws, has_history, history_is, turned_is, traces_shown}
+use Rattle.threaded_runs.proofs.Shown.{TurnLaws, has_history, history_is, turned_is, traces_logged}
 
 after_traces : (c : Config) (r : Run) (ts : List ℕ)
     → traces_of (after_turns c r ts).state ≡ traces_of r.state
@@ -80,7 +80,7 @@ module _ (c : Config) (traces : List (List Command)) (schedule : Schedule) (turn
         (subst (λ ls. Shows r made c traces ls (cycle_of (heap_in c s Phase))) (sym logs) shows)
 
     whole : map commands_of f.logs ≡ traces
-    whole = traces_shown c traces f.logs f.cycles finished.0
+    whole = traces_logged c traces f.logs f.cycles finished.0
 
     pub job_is : (j : Job) → j ≡ record { config = c; traces = traces } → job_of (Replayed f) ≡ j
     job_is j e = (λ i. record { config = config i; traces = whole i }) ∙ sym e

@@ -13,6 +13,7 @@ use Rattle.heap_system.specs.Locals.{LocalState, is_done, works}
 use Rattle.heap_system.proofs.OwedAndPaid.{works_append}
 use Rattle.control_heap.proofs.Behind.{behind_done, history_of as history_of_thread}
 use Rattle.control_heap.proofs.GrownJobs.{sum_more}
+use Rattle.shared_heap.specs.declared.port.Port.{Port}
 use Rattle.shared_heap.specs.declared.rules.Held.{Held}
 use Rattle.shared_heap.specs.declared.rules.Past.{Past}
 use Rattle.shared_heap.specs.declared.rules.View.{View}
@@ -29,7 +30,7 @@ use Rattle.shared_heap.proofs.Views.{starts_on}
 
 -- a pending command: what its seat knows, and what is in memory
 module _ (me : table.Me Command View) (id : TableId) (l : LocalState) (n o : ℕ) (is : IsPending me id l n o) where
-  abbrev pub past : Past
+  abbrev past : Past
   past = (held_of l me.0.threads).past
 
   abbrev ks : List Command
@@ -39,10 +40,10 @@ module _ (me : table.Me Command View) (id : TableId) (l : LocalState) (n o : ℕ
   es = past.call.local.log
 
   -- its thread
-  abbrev pub here : Held
+  abbrev here : Held
   here = held (behind ks es l) past
 
-  pub here_is : held_of l me.0.threads ≡ here
+  here_is : held_of l me.0.threads ≡ here
   here_is = held_is me l here [] is.knows
 
   pub has_thread : (shared : TableId) → id ≡ shared → HasThread me id shared l
@@ -61,13 +62,13 @@ module _ (me : table.Me Command View) (id : TableId) (l : LocalState) (n o : ℕ
 
   -- after some events
   module _ (shared : TableId) (same : id ≡ shared) (after : table.Me Command View) (own_after : TableId) (z : LocalState) (has : HasThread after own_after shared z) (ws : List ℕ) (on : HasGoneOn me l ws after z) where
-    abbrev pub seen_more : HasSeenMore ks es past l ws after z
+    abbrev seen_more : HasSeenMore ks es past l ws after z
     seen_more = on.front ks es past is.long is.knows
 
-    abbrev pub then_past : Past
+    abbrev then_past : Past
     then_past = later_past seen_more.now seen_more.turns (past.span.own + length ws) past
 
-    abbrev pub then_held : Held
+    abbrev then_held : Held
     then_held = held (behind ks es z) then_past
 
     same_held : held (behind has.commands has.entries z) has.past ≡ then_held
@@ -100,14 +101,14 @@ module _ (me : table.Me Command View) (id : TableId) (l : LocalState) (n o : ℕ
       words = has.words;
     }
 
-    pub pending_then : IsPending after own_after z n o
+    pending_then : IsPending after own_after z n o
     pending_then = is_pending then_past after own_after z n o awaits_then
 
     same_id : own_after ≡ id
     same_id = has.table ∙ sym same
 
     -- what becomes of the command's value
-    pub value_then : (old : PendingState) → pending_of id (held_of l me.0.threads) ≡ old → pending_of own_after (held_of z after.0.threads) ≡ record old { thread = behind ks es z; events = past.span.own + length ws }
+    value_then : (old : PendingState) → pending_of id (held_of l me.0.threads) ≡ old → pending_of own_after (held_of z after.0.threads) ≡ record old { thread = behind ks es z; events = past.span.own + length ws }
     value_then old was =
         ap (pending_of own_after) (held_is after z then_held [] seen_more.knows)
         ∙ ap (λ t. pending_of t then_held) same_id
@@ -123,7 +124,7 @@ module _ (me : table.Me Command View) (id : TableId) (l : LocalState) (n o : ℕ
       counted = refl;
     })
 
-    pub still : (most : ℕ) → length ws ≤ most → GoesFar most l ws z → is_done z ≡ false → (old new : PendingState) → pending_of id (held_of l me.0.threads) ≡ old → new ≡ pending_of own_after (held_of z after.0.threads) → IsStillPending old most new
+    still : (most : ℕ) → length ws ≤ most → GoesFar most l ws z → is_done z ≡ false → (old new : PendingState) → pending_of id (held_of l me.0.threads) ≡ old → new ≡ pending_of own_after (held_of z after.0.threads) → IsStillPending old most new
     still most few far going old new was becomes =
         subst (λ x. IsStillPending old most x) (sym (becomes ∙ value_then old was)) (record {
           heap = refl;
@@ -136,11 +137,11 @@ module _ (me : table.Me Command View) (id : TableId) (l : LocalState) (n o : ℕ
     worker_then : (new : WorkerState) → new ≡ worker_of own_after (held_of z after.0.threads) after.0.notes → new ≡ worker_of own_after then_held []
     worker_then new becomes = becomes ∙ (λ i. worker_of own_after (held_is after z then_held [] seen_more.knows i) (notes_are after then_held [] seen_more.knows i))
 
-    pub made_then : (most : ℕ) → length ws ≤ most → GoesFar most l ws z → (old : PendingState) (new : WorkerState) → pending_of id (held_of l me.0.threads) ≡ old → new ≡ worker_of own_after (held_of z after.0.threads) after.0.notes → MadeMore old most new.thread new.span.own
+    made_then : (most : ℕ) → length ws ≤ most → GoesFar most l ws z → (old : PendingState) (new : WorkerState) → pending_of id (held_of l me.0.threads) ≡ old → new ≡ worker_of own_after (held_of z after.0.threads) after.0.notes → MadeMore old most new.thread new.span.own
     made_then most few far old new was becomes =
         subst (λ (x : WorkerState). MadeMore old most x.thread x.span.own) (sym (worker_then new becomes)) (made_so most few far old was)
 
-    pub made_all : (old new : WorkerState) (k : Command) → pending_of id (held_of l me.0.threads) ≡ start_pending old k → new ≡ worker_of own_after (held_of z after.0.threads) after.0.notes → HasMade old k new
+    made_all : (old new : WorkerState) (k : Command) → pending_of id (held_of l me.0.threads) ≡ start_pending old k → new ≡ worker_of own_after (held_of z after.0.threads) after.0.notes → HasMade old k new
     made_all old new k was becomes =
         let is = made_then (length ws) (omega arith) (λ going less. absurd (omega (arith, less))) (start_pending old k) new was becomes in
         record { words = is.words; made = is.made; own = omega (arith, is.counted) }
@@ -153,11 +154,11 @@ module _ (me : table.Me Command View) (id : TableId) (l : LocalState) (n o : ℕ
     done_whole : is_done whole ≡ true
     done_whole = behind_done ks es is.long l ∙ done
 
-    pub one_entry : length l.log ≡ 1
+    one_entry : length l.log ≡ 1
     one_entry = as_long l done ∙ ap length is.trace
 
     -- the entry of the command
-    abbrev pub answer : Entry → Entry
+    abbrev answer : Entry → Entry
     answer d = get_or l.log 0 d
 
     log_is : (d : Entry) → l.log ≡ answer d ∷ []
@@ -182,7 +183,7 @@ module _ (me : table.Me Command View) (id : TableId) (l : LocalState) (n o : ℕ
       words = is.words;
     }
 
-    pub kept_then : IsKept me id l n o
+    kept_then : IsKept me id l n o
     kept_then = is_kept me id l here [] n o keeps_then
 
     command_is : (d : Entry) → (answer d).command ≡ past.call.command
@@ -203,7 +204,7 @@ module _ (me : table.Me Command View) (id : TableId) (l : LocalState) (n o : ℕ
         (ap (λ xs. xs ++ part t is.more.0) (sym is.part) ∙ sym cut ∙ named ∙ ap (λ xs. es ++ xs) (log_is d))
 
     -- the worker, with the reply
-    abbrev pub now_worker : WorkerState
+    abbrev now_worker : WorkerState
     now_worker = worker_of id here []
 
     answers : (d : Entry) → HasAnswered (pending_of id here).worker past.call.command (answer d).reply now_worker
@@ -232,20 +233,90 @@ module _ (me : table.Me Command View) (id : TableId) (l : LocalState) (n o : ℕ
     first_of [] e = absurd (omega arith)
     first_of (x ∷ xs) e = x
 
-    pub answered : (a : Reply) → ((d : Entry) → a ≡ (answer d).reply) → (old : PendingState) (new : WorkerState) → pending_of id (held_of l me.0.threads) ≡ old → new ≡ worker_of id (held_of l me.0.threads) me.0.notes → HasAnswered old.worker old.command a new
+    answered : (a : Reply) → ((d : Entry) → a ≡ (answer d).reply) → (old : PendingState) (new : WorkerState) → pending_of id (held_of l me.0.threads) ≡ old → new ≡ worker_of id (held_of l me.0.threads) me.0.notes → HasAnswered old.worker old.command a new
     answered a reply old new was becomes =
         let d : Entry = first_of l.log one_entry in
         subst (λ (x : PendingState). HasAnswered x.worker x.command a new) (ap (pending_of id) (sym here_is) ∙ was)
         (subst (λ x. HasAnswered (pending_of id here).worker past.call.command a x) (sym (becomes ∙ worker_is))
         (subst (λ x. HasAnswered (pending_of id here).worker past.call.command x now_worker) (sym (reply d)) (answers d)))
 
-    pub in_time : (old : PendingState) (new : WorkerState) → pending_of id (held_of l me.0.threads) ≡ old → new ≡ worker_of id (held_of l me.0.threads) me.0.notes → IsInTime old.worker.thread.config old.command new.span
+    in_time : (old : PendingState) (new : WorkerState) → pending_of id (held_of l me.0.threads) ≡ old → new ≡ worker_of id (held_of l me.0.threads) me.0.notes → IsInTime old.worker.thread.config old.command new.span
     in_time old new was becomes =
         subst (λ (x : PendingState). IsInTime x.worker.thread.config x.command new.span) (ap (pending_of id) (sym here_is) ∙ was)
         (subst (λ (x : WorkerState). IsInTime past.call.local.config past.call.command x.span) (sym (becomes ∙ worker_is))
         (subst (λ x. IsInTime x past.call.command past.span) is.config is.few))
 
-    pub same_worker : (old : PendingState) (new : WorkerState) → pending_of id (held_of l me.0.threads) ≡ old → new ≡ worker_of id (held_of l me.0.threads) me.0.notes → IsSame old.worker new
+    same_worker : (old : PendingState) (new : WorkerState) → pending_of id (held_of l me.0.threads) ≡ old → new ≡ worker_of id (held_of l me.0.threads) me.0.notes → IsSame old.worker new
     same_worker old new was becomes =
         subst (λ (x : PendingState). IsSame x.worker new) (ap (pending_of id) (sym here_is) ∙ was)
         (subst (λ x. IsSame (pending_of id here).worker x) (sym (becomes ∙ worker_is)) (record { heap = refl; config = is.config; thread = is.thread }))
+
+-- A pending command, before some of its events and after them.
+pub record Events (port : Port) (l : LocalState) (n o : ℕ) (after : Port) (z : LocalState) :
+    Type 0 where
+  pub is : IsPending port.seat.me port.seat.table_id l n o
+  pub shared : TableId
+  pub same : port.seat.table_id ≡ shared
+  pub has : HasThread after.seat.me after.seat.table_id shared z
+  pub words : List ℕ
+  pub on : HasGoneOn port.seat.me l words after.seat.me z
+
+-- the worker of a port and its thread
+abbrev pub worker_at : Port → LocalState → WorkerState
+worker_at p l = worker_of p.seat.table_id (held_of l p.seat.me.0.threads) p.seat.me.0.notes
+
+-- a command that has ended, at this thread and worker
+pub record HasEnded (old : PendingState) (l : LocalState) (new : WorkerState) : Type 0 where
+  pub is_same : IsSame old.worker new
+  pub has_answered : (a : Reply) → ((d : Entry) → a ≡ (get_or l.log 0 d).reply)
+      → HasAnswered old.worker old.command a new
+  pub is_in_time : IsInTime old.worker.thread.config old.command new.span
+
+module _ {port : Port} {l : LocalState} {n o : ℕ} {after : Port} {z : LocalState}
+    (e : Events port l n o after z) where
+  pub pending_now : IsPending after.seat.me after.seat.table_id z n o
+  pending_now = pending_then port.seat.me port.seat.table_id l n o e.is e.shared e.same
+      after.seat.me after.seat.table_id z e.has e.words e.on
+
+  -- of a command that had this value
+  module _ (old : PendingState)
+      (was : pending_of port.seat.table_id (held_of l port.seat.me.0.threads) ≡ old) where
+    pub still_pending : (most : ℕ) → length e.words ≤ most → GoesFar most l e.words z
+        → is_done z ≡ false
+        → IsStillPending old most (pending_of after.seat.table_id (held_of z after.seat.me.0.threads))
+    still_pending most few far going = still port.seat.me port.seat.table_id l n o e.is e.shared
+        e.same after.seat.me after.seat.table_id z e.has e.words e.on most few far going old
+        (pending_of after.seat.table_id (held_of z after.seat.me.0.threads)) was refl
+
+    pub made_more : (most : ℕ) → length e.words ≤ most → GoesFar most l e.words z
+        → MadeMore old most (worker_at after z).thread (worker_at after z).span.own
+    made_more most few far = made_then port.seat.me port.seat.table_id l n o e.is e.shared e.same
+        after.seat.me after.seat.table_id z e.has e.words e.on most few far old
+        (worker_at after z) was refl
+
+  pub made_whole : (old : WorkerState) (k : Command)
+      → pending_of port.seat.table_id (held_of l port.seat.me.0.threads) ≡ start_pending old k
+      → HasMade old k (worker_at after z)
+  made_whole old k was = made_all port.seat.me port.seat.table_id l n o e.is e.shared e.same
+      after.seat.me after.seat.table_id z e.has e.words e.on old
+      (worker_at after z) k was refl
+
+  module _ (done : is_done z ≡ true) where
+    pub entry_now : length z.log ≡ 1
+    entry_now = one_entry after.seat.me after.seat.table_id z n o pending_now done
+
+    pub kept_now : IsKept after.seat.me after.seat.table_id z n o
+    kept_now = kept_then after.seat.me after.seat.table_id z n o pending_now done
+
+    pub ended : (old : PendingState)
+        → pending_of port.seat.table_id (held_of l port.seat.me.0.threads) ≡ old
+        → HasEnded old z (worker_at after z)
+    ended old was =
+        let value = value_then port.seat.me port.seat.table_id l n o e.is e.shared e.same
+        after.seat.me after.seat.table_id z e.has e.words e.on old was in
+        record {
+          is_same = same_worker after.seat.me after.seat.table_id z n o pending_now done _ _ value refl;
+          has_answered = λ a reply. answered after.seat.me after.seat.table_id z n o pending_now done a reply
+              _ _ value refl;
+          is_in_time = in_time after.seat.me after.seat.table_id z n o pending_now done _ _ value refl;
+        }

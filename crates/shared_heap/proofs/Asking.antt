@@ -205,3 +205,17 @@ announced me id l k may given_me phase gives own same = record {
   pending = λ n o kept. begun_pending me id l n o kept k may.bounds may.left given_me phase gives own same;
   value = begun_value me id l may.count may.objects may.kept k may.bounds may.left given_me phase gives own same (worker_of id (held_of l me.0.threads) me.0.notes) refl (pending_of own (held_of (begun k l) given_me.0.threads)) refl;
 }
+
+-- a worker that is between two commands may announce one that is in bounds, and that its life has
+-- room for
+pub may_announce : (me : table.Me Command View) (id : TableId) (l : LocalState) (n o : ℕ)
+    → IsKept me id l n o → (old : WorkerState) (k : Command)
+    → worker_of id (held_of l me.0.threads) me.0.notes ≡ old
+    → IsCommandInBounds old.thread.config k → HasLeft old k → MayAnnounce me id l k
+may_announce me id l n o kept old k is bounds left = record {
+  count = n;
+  objects = o;
+  kept = kept;
+  bounds = subst (λ (x : WorkerState). IsCommandInBounds x.thread.config k) (sym is) bounds;
+  left = subst (λ (x : WorkerState). HasRoom x.thread k) (sym is) left;
+}

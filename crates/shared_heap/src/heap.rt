@@ -12,16 +12,16 @@ ghost use Rattle.shared_heap.specs.Workers.{HeapState, WorkerState, CanOpen, Are
 ghost use Rattle.shared_heap.specs.Spans.{IsInTime};
 ghost use Rattle.shared_heap.specs.Refusals.{IsOpenFault, IsRefused};
 
-use crate::drives::drives;
 use crate::note::Note;
 use crate::port::Port;
 use crate::rules::{Both, Cut, Given, Law, Noted, View};
 use crate::worker::{Worker, objects_of};
+use atom_board::drives;
 use atomic_table::{Seat, Shared, Table};
 use block_store::{Config, OutOfMemory, read_phase};
 use control_heap::Refused;
 use heap_system::{Local, System};
-use never_heap::{Command, Reply};
+use never_heap::{Command, NoPace, Reply};
 use rate_plan::{PlanFault, plan};
 use std::alloc::Global;
 use std::marker::Model;
@@ -293,7 +293,7 @@ impl SharedHeap {
     {
         let shared = &self.table.shared;
         announce(shared, &mut who.port, &mut who.local, command);
-        drives(rt, &mut who.port, shared, &mut who.local);
+        drives(rt, &mut who.port, shared, &mut who.local, &NoPace);
         who.count += 1;
         who.objects += objects_of(command);
         reply_of(&who.local)

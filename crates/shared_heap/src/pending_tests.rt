@@ -4,8 +4,9 @@ ghost use Rattle.std.specs.Prelude.{◌≡◌};
 ghost use Rattle.shared_heap.specs.Workers.{AreInOrder};
 
 use crate::heap::first_and_rest;
+use crate::tests::heap_of;
 use crate::{Pending, Refused, SharedHeap, Worker};
-use block_store::{Config, Name, OutOfMemory, Value, Width};
+use block_store::{Name, OutOfMemory, Value};
 use never_heap::{Command, Reply};
 use rand_core::utils::NextWord;
 use rand_pcg::Lcg64Xsh32;
@@ -19,19 +20,6 @@ const DRAWN: u32 = 20_000;
 
 // How many objects each of two workers makes in turns.
 const TURNS: u32 = 2_000;
-
-fn heap_of(threads: u32) -> Config
-    ensures { result.threads ≡ threads }
-{
-    Config {
-        width: Width::Eight,
-        threads,
-        blocks: 400,
-        live: 160,
-        object: 3,
-        shared: 5,
-    }
-}
 
 // Polls a pending command to its end.
 fn finished<R: Wait>(rt: &R, heap: &SharedHeap, pending: Pending, most: u64) -> (Worker, Reply)

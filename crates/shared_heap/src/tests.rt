@@ -18,16 +18,16 @@ const OBJECTS: u32 = 20_000;
 
 const TRIES: u32 = 20_000;
 
-fn heap_of(threads: u32) -> Config
+pub(crate) fn heap_of(threads: u32) -> Config
     ensures { result.threads ≡ threads }
 {
     Config {
         width: Width::Eight,
         threads,
-        blocks: 256,
-        live: 96,
+        blocks: 400,
+        live: 160,
         object: 3,
-        shared: 4,
+        shared: 5,
     }
 }
 
@@ -241,7 +241,7 @@ fn each_refusal_of_a_configuration_has_its_cause(rt: HostRuntime) {
     for (config, fault) in [
         (Config { threads: 17, ..c }, OpenFault::OutOfBounds),
         (Config { live: 5, ..c }, OpenFault::LiveTooSmall),
-        (Config { live: 255, ..c }, OpenFault::NoRate),
+        (Config { live: 399, ..c }, OpenFault::NoRate),
     ] {
         match SharedHeap::open(rt.alloc(), config) {
             Ok(_) => assert!(rt; false, "it opens"),

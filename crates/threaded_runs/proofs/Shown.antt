@@ -1,11 +1,12 @@
 -- What an ended run shows.
-use Rattle.std.proofs.Common.{ℕ, zero, suc, ◌+◌, ◌-◌, ◌*◌, ◌≡◌, ◌≤◌, List, [], ◌∷◌, map, length, get_or, refl, sym, ap, ◌∙◌, subst, arith, zero-add}
+use Rattle.std.proofs.Common.{ℕ, ◌-◌, ◌*◌, ◌≡◌, ◌≤◌, List, map, refl, sym, ◌∙◌, subst}
 use Rattle.atom_board.specs.Mutators.{ClosedState, MutatorState, IsFinishedBy}
+pub use Rattle.board_jobs.proofs.LoggedTraces.{traces_logged}
 use Rattle.block_store.specs.declared.Config.{Config}
 use Rattle.never_heap.specs.declared.Command.{Command}
 use Rattle.never_heap.specs.declared.Entry.{Entry}
 use Rattle.never_heap.specs.Given.{given}
-use Rattle.never_heap.specs.Histories.{HistoryItem, part, parts_from, starts_in, work_in}
+use Rattle.never_heap.specs.Histories.{starts_in, work_in}
 use Rattle.never_heap.specs.Licensed.{StartsSmall, NoFulls}
 use Rattle.rate_plan.specs.Rates.{IsRate}
 use Rattle.cycle_tally.specs.Kept.{most_given}
@@ -16,41 +17,12 @@ use Rattle.heap_system.specs.Serials.{AreOfThreads, AreFew}
 use Rattle.heap_system.specs.Systems.{AllDone, IsFinished}
 use Rattle.threaded_runs.specs.Ends.{HasHistory, HasTurns, commands_of, job_of}
 
--- where the commands of each part are the trace of its thread, those of all parts are all traces
-traces_from : (h : List HistoryItem) (t n : ℕ) (traces : List (List Command)) → length traces ≡ n
-    → ((u : ℕ) → commands_of (part (t + u) h) ≡ get_or traces u [])
-    → map commands_of (parts_from t n h) ≡ traces
-traces_from h t zero [] e each = refl
-traces_from h t zero (x ∷ xs) e each = absurd cc
-traces_from h t (suc n) [] e each = absurd cc
-traces_from h t (suc n) (x ∷ xs) e each =
-    let first : commands_of (part t h) ≡ x =
-    subst (λ k. commands_of (part k h) ≡ x) (zero_more t) (each 0) in
-    let rest : map commands_of (parts_from (t + 1) n h) ≡ xs =
-    traces_from h (t + 1) n xs (omega (arith, e))
-    (λ u. subst (λ k. commands_of (part k h) ≡ get_or xs u []) (one_more t u) (each (suc u))) in
-    λ i. first i ∷ rest i
-  where
-    zero_more : (t : ℕ) → t + 0 ≡ t
-    zero_more t = omega arith
-
-    one_more : (t u : ℕ) → t + suc u ≡ (t + 1) + u
-    one_more t u = omega arith
-
-pub traces_shown : (c : Config) (traces : List (List Command)) (logs : List (List Entry)) (cycles : ℕ)
-    → IsFinished c traces logs cycles → map commands_of logs ≡ traces
-traces_shown c traces logs cycles f =
-    ap (map commands_of) f.parts_logged
-    ∙ traces_from f.run.order 0 c.threads traces f.job.bounds.threads
-    (λ u. subst (λ k. commands_of (part k f.run.order) ≡ get_or traces u []) (sym (zero-add u))
-    ((f.is_run f.by_turns.opening.rate f.by_turns.opening.planned).traces_whole u))
-
 -- the job that was run is the one that is shown
 job_shown : (c : Config) (traces : List (List Command)) (f : ClosedState) → f.config ≡ c
     → IsFinished c traces f.logs f.cycles → (job : Job)
     → job ≡ record { config = c; traces = traces } → job_of f ≡ job
 job_shown c traces f same ended job is =
-    let shown = traces_shown c traces f.logs f.cycles ended in
+    let shown = traces_logged c traces f.logs f.cycles ended in
     (λ i. record { config = same i; traces = shown i }) ∙ sym is
 
 -- what holds of each run after some turns
@@ -134,7 +106,7 @@ module _ (laws : TurnLaws) where
       let made : IsFinished c traces f.logs f.cycles =
       subst (λ xs. IsFinished c xs f.logs f.cycles) whole
       (subst (λ q. IsFinished q ts f.logs f.cycles) config ended.finished) in
-      let shown = traces_shown k ts f.logs f.cycles ended.finished in
+      let shown = traces_logged k ts f.logs f.cycles ended.finished in
       let by_logs : IsFinishedBy f.config (map commands_of f.logs) ms f.logs f.cycles =
       subst (λ q. IsFinishedBy q (map commands_of f.logs) ms f.logs f.cycles) (sym same)
       (subst (λ xs. IsFinishedBy k xs ms f.logs f.cycles) (sym shown) ended) in

@@ -1,8 +1,8 @@
 -- How many turns a command takes at most, when its thread alone has turns.
-use Rattle.std.specs.Prelude.{ℕ, ◌+◌, ◌*◌, ◌<◌, ◌≡◌, ◌^◌, Option, SomeIff}
+use Rattle.std.specs.Prelude.{ℕ, ◌<◌, ◌≡◌}
 use Rattle.block_store.specs.declared.Config.{Config}
 use Rattle.block_store.specs.Widths.{payloads}
-use Rattle.lone_bound.specs.Near.{changes_cost, near_bound, near_other_bound, near_unit}
+use Rattle.lone_bound.specs.Near.{near_other_bound}
 use Rattle.never_heap.specs.declared.Command.{Command}
 use Rattle.never_heap.specs.RightWork.{units_told}
 use Rattle.rate_plan.specs.Rates.{IsRate}
@@ -17,18 +17,7 @@ IsBoundAlone c rate command turns = (r : Run) (t : ℕ) → IsAfterTurns c r →
     → IsQuiet c r → t < c.threads → HasCommand (local_in c r t)
     → command_of (local_in c r t) ≡ command → EndsWithin c t r turns
 
--- the turns of so many units, and of the changes of phase among them
-abbrev pub collecting : Config → ℕ → ℕ
-collecting c r = r * near_unit (payloads c.width) + changes_cost c.threads c.blocks r
-
--- the near bound of an allocation of k blocks, and of a command that makes no object
-abbrev pub near_turns : Config → ℕ → ℕ → ℕ
-near_turns c rate k = near_bound c.threads (payloads c.width) c.blocks (rate * k) k
-
+-- the near bound of a command that makes no object
 abbrev pub other_near : Config → Command → ℕ
 other_near c k =
     near_other_bound c.threads (payloads c.width) c.blocks (units_told k) (most_events c k)
-
--- it is this number, where that has 64 bits, and else it is none
-abbrev pub IsInWord : Option ℕ → ℕ → Type 0
-IsInWord o n = SomeIff o (n < 2 ^ 64) n

@@ -11,15 +11,41 @@ use std::thread::Threads;
 use std::time::{Clock, CpuClock, Duration};
 use trace_text::{MemSink, MemSource};
 
-/// A clock that advances by a microsecond at each reading.
+/// A clock whose readings are counted.
 #[derive(Drop)]
 struct Ticks {
     count: AtomicU64,
+    grows: bool,
+}
+
+impl Ticks {
+    /// It advances by a microsecond at each reading. Of each command its thread had a processor for
+    /// 250 ns.
+    fn even() -> Ticks {
+        Ticks {
+            count: AtomicU64::new(1),
+            grows: false,
+        }
+    }
+
+    /// Reading n is n (n + 1) / 2 nanoseconds, which is n more than the one before it, so no two
+    /// times are equal. Of each command its thread had a processor for 100 ns.
+    fn growing() -> Ticks {
+        Ticks {
+            count: AtomicU64::new(1),
+            grows: true,
+        }
+    }
 }
 
 impl Clock for Ticks {
     fn monotonic(&self) -> io::Result<Duration> {
-        Ok(Duration::from_micros(self.count.fetch_add(1, Ordering::SeqCst)))
+        let n = self.count.fetch_add(1, Ordering::SeqCst);
+        Ok(Duration::from_nanos(if self.grows {
+            n.saturating_mul(n.saturating_add(1)) / 2
+        } else {
+            n.saturating_mul(1000)
+        }))
     }
 
     fn since_1970(&self) -> io::Result<Duration> {
@@ -27,41 +53,11 @@ impl Clock for Ticks {
     }
 }
 
-/// Of each command its thread had a processor for 250 ns.
 impl CpuClock for Ticks {
     fn thread_cpu_time(&self) -> io::Result<Duration> {
         let count = self.count.load(Ordering::SeqCst);
-        Ok(Duration::from_nanos(count.saturating_mul(250)))
-    }
-
-    fn process_cpu_time(&self) -> io::Result<Duration> {
-        self.thread_cpu_time()
-    }
-}
-
-/// A clock whose steps grow: reading n is n (n + 1) / 2 nanoseconds, which is n more than the one
-/// before it, so no two times are equal.
-#[derive(Drop)]
-struct Growing {
-    count: AtomicU64,
-}
-
-impl Clock for Growing {
-    fn monotonic(&self) -> io::Result<Duration> {
-        let n = self.count.fetch_add(1, Ordering::SeqCst);
-        Ok(Duration::from_nanos(n.saturating_mul(n.saturating_add(1)) / 2))
-    }
-
-    fn since_1970(&self) -> io::Result<Duration> {
-        self.monotonic()
-    }
-}
-
-/// Of each command its thread had a processor for 100 ns.
-impl CpuClock for Growing {
-    fn thread_cpu_time(&self) -> io::Result<Duration> {
-        let count = self.count.load(Ordering::SeqCst);
-        Ok(Duration::from_nanos(count.saturating_mul(100)))
+        let each = if self.grows { 100 } else { 250 };
+        Ok(Duration::from_nanos(count.saturating_mul(each)))
     }
 
     fn process_cpu_time(&self) -> io::Result<Duration> {
@@ -218,38 +214,47 @@ fn answers<C: Clock + CpuClock + Sync>(
 
 #[test]
 fn times_are_told_by_kind(rt: HostRuntime) -> Result<(), Fail> {
-    let clock = Ticks {
-        count: AtomicU64::new(1),
-    };
-    answers(&rt, rt.alloc(), &clock, &[], JOB, 0, REPORT)
+    answers(&rt, rt.alloc(), &Ticks::even(), &[], JOB, 0, REPORT)
 }
 
 #[test]
 fn times_that_differ_are_told(rt: HostRuntime) -> Result<(), Fail> {
-    let clock = Growing {
-        count: AtomicU64::new(1),
-    };
-    answers(&rt, rt.alloc(), &clock, &[], LATER, 0, LATER_REPORT)
+    answers(
+        &rt,
+        rt.alloc(),
+        &Ticks::growing(),
+        &[],
+        LATER,
+        0,
+        LATER_REPORT,
+    )
 }
 
 #[test]
 fn times_are_written_as_values(rt: HostRuntime) -> Result<(), Fail> {
     let words = vec![in rt.alloc(); String::from_str(rt.alloc(), "--csv")?]?;
-    let ticks = Ticks {
-        count: AtomicU64::new(1),
-    };
-    answers(&rt, rt.alloc(), &ticks, &words, JOB, 0, VALUES)?;
-    let growing = Growing {
-        count: AtomicU64::new(1),
-    };
-    answers(&rt, rt.alloc(), &growing, &words, LATER, 0, LATER_VALUES)
+    answers(&rt, rt.alloc(), &Ticks::even(), &words, JOB, 0, VALUES)?;
+    answers(
+        &rt,
+        rt.alloc(),
+        &Ticks::growing(),
+        &words,
+        LATER,
+        0,
+        LATER_VALUES,
+    )
 }
 
 #[test]
 fn a_refusal_is_written_in_place_of_times(rt: HostRuntime) -> Result<(), Fail> {
-    let clock = Ticks {
-        count: AtomicU64::new(1),
-    };
     let refusal = "rtheap: line 1: header\n";
-    answers(&rt, rt.alloc(), &clock, &[], "rtheap 1\n", 3, refusal)
+    answers(
+        &rt,
+        rt.alloc(),
+        &Ticks::even(),
+        &[],
+        "rtheap 1\n",
+        3,
+        refusal,
+    )
 }

@@ -2,11 +2,12 @@ use Rattle.std.proofs.Common.{◌≡◌, ℕ, Option, Some, None, IfSome, sym, �
 use Rattle.block_store.specs.declared.Config.{Config}
 use Rattle.heap_system.specs.Alone.{EndsWithin, command_near}
 use Rattle.never_heap.specs.declared.Command.{Command}
-use Rattle.timed_runs.specs.Turns.{IsBoundAlone, IsInWord, other_near}
+use Rattle.rt_limit.specs.Prices.{IsInWord}
+use Rattle.timed_runs.specs.Turns.{IsBoundAlone, other_near}
 use Rattle.timed_runs.proofs.bounds.turns_alone.Goals as goal
 
 pub returns-else-blocks-gt0-clause-bound : goal.returns-else-blocks-gt0-clause-bound
-returns-else-blocks-gt0-clause-bound c = by c.other_turns.result c.other_turns.ensures
+returns-else-blocks-gt0-clause-bound c = by c.near_other_turns.result c.near_other_turns.ensures
   where
     config : Config
     config = c.args.config.now

@@ -19,11 +19,11 @@ fn progress(local: &Local) -> (usize, u64)
     (local.log().len(), local.spent())
 }
 
-// Makes turns of a thread until it is done, and tells the pace before each command. After a turn
-// that waited it pauses, longer each time until it gets on. Of the memory it makes the operations
-// of these turns, and no other: this code has no other way to the words.
+/// Makes turns of a thread until it is done, and tells the pace before each command. After a turn
+/// that waited it pauses, longer each time until it gets on. Of the memory it makes the operations
+/// of these turns, and no other: this code has no other way to the words.
 #[tactic(auto, using(crate::proofs::Driven::driven_none))]
-pub(crate) fn drives<C: Course, R: Wait, Q: Pace>(
+pub fn drives<C: Course, R: Wait, Q: Pace>(
     rt: &R,
     memory: &mut C,
     shared: &C::Shared,

@@ -1,5 +1,5 @@
 use Rattle.atom_board.specs.Drives.{HasDriven}
-use Rattle.atom_board.proofs.drives.drives.Given as goal
+use Rattle.atom_board.proofs.driver.drives.Given as goal
 
 abbrev pub invariant-loop : goal.invariant-loop
 invariant-loop g l =

@@ -1,6 +1,6 @@
 use Rattle.std.proofs.Common.{◌≡◌, ◌≤◌, ◌+◌, ◌*◌}
 use Rattle.lone_bound.specs.Near.{farthest}
-use Rattle.rt_limit.proofs.prices.farthest_of.Given as goal
+use Rattle.rt_limit.proofs.prices.farthest_turns.Given as goal
 
 abbrev pub invariant-loop-list : goal.invariant-loop-list
 invariant-loop-list l =
