@@ -96,6 +96,7 @@ impl Told for Figures {
 }
 
 /// How many cycles of collection were started.
+#[derive(Clone, Copy)]
 pub(crate) struct Cycles {
     pub(crate) count: u64,
 }
