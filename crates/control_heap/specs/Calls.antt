@@ -93,8 +93,8 @@ pub record HasAsked {M : Type 0} (acts : Acts M (Unit {0})) (old : ControlOf M) 
   pub made : HasMade acts old k new
 
 -- When each fault comes, where `done` says what holds if the command was executed and had a reply,
--- and `refused` what holds if it was refused: it had that reply, which it can have; or it was refused
--- for that cause.
+-- and `refused` what holds if it was refused. The command had that reply, which it can have; or it
+-- was refused for that cause.
 abbrev pub IsFaultOf : (Reply → Type 0) → (Refused → Type 0) → Command → Fault → Type 0
 IsFaultOf done refused k (faults.Full c) = (makes_object k ≡ true) × done (replies.Full c)
 IsFaultOf done refused k faults.Null = (has_base (operands k) ≡ true) × done replies.Null
