@@ -1,0 +1,6 @@
+pub mod Circles
+pub mod Cells
+pub mod Heaps
+pub mod Rings
+pub mod Opened
+pub mod Tables
