@@ -1,8 +1,6 @@
 pub mod Circling
 pub mod CellMoves
 pub mod CellLone
-pub mod CellFront
-pub mod CellRows
 pub mod Quiet
 pub mod Answered
 pub mod Chained

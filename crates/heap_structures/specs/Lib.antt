@@ -3,4 +3,3 @@ pub mod Cells
 pub mod Heaps
 pub mod Rings
 pub mod Opened
-pub mod Tables

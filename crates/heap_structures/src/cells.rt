@@ -28,6 +28,34 @@ pub struct Cells {
 }
 
 impl Cells {
+    /// The name of the array.
+    pub fn array(&self) -> Name
+        ensures { result ≡ self.now.array }
+    {
+        self.array
+    }
+
+    /// The register that refers to it.
+    pub fn base(&self) -> u8
+        ensures { result ≡ self.now.base }
+    {
+        self.base
+    }
+
+    /// The register for values on their way.
+    pub fn spare(&self) -> u8
+        ensures { result ≡ self.now.spare }
+    {
+        self.spare
+    }
+
+    /// How many values it has.
+    pub fn size(&self) -> u32
+        ensures { result ≡ self.now.size }
+    {
+        self.size
+    }
+
     /// Whether a value may be loaded into register `d`.
     pub(crate) fn may_load(&self, d: u8) -> bool
         ensures yes { result ≡ true → (d < 16) × (d ≢ self.now.base) × (d ≢ self.now.spare) }

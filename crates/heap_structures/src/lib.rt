@@ -10,6 +10,6 @@ mod ring;
 mod tests;
 
 pub use cells::Cells;
-pub use laws::quiet_commands_keep_graphs;
+pub use laws::{blocks_of, others_stay, quiet_commands_keep_graphs};
 pub use queue::Queue;
 pub use ring::Ring;

@@ -108,4 +108,11 @@ impl Queue {
     {
         self.count
     }
+
+    /// Its array and registers.
+    pub fn cells(&self) -> Cells
+        ensures { result ≡ queue_cells self.now }
+    {
+        self.cells
+    }
 }

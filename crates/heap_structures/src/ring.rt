@@ -106,4 +106,11 @@ impl Ring {
     {
         self.count
     }
+
+    /// Its array and registers.
+    pub fn cells(&self) -> Cells
+        ensures { result ≡ ring_cells self.now }
+    {
+        self.cells
+    }
 }
