@@ -1,0 +1,5 @@
+pub mod Circles
+pub mod Cells
+pub mod Heaps
+pub mod Rings
+pub mod Opened

@@ -1,0 +1,15 @@
+//! Structures for programs on a `ControlHeap`: each shows a plain list of values.
+#![tactic(auto)]
+
+mod cells;
+mod laws;
+mod places;
+mod queue;
+mod ring;
+#[cfg(test)]
+mod tests;
+
+pub use cells::Cells;
+pub use laws::{blocks_of, others_stay, quiet_commands_keep_graphs};
+pub use queue::Queue;
+pub use ring::Ring;
