@@ -5,7 +5,7 @@ ghost use Rattle.block_store.specs.Configs.{IsInBounds};
 ghost use Rattle.heap_system.specs.Alone.{command_near};
 ghost use Rattle.never_heap.specs.Steps.{length_made};
 ghost use Rattle.rt_limit.specs.Prices.{IsInWord};
-ghost use Rattle.timed_runs.specs.Turns.{IsBoundAlone};
+ghost use Rattle.timed_runs.specs.Turns.{IsBoundAlone, other_near};
 
 use crate::kinds::length_of;
 use block_store::Config;
@@ -30,6 +30,14 @@ pub fn turns_alone(config: &Config, rate: u64, command: &Command) -> Option<u64>
     if blocks > 0 {
         near_turns(config, rate.checked_mul(u64::from(blocks))?, blocks)
     } else {
-        near_other_turns(config, command.told(), most_events(config, command))
+        other_turns(config, command)
     }
+}
+
+/// The near bound of a command that makes no object.
+fn other_turns(config: &Config, command: &Command) -> Option<u64>
+    requires { IsInBounds config.now }
+    ensures { IsInWord result (other_near config.now command.now) }
+{
+    near_other_turns(config, command.told(), most_events(config, command))
 }

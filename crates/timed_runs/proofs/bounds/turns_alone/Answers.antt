@@ -7,7 +7,7 @@ use Rattle.timed_runs.specs.Turns.{IsBoundAlone, other_near}
 use Rattle.timed_runs.proofs.bounds.turns_alone.Goals as goal
 
 pub returns-else-blocks-gt0-clause-bound : goal.returns-else-blocks-gt0-clause-bound
-returns-else-blocks-gt0-clause-bound c = by c.near_other_turns.result c.near_other_turns.ensures
+returns-else-blocks-gt0-clause-bound c = by c.other_turns.result c.other_turns.ensures
   where
     config : Config
     config = c.args.config.now
