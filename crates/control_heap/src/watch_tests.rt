@@ -122,10 +122,7 @@ fn what_was_live_at_a_start_is_told_in_mark(rt: HostRuntime) {
         (heap.objects_made(), heap.commands_left()),
         (3, (1 << 60) - 7)
     );
-    assert_eq!(rt;
-        (heap.units_made(), heap.life_left()),
-        (3 * heap.rate(), 999_999)
-    );
+    assert_eq!(rt; (heap.units_made(), heap.life_left()), (3 * 8, 999_999));
     // In Mark the number is told, and in Sweep none is.
     let mut marks: u32 = 0;
     let mut last = None;

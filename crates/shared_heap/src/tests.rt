@@ -318,20 +318,42 @@ fn a_note_is_learned(rt: HostRuntime) {
     }
 }
 
-// Makes an array and a record, and reads the number that the record keeps. A list of the outcomes.
+// Makes a record that keeps a number, and reads it.
 #[tactic(auto, using(crate::proofs::Crews::same_here, crate::proofs::Crews::same_on))]
-fn keeps<R: Wait>(rt: &R, heap: &SharedHeap, who: &mut Worker) -> Result<(Value, bool, u64), Fault>
+fn keeps<R: Wait>(rt: &R, heap: &SharedHeap, who: &mut Worker) -> Result<Value, Fault>
     requires { who.old.heap ≡ heap.now.id }
     ensures { IsSame who.old who.new }
 {
-    let _record = heap.record(rt, who, 1, 2)?;
-    heap.set(rt, who, 2, 7)?;
-    heap.put(rt, who, 1, 1, 2)?;
-    let _array = heap.array(rt, who, 3, 4)?;
-    heap.put(rt, who, 3, 0, 1)?;
-    let value = heap.get(rt, who, 4, 1, 1)?;
-    let same = heap.same(rt, who, 2, 4)?;
-    Ok((value, same, heap.len(rt, who, 3)?))
+    let _record = heap.record(rt, who, 1, 2);
+    let _set = heap.set(rt, who, 2, 7);
+    let _put = heap.put(rt, who, 1, 1, 2);
+    heap.get(rt, who, 4, 1, 1)
+}
+
+// Exchanges that number with nil in register 5, puts it back, and compares.
+#[tactic(auto, using(crate::proofs::Crews::same_here, crate::proofs::Crews::same_on))]
+fn changes<R: Wait>(rt: &R, heap: &SharedHeap, who: &mut Worker) -> [Result<bool, Fault>; 2]
+    requires { who.old.heap ≡ heap.now.id }
+    ensures { IsSame who.old who.new }
+{
+    let _number = heap.swap(rt, who, 1, 1, 5);
+    let stored = heap.cas(rt, who, 1, 1, 8, 2);
+    let same = heap.same(rt, who, 2, 5);
+    let _copy = heap.mov(rt, who, 6, 1);
+    [stored, same]
+}
+
+// Makes an array in register 1, and drops it.
+#[tactic(auto, using(crate::proofs::Crews::same_here, crate::proofs::Crews::same_on))]
+fn drops<R: Wait>(rt: &R, heap: &SharedHeap, who: &mut Worker) -> Result<u64, Fault>
+    requires { who.old.heap ≡ heap.now.id }
+    ensures { IsSame who.old who.new }
+{
+    let _array = heap.array(rt, who, 1, 4);
+    let length = heap.len(rt, who, 1);
+    let _nil = heap.nil(rt, who, 1);
+    let _idle = heap.idle(rt, who, 10);
+    length
 }
 
 #[test]
@@ -342,20 +364,14 @@ fn each_call_returns_its_reply_or_a_fault(rt: HostRuntime) {
     };
     for who in workers {
         let mut who = who;
-        assert_eq!(rt; keeps(&rt, &heap, &mut who), Ok((Value::Int(7), true, 4)));
-        assert_eq!(rt; heap.swap(&rt, &mut who, 1, 1, 5), Ok(Value::Int(7)));
-        assert_eq!(rt; heap.cas(&rt, &mut who, 1, 1, 5, 2), Ok(true));
-        assert_eq!(rt; heap.mov(&rt, &mut who, 6, 1), Ok(()));
-        assert_eq!(rt; heap.nil(&rt, &mut who, 1), Ok(()));
-        assert_eq!(rt; heap.get(&rt, &mut who, 4, 1, 1), Err(Fault::Null));
-        assert_eq!(rt; heap.len(&rt, &mut who, 2), Err(Fault::Kind));
-        assert_eq!(rt; heap.put(&rt, &mut who, 6, 2, 2), Err(Fault::Range));
-        assert_eq!(rt; heap.say(&rt, &mut who, 16), Err(Fault::OutOfBounds));
-        assert_eq!(rt; heap.idle(&rt, &mut who, 10), Ok(()));
+        assert_eq!(rt; keeps(&rt, &heap, &mut who), Ok(Value::Int(7)));
+        assert_eq!(rt; changes(&rt, &heap, &mut who), [Ok(true), Ok(true)]);
+        assert_eq!(rt; drops(&rt, &heap, &mut who), Ok(4));
+        assert_eq!(rt; heap.put(&rt, &mut who, 1, 0, 2), Err(Fault::Null));
         assert_eq!(rt;
             (who.objects_made(), who.commands_left()),
-            (2, (1 << 60) - 16)
+            (2, (1 << 60) - 13)
         );
-        assert_eq!(rt; who.units_made(), 2 * who.rate() + 10);
+        assert_eq!(rt; (who.rate(), who.units_made()), (7, 2 * 7 + 10));
     }
 }
