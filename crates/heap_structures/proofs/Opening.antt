@@ -1,5 +1,5 @@
 -- A new array, whatever is known of the heap.
-use Rattle.std.proofs.Common.{◌≡◌, ◌≢◌, ℕ, ◌+◌, ◌*◌, ◌<◌, ◌≤◌, ◌⊎◌, Result, Ok, Err, true, false, inl, inr, List, [], ◌∷◌, length, sym, refl, ap, ◌∙◌, subst, arith}
+use Rattle.std.proofs.Common.{◌≡◌, ◌≢◌, ℕ, ◌+◌, ◌*◌, ◌<◌, ◌≤◌, ◌⊎◌, ◌||◌, Result, Ok, Err, true, false, inl, inr, List, [], ◌∷◌, length, sym, refl, ap, ◌∙◌, subst, arith}
 use Rattle.std.specs.Prelude.{MatchResult, OnOk, replicate}
 use Rattle.std.proofs.lemmas.Bool.{both_ways}
 use Rattle.block_store.specs.declared.Name.{Name}
@@ -45,7 +45,8 @@ new_named g b n lone =
     (Ref (next_name g 0)) (next_name g 0)
     (omega (arith, lone.threads, with_object_threads g 0 (nil_object Array n)))
     ∙ has_name_with_object g 0 (nil_object Array n) (omega (arith, lone.threads)) (next_name g 0)
-    ∙ rw (same_from (next_name g 0) (next_name g 0) refl refl) refl
+    ∙ ap (λ t. t || has_name g (next_name g 0))
+    (same_from (next_name g 0) (next_name g 0) refl refl)
 
 abbrev name_in : Reply → Name → Name
 name_in (replies.New a) d = a
@@ -81,7 +82,11 @@ module _ (legal : (h : Control) (r : Run) → Stands h r → Legal h.config r.or
 
   still_small : IsSmall h.config g → live_blocks h.config.width g + array_blocks h.config.width n ≤ h.config.live
       → IsSmall h.config (step g 0 k).0
-  still_small now few = let more = grows h.config.width g 0 k in omega (arith, more, few)
+  still_small now few =
+      let more : live_blocks h.config.width (step g 0 k).0
+      ≤ live_blocks h.config.width g + array_blocks h.config.width n =
+      grows h.config.width g 0 k in
+      omega (arith, more, few)
 
   small_reply : {acts : Acts (List ℕ) (Unit {0})} (s : Sight) → Has s h g
       → MayOpen s h.config g n → (a : Reply)
@@ -126,7 +131,9 @@ module _ (legal : (h : Control) (r : Run) → Stands h r → Legal h.config r.or
         commands = x.one_more;
         objects = x.objects;
         units = λ rate planned.
-            let e = u.units rate planned in
+            let e : units z
+            ≡ units h + ((rate * array_blocks h.config.width n + 0) + 0) =
+            u.units rate planned in
             let o : rate * array_blocks h.config.width n ≡ rate * array_blocks h.config.width c.size =
             ap (λ q. rate * array_blocks h.config.width q) (sym size) in
             omega (arith, e, o);
@@ -156,9 +163,12 @@ module _ (legal : (h : Control) (r : Run) → Stands h r → Legal h.config r.or
           ⊎ ((is_full (replies.Full c) ≡ true) × FullOf s z g) → FullOf s z g
       by (inl p) = absurd (full_new c (next_name g 0) p.0)
       by (inr p) = p.1
-  opens acts spare s has may (Err faults.Null) told = absurd cc
-  opens acts spare s has may (Err faults.Kind) told = absurd cc
-  opens acts spare s has may (Err faults.Range) told = absurd cc
+  opens acts spare s has may (Err faults.Null) told =
+      absurd (both_ways false refl told.0)
+  opens acts spare s has may (Err faults.Kind) told =
+      absurd (both_ways false refl told.0)
+  opens acts spare s has may (Err faults.Range) told =
+      absurd (both_ways false refl told.0)
   opens acts spare s has may (Err faults.OutOfBounds) told = (inr (inr (inr told.0)), told.1)
   opens acts spare s has may (Err faults.NoLifeLeft) told = (told.0.1, told.1)
 

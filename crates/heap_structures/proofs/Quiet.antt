@@ -12,6 +12,7 @@ use Rattle.never_heap.specs.LiveBlocks.{live_blocks}
 use Rattle.never_heap.specs.RightWork.{units_owed}
 use Rattle.never_heap.specs.Steps.{blocks_of, makes_object, step}
 use Rattle.never_heap.proofs.StepAnswers.{others_have_none, owes_told, step_not_full}
+use Rattle.heap_system.specs.Lives.{objects_of}
 use Rattle.heap_system.specs.Machines.{Run}
 use Rattle.control_heap.specs.Controls.{Control, HasAnswered, Stands, asked, units}
 use Rattle.asked_graph.specs.Asked.{HasDone, HasDoneAll, HasUsed}
@@ -22,7 +23,7 @@ use Rattle.heap_structures.proofs.CellMoves.{IsLone}
 use Rattle.heap_structures.specs.Heaps.{Any, Small, Always, Has, IsQuiet, Sight, Took}
 
 -- the run that a heap has with a graph
-pub run_of : (s : Sight) (h : Control) (g : Graph) → Has s h g → Run
+abbrev pub run_of : (s : Sight) (h : Control) (g : Graph) → Has s h g → Run
 run_of Any h g has = has.run
 run_of Small h g has = has.run
 run_of Always h g has = has.shows.run
@@ -89,12 +90,12 @@ module _ (legal : (h : Control) (r : Run) → Stands h r → Legal h.config r.or
         record {
           config = d.config;
           commands = omega (arith, d.count);
-          objects = d.objects ∙ none;
+          objects = omega (arith, d.objects, none);
           units = omega (arith, sum, owed, quiet.1);
         }
       where
-        none : h.objects + Rattle.heap_system.specs.Lives.objects_of k ≡ h.objects
-        none = rw quiet.0 (omega arith)
+        none : objects_of k ≡ 0
+        none = rw quiet.0 refl
 
     pub quiet_done : (s : Sight) → Has s h g
         → (d.reply ≡ (step g 0 k).1) × Has s z (step g 0 k).0 × Took 1 h z
