@@ -3,9 +3,13 @@
 pub const HELP: &str = "\
 usage: askbench REQUESTS TICKS   times REQUESTS requests of each kind, and TICKS ticks of a loop of
                                  1 kHz, on a heap of one thread
+       askbench steps            prints the rate of that heap, and the most operations of each
+                                 command
+       askbench steps BLOCKS LIVE OBJECT SHARED   the same of a heap of these sizes
+       askbench make KIND TIMES  makes so many requests of one kind; a line of steps has its name
 
-Both are numbers. The program runs only once it is built (--build), since an unproved build takes up
-to 280 times as long. bench/asked runs it.
+The numbers are decimal. The program runs only once it is built (--build), since an unproved build
+takes up to 280 times as long. bench/asked and bench/steps run it.
 ";
 
 pub const VERSION: &str = "askbench 0.1.0\n";

@@ -1,8 +1,10 @@
-//! Measures how long requests to a heap take, by kind, and how late a loop of 1 kHz runs.
-//! `bench/asked` runs it with two arguments: the requests of each kind, and the ticks.
+//! Measures how long requests to a heap take, by kind, and how late a loop of 1 kHz runs; prints the
+//! most operations of each command; and makes requests of one kind. `bench/asked` and `bench/steps`
+//! run it.
 #![tactic(auto)]
 
 mod help;
+mod steps;
 
 use block_store::{Config, Width};
 use control_heap::ControlHeap;
@@ -40,8 +42,17 @@ fn main(rt: HostRuntime) -> ExitCode {
     }
 }
 
-/// Prints a line for each kind of request, and one for the loop.
+/// Does what the first word says.
 fn run(rt: &HostRuntime, words: &[String]) -> Option<()> {
+    match words.first()?.as_str() {
+        "steps" => steps::most(rt, words),
+        "make" => steps::make(rt, words),
+        _ => times(rt, words),
+    }
+}
+
+/// Prints a line for each kind of request, and one for the loop.
+fn times(rt: &HostRuntime, words: &[String]) -> Option<()> {
     let rounds = number_in(words, 0)?;
     let ticks = number_in(words, 1)?;
     let mut heap = ControlHeap::open(rt.alloc(), HEAP).ok()?;
