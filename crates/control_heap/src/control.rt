@@ -294,8 +294,17 @@ impl<M: Store> ControlHeap<M> {
     {
         let few = self.count < MOST_COMMANDS;
         let objects = self.objects.saturating_add(objects_of(*command)) <= MOST_OBJECTS;
-        let units = self.thread.units_done() + self.thread.owes(command) <= MOST_UNITS;
+        let units = self.has_units(self.thread.owes(command));
         few && objects && units
+    }
+
+    // Whether the life has room for so many units. Those of the commands before are added up only
+    // where some are owed.
+    fn has_units(&self, owed: u64) -> bool
+        requires { owed ≤ most_units }
+        ensures { IsTrue result ↔ (units self.now + owed ≤ most_units) }
+    {
+        owed == 0 || self.thread.units_done() + owed <= MOST_UNITS
     }
 
     /// Does a command and returns its reply. The command is in bounds, and the life has room for

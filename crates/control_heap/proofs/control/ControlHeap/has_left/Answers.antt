@@ -11,4 +11,4 @@ owes-requires g c =
 pub returns-then-objects : goal.returns-then-objects
 returns-then-objects g c =
     let h : ControlOf g.row.M.Denot = record { config = c.self.inside.config; memory = c.self.inside.memory; words = g.M.Store.shows c.self.inside.memory; thread = c.self.inside.thread; count = c.self.inside.count; objects = c.self.inside.objects } in
-    left_now h c.self.invariant.0 c.self.invariant.1 c.args.command.now c.args.self.now c.self.view_is _ _ c.units_done.ensures.sum c.owes.ensures.price c.if-objects.true.0 (omega (arith, c.if-objects.true.1, c.saturating_add-objects.ensures, c.objects_of.ensures))
+    left_now h c.self.invariant.0 c.self.invariant.1 c.args.command.now c.args.self.now c.self.view_is _ c.owes.ensures.price c.if-objects.true.0 (omega (arith, c.if-objects.true.1, c.saturating_add-objects.ensures, c.objects_of.ensures)) _ c.has_units-units.ensures
