@@ -42,11 +42,13 @@ figures_line f = ended
 abbrev pub cycles_line : Cycles → List ℕ
 cycles_line c = ended (codes "end cycles " ++ decimal c.count)
 
+abbrev pub parts_text : List Step → List Figures → List Cycles → List ℕ
+parts_text order figures cycles =
+    (flat_map step_line order ++ flat_map figures_line figures) ++ flat_map cycles_line cycles
+
 -- all that is printed: the operations in the order, the figures of the threads, and the cycles
 abbrev pub plant_text : List Step → List Figures → ℕ → List ℕ
-plant_text order figures cycles =
-    (flat_map step_line order ++ flat_map figures_line figures)
-    ++ flat_map cycles_line (record { count = cycles } ∷ [])
+plant_text order figures cycles = parts_text order figures (record { count = cycles } ∷ [])
 
 -- all of the text was written, with status 0, or a prefix of it, with 6
 abbrev pub IsTold : Option (List ℕ) → Option (List ℕ) → List ℕ → ℕ → Type 0

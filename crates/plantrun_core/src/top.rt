@@ -4,7 +4,7 @@ ghost use Rattle.std.specs.Prelude.{◌≡◌, ◌≢◌, ◌≤◌, IfOk, IfSom
 ghost use Rattle.trace_text.specs.Streams.{Appends, AppendsPrefix};
 ghost use Rattle.plantrun_core.specs.Ends.{HasPlant};
 ghost use Rattle.plantrun_core.specs.Logs.{IsOrder};
-ghost use Rattle.plantrun_core.specs.Texts.{plant_text, IsTold};
+ghost use Rattle.plantrun_core.specs.Texts.{parts_text, plant_text, IsTold};
 
 use crate::calls::{Logs, Step};
 use crate::clock::{Ticks, nanoseconds};
@@ -41,7 +41,9 @@ pub struct Ended {
 }
 
 /// The plan that two words spell.
-pub fn plan_of(words: &[String]) -> Option<Plan> {
+pub fn plan_of(words: &[String]) -> Option<Plan>
+    ensures { IfSome result (λ plan. plan.ticks ≤ 1048576) }
+{
     let [ticks, period] = words else {
         return None;
     };
@@ -97,22 +99,35 @@ pub fn plant<R: Threads + Wait + Clock + Sync, S: Source>(
     })
 }
 
-/// Writes what became of a plant: a line for each operation in the order, one for each thread's
-/// figures, and one for the cycles of collection.
+/// Writes a line for each operation in the order, one for each thread's figures, and one for the
+/// cycles of collection.
+fn write_parts<K: Sink>(
+    order: &[Step],
+    figures: &[Figures],
+    cycles: &[Cycles],
+    sink: &mut K,
+) -> Result<(), Failed>
+    ensures written { OnOk result (Appends (K.held sink.old) (K.held sink.new)
+        (parts_text order.now figures.now cycles.now)) }
+    ensures prefix { OnErr result (AppendsPrefix (K.held sink.old) (K.held sink.new)
+        (parts_text order.now figures.now cycles.now)) }
+{
+    write_all(order, sink)?;
+    write_all(figures, sink)?;
+    write_all(cycles, sink)
+}
+
+/// Writes what became of a plant.
 fn write_ended<K: Sink>(ended: &Ended, sink: &mut K) -> Result<(), Failed>
     ensures written { OnOk result (Appends (K.held sink.old) (K.held sink.new)
         (plant_text ended.now.order.items ended.now.figures ended.now.cycles)) }
     ensures prefix { OnErr result (AppendsPrefix (K.held sink.old) (K.held sink.new)
         (plant_text ended.now.order.items ended.now.figures ended.now.cycles)) }
 {
-    write_all(ended.order.as_slice(), sink)?;
-    write_all(&ended.figures, sink)?;
-    write_all(
-        &[Cycles {
-            count: ended.cycles,
-        }],
-        sink,
-    )
+    let cycles = [Cycles {
+        count: ended.cycles,
+    }];
+    write_parts(ended.order.as_slice(), &ended.figures, &cycles, sink)
 }
 
 /// How a plant ended: the exit status, and what became of it where it ran to its end.

@@ -1,15 +1,14 @@
 use Rattle.std.proofs.lemmas.Result.{on_ok_weaker, on_err_weaker}
 use Rattle.trace_text.proofs.AppendedTexts.{appends_in_turn, front_in_turn, front_longer, at_err}
-use Rattle.plantrun_core.proofs.top.write_ended.Goals as goal
+use Rattle.plantrun_core.proofs.top.write_parts.Goals as goal
 
 pub returns-in_err-write_all-clause-prefix : goal.returns-in_err-write_all-clause-prefix
 returns-in_err-write_all-clause-prefix g c =
-    at_err c.from_residual.result
-    (front_longer _ _ _ _ (front_longer _ _ _ _ c.in_err-write_all.ensures.prefix))
+    at_err _ (front_longer _ _ _ _ (front_longer _ _ _ _ c.in_err-write_all.ensures.prefix))
 
 pub returns-in_err-write_all-2-clause-prefix : goal.returns-in_err-write_all-2-clause-prefix
 returns-in_err-write_all-2-clause-prefix g c =
-    at_err c.from_residual-2.result
+    at_err _
     (front_longer _ _ _ _
     (front_in_turn _ _ _ _ _ c.in_ok-write_all.ensures.written c.in_err-write_all-2.ensures.prefix))
 
