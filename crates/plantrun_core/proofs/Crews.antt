@@ -1,5 +1,5 @@
 -- The four workers of a table, one by one.
-use Rattle.std.proofs.Common.{◌≡◌, ◌∙◌, ℕ, zero, suc, ◌<◌, List, [], ◌∷◌, ◌++◌, length, slice_index_or, sym, ap, refl, subst, arith}
+use Rattle.std.proofs.Common.{◌≡◌, ◌∙◌, ℕ, zero, suc, ◌<◌, List, [], ◌∷◌, ◌++◌, length, slice_index_or, sym, ap, subst, arith}
 use Rattle.std.specs.Prelude.{remove}
 use Rattle.block_store.specs.declared.Config.{Config}
 use Rattle.shared_heap.specs.Workers.{HeapState}

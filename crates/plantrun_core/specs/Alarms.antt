@@ -1,5 +1,5 @@
 -- When an alarm is raised, acknowledged and cleared, and what is done in the list then.
-use Rattle.std.specs.Prelude.{ℕ, ◌+◌, nat_le, nat_lt, ◌==◌, Bool, true, false, ◌&&◌, ◌||◌, if◌then◌else◌, Option, Some, None}
+use Rattle.std.specs.Prelude.{ℕ, ◌+◌, nat_le, nat_lt, ◌==◌, Bool, false, ◌&&◌, ◌||◌, if◌then◌else◌, Option, Some, None}
 use Rattle.tag_table.specs.Tables.{Tag}
 use Rattle.tag_table.specs.declared.operation.Operation.{Operation}
 use Rattle.tag_table.specs.declared.operation.Operation.TheVariants.{Write, Clear}

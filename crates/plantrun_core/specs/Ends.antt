@@ -1,5 +1,5 @@
 -- The four workers of a plant, and what they leave.
-use Rattle.std.specs.Prelude.{ℕ, ◌≡◌, List, [], ◌∷◌, ◌++◌, Option, Some, None, IfSome}
+use Rattle.std.specs.Prelude.{ℕ, ◌≡◌, [], ◌∷◌}
 use Rattle.shared_heap.specs.Workers.{HeapState}
 use Rattle.live_tags.specs.Live.{TagWorkerState, HaveOneTable, IsOf, opened_config, thread_of}
 use Rattle.plantrun_core.specs.declared.crew.Crew.{Crew}

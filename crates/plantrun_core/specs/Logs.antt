@@ -1,5 +1,5 @@
 -- What the threads of a plant did, and an order of it.
-use Rattle.std.specs.Prelude.{ℕ, ◌+◌, ◌≡◌, List, map, length}
+use Rattle.std.specs.Prelude.{ℕ, ◌≡◌, List, map}
 use Rattle.operations.specs.Linearizations.{Call, calls_of, AreAnswered}
 use Rattle.tag_table.specs.declared.operation.Operation.{Operation}
 use Rattle.tag_table.specs.Tables.{Tag, answer, table_after, empty_table}

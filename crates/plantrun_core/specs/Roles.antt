@@ -1,5 +1,5 @@
 -- What each thread does at a time, by its log.
-use Rattle.std.specs.Prelude.{ℕ, ◌+◌, ◌*◌, ◌%◌, ◌≡◌, ◌≤◌, ◌++◌, min, ◌^◌, ◌-◌, ◌⊎◌, List, [], ◌∷◌, Option, Some, None, Bool, true, false, if◌then◌else◌}
+use Rattle.std.specs.Prelude.{ℕ, ◌+◌, ◌*◌, ◌%◌, ◌≡◌, ◌≤◌, ◌++◌, min, ◌^◌, ◌-◌, List, [], ◌∷◌, Option, Some, None, Bool, true, false, if◌then◌else◌}
 use Rattle.tag_table.specs.declared.operation.Operation.{Operation}
 use Rattle.tag_table.specs.declared.operation.Operation.TheVariants.{Write, Read}
 use Rattle.tag_table.specs.Tables.{Tag}
@@ -8,7 +8,7 @@ use Rattle.plantrun_core.specs.declared.alarms.Limits.{Limits}
 use Rattle.plantrun_core.specs.declared.law.Loop.{Loop}
 use Rattle.plantrun_core.specs.declared.readings.Reading.{Reading}
 use Rattle.plantrun_core.specs.declared.roles.Role.{Role}
-use Rattle.plantrun_core.specs.declared.roles.Role.TheVariants.{Control, Alarms, History}
+use Rattle.plantrun_core.specs.declared.roles.Role.TheVariants.{Control}
 use Rattle.plantrun_core.specs.Laws.{value_of, loop_after}
 use Rattle.plantrun_core.specs.Alarms.{move_of, act_of}
 

@@ -92,7 +92,7 @@ fn a_plant_runs(rt: HostRuntime) -> Result<(), Fail> {
             assert_eq!(rt; ended.logs.input.len(), 6);
             assert_eq!(rt; ended.logs.control.len(), 120);
             assert!(rt; ended.order.len() > 126 + 8 * 12);
-            assert!(rt; nanoseconds(&rt) - began > 19_000_000);
+            assert!(rt; nanoseconds(&rt).saturating_sub(began) > 19_000_000);
         }
         Err(stop) => assert!(rt; false, "{stop:?}"),
     }
