@@ -97,7 +97,8 @@ fn write_commands<K: Sink>(trace: &[Command], sink: &mut K) -> Result<(), Failed
     Ok(())
 }
 
-fn line_of_thread(t: usize) -> LineBuffer
+/// The line that begins the trace of thread `t`, with its line feed.
+pub fn line_of_thread(t: usize) -> LineBuffer
     ensures { result ≡ line_text (codes "thread" ∷ decimal t ∷ []) }
 {
     let mut line = LineBuffer::new();
@@ -145,7 +146,7 @@ fn version_of(width: Width) -> &'static [u8]
 }
 
 /// Makes a command's line, in place of what the buffer held.
-fn fill_command(line: &mut LineBuffer, command: &Command)
+pub fn fill_command(line: &mut LineBuffer, command: &Command)
     ensures { line.new ≡ line_text (command_line command.now) }
 {
     line.clear();

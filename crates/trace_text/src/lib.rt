@@ -15,7 +15,7 @@ mod std_sink;
 mod std_source;
 mod trace_faults;
 
-pub use job_writer::{job_text_is_job, line_of_config, write_job};
+pub use job_writer::{fill_command, job_text_is_job, line_of_config, line_of_thread, write_job};
 pub use jobs::Job;
 pub use line_buffer::LineBuffer;
 pub use mem_sink::MemSink;
