@@ -6,6 +6,8 @@ mod comparing;
 #[cfg(test)]
 mod generated;
 #[cfg(test)]
+mod recorded;
+#[cfg(test)]
 mod scheduled;
 #[cfg(test)]
 mod several;

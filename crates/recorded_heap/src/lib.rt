@@ -1,0 +1,8 @@
+//! A heap for one thread that writes what it is asked as the text of a job.
+#![tactic(auto)]
+
+mod recorder;
+#[cfg(test)]
+mod tests;
+
+pub use recorder::{Ended, RecordFault, Recorder};
