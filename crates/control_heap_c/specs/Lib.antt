@@ -1,2 +1,3 @@
 pub mod Links
 pub mod Outcomes
+pub mod Shared

@@ -1,7 +1,7 @@
 use Rattle.std.proofs.Common.{subst}
 use Rattle.control_heap.specs.Controls.{Control}
 use Rattle.control_heap_c.specs.Outcomes.{Answered}
-use Rattle.control_heap_c.proofs.handle.ask_box.Goals as goal
+use Rattle.control_heap_c.proofs.handle.ask_owned.Goals as goal
 
 -- src/handle.rt:92:1
 pub returns-in-Ok : goal.returns-in-Ok
