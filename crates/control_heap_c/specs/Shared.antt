@@ -10,7 +10,7 @@ use Rattle.never_heap.specs.Bounds.{IsCommandInBounds}
 use Rattle.heap_system.specs.Lives.{sum_after, objects_of, most_units, most_objects}
 use Rattle.heap_system.specs.Locals.{works}
 use Rattle.shared_heap.specs.declared.heap.OpenFault.TheVariants as faults
-use Rattle.shared_heap.specs.declared.worker.Refused.TheVariants as refused
+use Rattle.control_heap.specs.declared.control.Refused.TheVariants as refused
 use Rattle.shared_heap.specs.Pending.{IsStillPending, MadeMore, PendingState, start_pending}
 use Rattle.shared_heap.specs.Refusals.{IsOpenFault, IsRefused}
 use Rattle.shared_heap.specs.Spans.{IsInTime}
