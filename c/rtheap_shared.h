@@ -6,7 +6,7 @@
    starts as a reference to the one shared array. A thread of the program attaches a worker to a
    handle and gives it one command at a time: rtheap_worker_start announces the command, and
    rtheap_worker_poll carries it out, at most so many steps in a call. No call waits, takes a lock
-   or starts a thread. Only rtheap_group_open allocates.
+   or starts a thread. Only rtheap_group_open and rtheap_group_attach allocate.
 
        rtheap_group group = RTHEAP_GROUP_CLOSED;
        rtheap_worker worker = RTHEAP_WORKER_CLOSED;    one for each thread
@@ -70,7 +70,7 @@ RTHEAP_CHECKED static inline rtheap_status rtheap_group_open(
 
 /* Moves the worker of the lowest thread that has no handle yet to a closed handle. Or:
    RTHEAP_NO_HEAP (the group is closed), RTHEAP_IS_OPEN (the worker's handle is open),
-   RTHEAP_NO_WORKER. */
+   RTHEAP_NO_WORKER, RTHEAP_NO_MEMORY. */
 RTHEAP_CHECKED static inline rtheap_status rtheap_group_attach(rtheap_group *group,
                                                                rtheap_worker *worker) {
     if (!group || !worker) return RTHEAP_NULL_HANDLE;

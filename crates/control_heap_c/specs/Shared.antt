@@ -1,5 +1,5 @@
 -- What a call from C does to a worker of a shared heap, and the numbers that it returns.
-use Rattle.std.specs.Prelude.{ℕ, ◌-◌, ◌≡◌, ◌==◌, if◌then◌else◌, Bool, true, false, is_some, Option, Some, None, Result, Ok, Err, List, [], ◌∷◌, length, map}
+use Rattle.std.specs.Prelude.{ℕ, zero, suc, ◌-◌, ◌≡◌, ◌==◌, if◌then◌else◌, Bool, true, false, is_some, Option, Some, None, Result, Ok, Err, List, [], ◌∷◌, length, map}
 use Rattle.std.specs.Arc.{arc_value}
 use Rattle.block_store.specs.declared.Config.{Config}
 use Rattle.block_store.specs.declared.Width.{Width}
@@ -136,10 +136,13 @@ shut_status (Some (Resting r)) = 0
 shut_status (Some (Executing e)) = 16
 shut_status (Some Moved) = 1
 
--- Only with status 0 anything has changed.
+-- what the handle has after a call of this status: with 0 nothing, and else the same
+abbrev pub IsLeft : ℕ → Option Owned → Option Owned → Type 0
+IsLeft zero old new = new ≡ None
+IsLeft (suc n) old new = new ≡ old
+
 abbrev pub IsShut : Option Owned → ℕ → Option Owned → Type 0
-IsShut old status new = (status ≡ shut_status old)
-    × (if status == 0 then (new ≡ None) else (new ≡ old))
+IsShut old status new = (status ≡ shut_status old) × IsLeft (shut_status old) old new
 
 -- ---- a shared heap
 
