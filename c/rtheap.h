@@ -86,7 +86,12 @@ typedef enum rtheap_status {
     RTHEAP_NULL = 12,           /* register s holds nil, and not a reference */
     RTHEAP_KIND = 13,           /* register s holds a number, and not a reference */
     RTHEAP_RANGE = 14,          /* the object in register s has no field or element i */
-    RTHEAP_TOO_FEW_WORDS = 15   /* rtheap_open_in, which did nothing: too few words, or NULL */
+    RTHEAP_TOO_FEW_WORDS = 15,  /* rtheap_open_in, which did nothing: too few words, or NULL */
+    RTHEAP_BUSY = 16,           /* these five: see rtheap_shared.h */
+    RTHEAP_NOT_DONE = 17,
+    RTHEAP_NO_COMMAND = 18,
+    RTHEAP_NO_SUCH_COMMAND = 19,
+    RTHEAP_NO_WORKER = 20
 } rtheap_status;
 
 /* What a register, field or element holds. */
@@ -375,6 +380,11 @@ static inline const char *rtheap_text(rtheap_status status) {
     case RTHEAP_KIND: return "the register holds a number, and not a reference";
     case RTHEAP_RANGE: return "the object has no such field or element";
     case RTHEAP_TOO_FEW_WORDS: return "the lent memory has too few words";
+    case RTHEAP_BUSY: return "the worker's last command is not done";
+    case RTHEAP_NOT_DONE: return "the command is not done yet";
+    case RTHEAP_NO_COMMAND: return "the worker has no command to carry out";
+    case RTHEAP_NO_SUCH_COMMAND: return "there is no command of this number";
+    case RTHEAP_NO_WORKER: return "all workers of the heap have handles";
     }
     return "not a status";
 }

@@ -13,6 +13,7 @@ KIT = Path(__file__).resolve().parent / "kit.txt"
 # what is trusted and no executable file at the top of the repository, and what it is for
 OTHERS = {
     "c/rtheap.h": "declares the calls from C, and refuses null handles",
+    "c/rtheap_shared.h": "declares the calls from C of a heap that threads share",
     "c/lent_memory.c": "gives the heap from C lent words, in place of `malloc`",
     "c/build": "makes the static libraries",
     ".ci/run": "runs the gate",

@@ -6,20 +6,16 @@ use Rattle.std.proofs.BoxSteps.Form.{Bx}
 use Rattle.std.specs.contracts.alloc.Global as Heap
 use Rattle.std.specs.contracts.impls.GlobalAllocator.TheImpl.{ghosts, dict}
 use Rattle.std.proofs.alloc.Global.TheLaws as heap
-use Rattle.heap_machine.specs.contracts.words.WordsMemory.TheImpl as memory
-use Rattle.heap_machine.proofs.words.Words.TheLaws as words
-use Rattle.heap_machine.specs.contracts.words.Words as Words
-use Rattle.control_heap.specs.contracts.store.WordsStore.TheImpl as store
-use Rattle.control_heap.proofs.control.ControlHeap.TheLaws as control
-use Rattle.control_heap_c.specs.Links.{heap_row}
+use Rattle.control_heap_c.specs.contracts.owned.Owned as Owned
+use Rattle.control_heap_c.proofs.owned.Owned.TheLaws as owned
 use Rattle.control_heap_c.specs.contracts.link.parts.Parts as Parts
 use Rattle.control_heap_c.specs.contracts.link.Link as Link
 
 abbrev pub E : Bx
-E = record { row = heap_row; laws = control.the_row_laws Words.the_row store.ghosts memory.ghosts words.the_row_laws; al = record { row = Heap.the_row; laws = heap.the_row_laws; g = ghosts; d = dict; drops = impl [] tnil dnil } }
+E = record { row = Owned.the_row; laws = owned.the_row_laws; al = record { row = Heap.the_row; laws = heap.the_row_laws; g = ghosts; d = dict; drops = impl [] tnil dnil } }
 
 abbrev pub FromParts : Slot 0
-FromParts = plain (λ _. Parts.the_row heap_row Heap.the_row ghosts)
+FromParts = plain (λ _. Parts.the_row Owned.the_row Heap.the_row ghosts)
 
 abbrev pub FromLink : Slot 0
 FromLink = plain (λ _. Link.the_row)

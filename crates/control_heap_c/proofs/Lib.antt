@@ -1,2 +1,4 @@
 mod AsBox
+mod Handing
 mod ReadBack
+mod Shutting

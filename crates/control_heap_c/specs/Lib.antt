@@ -1,2 +1,4 @@
+pub mod Groups
 pub mod Links
 pub mod Outcomes
+pub mod Shared

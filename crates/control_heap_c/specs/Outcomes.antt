@@ -22,10 +22,12 @@ use Rattle.control_heap.specs.Controls.{Control, CanOpen, HasLeft, HasAnswered, 
 use Rattle.control_heap.specs.Refusals.{IsOpenFault, IsRefused}
 use Rattle.control_heap_c.specs.declared.answer.Answer.{Answer}
 use Rattle.control_heap_c.specs.declared.answer.Refusal.{Refusal}
-use Rattle.control_heap_c.specs.declared.answer.Refusal.TheVariants.{Closed, Heap}
+use Rattle.control_heap_c.specs.declared.answer.Refusal.TheVariants as refusals
 use Rattle.control_heap_c.specs.declared.handle.Counts.{Counts}
 use Rattle.control_heap_c.specs.declared.handle.OpenRefusal.{OpenRefusal}
 use Rattle.control_heap_c.specs.declared.handle.OpenRefusal.TheVariants as opening
+use Rattle.control_heap_c.specs.declared.owned.Owned.{Owned}
+use Rattle.control_heap_c.specs.declared.owned.Owned.TheVariants.{Heap, Group, Resting, Executing, Moved}
 
 -- ---- a command
 
@@ -47,6 +49,15 @@ pub record Answered (old new : Control) (k : Command) (a : Reply) : Type 0 where
   pub made : HasMade acts_on_words old k new
   pub fits : MayAnswer k a
 
+-- the heap of one thread that a handle has, if it has one
+abbrev pub heap_in : Option Owned → Option Control
+heap_in None = None
+heap_in (Some (Heap h)) = Some h
+heap_in (Some (Group g)) = None
+heap_in (Some (Resting r)) = None
+heap_in (Some (Executing e)) = None
+heap_in (Some Moved) = None
+
 -- the handle had a heap and has one, which carried the command out
 abbrev pub IsAnswered : Option Control → Command → Reply → Option Control → Type 0
 IsAnswered None k a h = ⊥
@@ -55,22 +66,22 @@ IsAnswered (Some old) k a (Some new) = Answered old new k a
 
 -- or the command was refused: the handle is closed, or the heap refuses the command
 abbrev pub IsNotAsked : Option Control → Command → Refusal → Type 0
-IsNotAsked None k Closed = Unit {0}
-IsNotAsked None k (Heap r) = ⊥
-IsNotAsked (Some c) k Closed = ⊥
-IsNotAsked (Some c) k (Heap r) = IsRefused c k r
+IsNotAsked None k refusals.Closed = Unit {0}
+IsNotAsked None k (refusals.Heap r) = ⊥
+IsNotAsked (Some c) k refusals.Closed = ⊥
+IsNotAsked (Some c) k (refusals.Heap r) = IsRefused c k r
 
--- the outcome of a command; a refused command leaves the heap unchanged
-abbrev pub Became : Option Control → Command → Result Reply Refusal → Option Control → Type 0
-Became old k (Ok a) new = IsAnswered old k a new
-Became old k (Err e) new = IsNotAsked old k e × (new ≡ old)
+-- the outcome of a command; a refused command leaves what the handle has unchanged
+abbrev pub Became : Option Owned → Command → Result Reply Refusal → Option Owned → Type 0
+Became old k (Ok a) new = IsAnswered (heap_in old) k a (heap_in new)
+Became old k (Err e) new = IsNotAsked (heap_in old) k e × (new ≡ old)
 
 -- its status: a different number for each refusal
 abbrev pub status_of : Result Reply Refusal → ℕ
 status_of (Ok a) = 0
-status_of (Err Closed) = 1
-status_of (Err (Heap refused.OutOfBounds)) = 2
-status_of (Err (Heap refused.NoLifeLeft)) = 3
+status_of (Err refusals.Closed) = 1
+status_of (Err (refusals.Heap refused.OutOfBounds)) = 2
+status_of (Err (refusals.Heap refused.NoLifeLeft)) = 3
 
 abbrev pub answer : ℕ → ℕ → ℕ → Answer
 answer kind thread value = record { kind = kind; thread = thread; value = value }
@@ -115,9 +126,9 @@ reply_in w =
 -- the refusal with such a status
 abbrev pub refusal_in : ℕ → Option Refusal
 refusal_in s =
-    if s == 1 then Some Closed
-    else if s == 2 then Some (Heap refused.OutOfBounds)
-    else if s == 3 then Some (Heap refused.NoLifeLeft)
+    if s == 1 then Some refusals.Closed
+    else if s == 2 then Some (refusals.Heap refused.OutOfBounds)
+    else if s == 3 then Some (refusals.Heap refused.NoLifeLeft)
     else None
 
 -- what the caller's struct holds after the call: a refusal leaves it unchanged
@@ -125,9 +136,9 @@ abbrev pub told : Result Reply Refusal → Answer → Answer
 told (Ok a) old = written a
 told (Err e) old = old
 
--- a call of a command: the heap of the handle before and after, the caller's struct before and
--- after, and the status
-pub record Called (k : Command) (old new : Option Control) (before after : Answer) (status : ℕ)
+-- a call of a command: what the handle has before and after, the caller's struct before and after,
+-- and the status
+pub record Called (k : Command) (old new : Option Owned) (before after : Answer) (status : ℕ)
     : Type 0 where
   pub outcome : Result Reply Refusal
   pub became : Became old k outcome new
@@ -139,7 +150,8 @@ pub record Called (k : Command) (old new : Option Control) (before after : Answe
 abbrev pub AllCalled : Control → List Command → List Reply → Control → Type 0
 AllCalled h [] [] z = h ≡ z
 AllCalled h (k ∷ ks) (a ∷ ys) z =
-    (n : Control) × (before : Answer) × Called k (Some h) (Some n) before (written a) 0
+    (n : Control) × (before : Answer)
+    × Called k (Some (Heap h)) (Some (Heap n)) before (written a) 0
     × AllCalled n ks ys z
 AllCalled h _ _ z = ⊥
 
@@ -180,16 +192,16 @@ IsOpened (Some w) c None = ⊥
 IsOpened (Some w) c (Some h) = Fresh (c w) h
 
 -- why no heap is opened: the handle is open, there is no such version, or the heap's own cause
-abbrev pub IsNotOpened : Option Control → Option Width → (Width → Config) → OpenRefusal → Type 0
-IsNotOpened (Some h) w c opening.Open = Unit {0}
+abbrev pub IsNotOpened : Option Owned → Option Width → (Width → Config) → OpenRefusal → Type 0
+IsNotOpened (Some x) w c opening.Open = Unit {0}
 IsNotOpened None None c opening.Version = Unit {0}
 IsNotOpened None (Some w) c (opening.Heap f) = IsOpenFault (c w) f
 IsNotOpened _ _ c _ = ⊥
 
-abbrev pub BecameOpen : Option Control → Option Width → (Width → Config) → Option OpenRefusal
-    → Option Control → Type 0
-BecameOpen None w c None new = IsOpened w c new
-BecameOpen (Some h) w c None new = ⊥
+abbrev pub BecameOpen : Option Owned → Option Width → (Width → Config) → Option OpenRefusal
+    → Option Owned → Type 0
+BecameOpen None w c None new = IsOpened w c (heap_in new)
+BecameOpen (Some x) w c None new = ⊥
 BecameOpen old w c (Some e) new = IsNotOpened old w c e × (new ≡ old)
 
 -- its status: a different number for each cause
@@ -215,12 +227,20 @@ open_refusal_in s =
     else if s == 9 then Some (opening.Heap faults.NotOneThread)
     else None
 
--- a call of open: the heap of the handle before and after, and the status
-pub record Opened (w : Option Width) (c : Width → Config) (old new : Option Control) (status : ℕ)
+-- a call of open: what the handle has before and after, and the status
+pub record Opened (w : Option Width) (c : Width → Config) (old new : Option Owned) (status : ℕ)
     : Type 0 where
   pub refusal : Option OpenRefusal
   pub became : BecameOpen old w c refusal new
   pub status_is : status ≡ open_status refusal
+
+-- a call of close: a handle that has no heap of one thread is left as it is
+abbrev pub IsClosed : Option Control → ℕ → Option Owned → Option Owned → Type 0
+IsClosed None status old new = (status ≡ 1) × (new ≡ old)
+IsClosed (Some h) status old new = (status ≡ 0) × (new ≡ None)
+
+abbrev pub Shut : Option Owned → ℕ → Option Owned → Type 0
+Shut old status new = IsClosed (heap_in old) status old new
 
 -- ---- lent memory
 

@@ -1,9 +1,9 @@
-//! The calls for a program in C. Each takes a handle, open or closed, and a command also the struct
+//! The calls for a program in C with a heap of one thread. Each takes a handle, open or closed, and a command also the struct
 //! for its reply. A call that is refused changes nothing, and its status gives the cause.
 
-ghost use Rattle.std.specs.Prelude.{◌≡◌, ◌≤◌, ◌<◌, is_some, None, if◌then◌else◌};
+ghost use Rattle.std.specs.Prelude.{◌≡◌, ◌≤◌, ◌<◌};
 ghost use Rattle.never_heap.specs.declared.Command.TheVariants as commands;
-ghost use Rattle.control_heap_c.specs.Outcomes.{Called, Opened, config_of, counts_of, lent_words, register, width_of};
+ghost use Rattle.control_heap_c.specs.Outcomes.{Called, Opened, Shut, config_of, counts_of, heap_in, lent_words, register, width_of};
 
 use crate::answer::{Answer, register, tell};
 use crate::handle::{Handle, ask, close, counts_at, lent_words, open, open_told};
@@ -22,7 +22,7 @@ pub extern "C" fn rtheap_raw_open(
     shared: u32,
 ) -> u32
     ensures { Opened (width_of version) (λ w. config_of w blocks live object shared)
-        handle.old.link.heap handle.new.link.heap result }
+        handle.old.link.value handle.new.link.value result }
 {
     open_told(open(alloc, handle, version, blocks, live, object, shared))
 }
@@ -49,10 +49,10 @@ pub extern "C" fn rtheap_raw_open_in(
     shared: u32,
 ) -> u32
     ensures few { words < lent_words (width_of version) blocks object
-        → (result ≡ 15) × (handle.new.link.heap ≡ handle.old.link.heap) }
+        → (result ≡ 15) × (handle.new.link.value ≡ handle.old.link.value) }
     ensures enough { lent_words (width_of version) blocks object ≤ words
         → Opened (width_of version) (λ w. config_of w blocks live object shared)
-        handle.old.link.heap handle.new.link.heap result }
+        handle.old.link.value handle.new.link.value result }
 {
     if words < lent_words(version, blocks, object) {
         return 15;
@@ -60,20 +60,19 @@ pub extern "C" fn rtheap_raw_open_in(
     open_told(open(alloc, handle, version, blocks, live, object, shared))
 }
 
-/// Closes a handle and frees its heap. Returns 0, or 1 if it was closed.
+/// Closes a handle and frees its heap. Returns 0, or 1 if it has no heap.
 #[unsafe(no_mangle)]
 pub extern "C" fn rtheap_raw_close(alloc: Global, handle: &mut Handle) -> u32
-    ensures closed { handle.new.link.heap ≡ None }
-    ensures told { result ≡ if is_some handle.old.link.heap then 0 else 1 }
+    ensures { Shut handle.old.link.value result handle.new.link.value }
 {
-    if close(alloc, handle) { 0 } else { 1 }
+    close(alloc, handle)
 }
 
 /// The units of collection that are left of the heap's life; 0 if the handle is closed.
 #[unsafe(no_mangle)]
 pub extern "C" fn rtheap_raw_units_left(alloc: Global, handle: &mut Handle) -> u64
-    ensures told { result ≡ (counts_of handle.old.link.heap).units }
-    ensures unchanged { handle.new.link.heap ≡ handle.old.link.heap }
+    ensures told { result ≡ (counts_of (heap_in handle.old.link.value)).units }
+    ensures unchanged { handle.new.link.value ≡ handle.old.link.value }
 {
     counts_at(alloc, handle).units
 }
@@ -81,8 +80,8 @@ pub extern "C" fn rtheap_raw_units_left(alloc: Global, handle: &mut Handle) -> u
 /// The allocations that are left of the heap's life; 0 if the handle is closed.
 #[unsafe(no_mangle)]
 pub extern "C" fn rtheap_raw_objects_left(alloc: Global, handle: &mut Handle) -> u64
-    ensures told { result ≡ (counts_of handle.old.link.heap).objects }
-    ensures unchanged { handle.new.link.heap ≡ handle.old.link.heap }
+    ensures told { result ≡ (counts_of (heap_in handle.old.link.value)).objects }
+    ensures unchanged { handle.new.link.value ≡ handle.old.link.value }
 {
     counts_at(alloc, handle).objects
 }
@@ -90,8 +89,8 @@ pub extern "C" fn rtheap_raw_objects_left(alloc: Global, handle: &mut Handle) ->
 /// The number of commands so far; 0 if the handle is closed.
 #[unsafe(no_mangle)]
 pub extern "C" fn rtheap_raw_asked(alloc: Global, handle: &mut Handle) -> u64
-    ensures told { result ≡ (counts_of handle.old.link.heap).asked }
-    ensures unchanged { handle.new.link.heap ≡ handle.old.link.heap }
+    ensures told { result ≡ (counts_of (heap_in handle.old.link.value)).asked }
+    ensures unchanged { handle.new.link.value ≡ handle.old.link.value }
 {
     counts_at(alloc, handle).asked
 }
@@ -105,8 +104,8 @@ pub extern "C" fn rtheap_raw_new(
     fields: u32,
     out: &mut Answer,
 ) -> u32
-    ensures { Called (commands.New (register d) fields) handle.old.link.heap
-        handle.new.link.heap out.old out.new result }
+    ensures { Called (commands.New (register d) fields) handle.old.link.value
+        handle.new.link.value out.old out.new result }
 {
     let command = Command::New {
         d: register(d),
@@ -125,8 +124,8 @@ pub extern "C" fn rtheap_raw_arr(
     elements: u32,
     out: &mut Answer,
 ) -> u32
-    ensures { Called (commands.Arr (register d) elements) handle.old.link.heap
-        handle.new.link.heap out.old out.new result }
+    ensures { Called (commands.Arr (register d) elements) handle.old.link.value
+        handle.new.link.value out.old out.new result }
 {
     let command = Command::Arr {
         d: register(d),
@@ -145,8 +144,8 @@ pub extern "C" fn rtheap_raw_set(
     value: u64,
     out: &mut Answer,
 ) -> u32
-    ensures { Called (commands.Set (register d) value) handle.old.link.heap
-        handle.new.link.heap out.old out.new result }
+    ensures { Called (commands.Set (register d) value) handle.old.link.value
+        handle.new.link.value out.old out.new result }
 {
     let command = Command::Set {
         d: register(d),
@@ -164,8 +163,8 @@ pub extern "C" fn rtheap_raw_nil(
     d: u32,
     out: &mut Answer,
 ) -> u32
-    ensures { Called (commands.Nil (register d)) handle.old.link.heap
-        handle.new.link.heap out.old out.new result }
+    ensures { Called (commands.Nil (register d)) handle.old.link.value
+        handle.new.link.value out.old out.new result }
 {
     let command = Command::Nil { d: register(d) };
     let outcome = ask(alloc, handle, command);
@@ -181,8 +180,8 @@ pub extern "C" fn rtheap_raw_mov(
     s: u32,
     out: &mut Answer,
 ) -> u32
-    ensures { Called (commands.Mov (register d) (register s)) handle.old.link.heap
-        handle.new.link.heap out.old out.new result }
+    ensures { Called (commands.Mov (register d) (register s)) handle.old.link.value
+        handle.new.link.value out.old out.new result }
 {
     let command = Command::Mov {
         d: register(d),
@@ -202,8 +201,8 @@ pub extern "C" fn rtheap_raw_get(
     i: u64,
     out: &mut Answer,
 ) -> u32
-    ensures { Called (commands.Get (register d) (register s) i) handle.old.link.heap
-        handle.new.link.heap out.old out.new result }
+    ensures { Called (commands.Get (register d) (register s) i) handle.old.link.value
+        handle.new.link.value out.old out.new result }
 {
     let command = Command::Get {
         d: register(d),
@@ -224,8 +223,8 @@ pub extern "C" fn rtheap_raw_put(
     v: u32,
     out: &mut Answer,
 ) -> u32
-    ensures { Called (commands.Put (register s) i (register v)) handle.old.link.heap
-        handle.new.link.heap out.old out.new result }
+    ensures { Called (commands.Put (register s) i (register v)) handle.old.link.value
+        handle.new.link.value out.old out.new result }
 {
     let command = Command::Put {
         s: register(s),
@@ -244,8 +243,8 @@ pub extern "C" fn rtheap_raw_len(
     s: u32,
     out: &mut Answer,
 ) -> u32
-    ensures { Called (commands.Len (register s)) handle.old.link.heap
-        handle.new.link.heap out.old out.new result }
+    ensures { Called (commands.Len (register s)) handle.old.link.value
+        handle.new.link.value out.old out.new result }
 {
     let command = Command::Len { s: register(s) };
     let outcome = ask(alloc, handle, command);
@@ -261,8 +260,8 @@ pub extern "C" fn rtheap_raw_same(
     b: u32,
     out: &mut Answer,
 ) -> u32
-    ensures { Called (commands.Same (register a) (register b)) handle.old.link.heap
-        handle.new.link.heap out.old out.new result }
+    ensures { Called (commands.Same (register a) (register b)) handle.old.link.value
+        handle.new.link.value out.old out.new result }
 {
     let command = Command::Same {
         a: register(a),
@@ -280,8 +279,8 @@ pub extern "C" fn rtheap_raw_say(
     s: u32,
     out: &mut Answer,
 ) -> u32
-    ensures { Called (commands.Say (register s)) handle.old.link.heap
-        handle.new.link.heap out.old out.new result }
+    ensures { Called (commands.Say (register s)) handle.old.link.value
+        handle.new.link.value out.old out.new result }
 {
     let command = Command::Say { s: register(s) };
     let outcome = ask(alloc, handle, command);
@@ -298,8 +297,8 @@ pub extern "C" fn rtheap_raw_swap(
     v: u32,
     out: &mut Answer,
 ) -> u32
-    ensures { Called (commands.Swap (register s) i (register v)) handle.old.link.heap
-        handle.new.link.heap out.old out.new result }
+    ensures { Called (commands.Swap (register s) i (register v)) handle.old.link.value
+        handle.new.link.value out.old out.new result }
 {
     let command = Command::Swap {
         s: register(s),
@@ -321,8 +320,8 @@ pub extern "C" fn rtheap_raw_cas(
     v: u32,
     out: &mut Answer,
 ) -> u32
-    ensures { Called (commands.Cas (register s) i (register a) (register v)) handle.old.link.heap
-        handle.new.link.heap out.old out.new result }
+    ensures { Called (commands.Cas (register s) i (register a) (register v)) handle.old.link.value
+        handle.new.link.value out.old out.new result }
 {
     let command = Command::Cas {
         s: register(s),
@@ -342,8 +341,8 @@ pub extern "C" fn rtheap_raw_idle(
     units: u64,
     out: &mut Answer,
 ) -> u32
-    ensures { Called (commands.Idle units) handle.old.link.heap
-        handle.new.link.heap out.old out.new result }
+    ensures { Called (commands.Idle units) handle.old.link.value
+        handle.new.link.value out.old out.new result }
 {
     let command = Command::Idle { units };
     let outcome = ask(alloc, handle, command);

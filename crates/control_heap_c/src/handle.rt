@@ -1,12 +1,13 @@
-//! The handle that C keeps, and the heap that it owns.
+//! The handle that C keeps, and the heap of one thread that it owns.
 
 ghost use Rattle.std.specs.Prelude.{◌≡◌, eqb, is_some, Some, None, MatchOption, IfOk, IfErr};
 ghost use Rattle.control_heap.specs.Refusals.{IsOpenFault};
 ghost use Rattle.control_heap_c.specs.Links.{open_mark};
-ghost use Rattle.control_heap_c.specs.Outcomes.{Became, BecameOpen, Fresh, config_of, counts_of, lent_words, open_status, width_of};
+ghost use Rattle.control_heap_c.specs.Outcomes.{Became, BecameOpen, IsOpened, Shut, config_of, counts_of, heap_in, lent_words, open_status, width_of};
 
 use crate::answer::Refusal;
 use crate::link::Link;
+use crate::owned::Owned;
 use block_store::{Config, Width};
 use control_heap::{ControlHeap, OpenFault};
 use never_heap::{Command, Entry, Reply};
@@ -19,20 +20,20 @@ use std::mem::{replace, size_of};
 const OTHER_WORDS: u64 = 128;
 
 const _: () = prove!(
-    10 * 8 + size_of::<Command>() + size_of::<Entry>() + size_of::<ControlHeap>()
+    10 * 8 + size_of::<Command>() + size_of::<Entry>() + size_of::<Owned>()
         <= 8 * OTHER_WORDS as usize
 );
 
 // An open handle begins with this number, and a closed one with any other.
 const OPEN: u64 = 7_238_540_126_943_155_201;
 
-/// What C keeps of a heap: a mark that says whether the handle is open, and the pointer.
+/// What C keeps: a mark that says whether the handle is open, and the pointer.
 #[repr(C)]
 #[derive(Drop)]
 pub struct Handle {
     mark: u64,
     link: Link,
-    ghost told: { eqb mark open_mark ≡ is_some link.heap },
+    ghost told: { eqb mark open_mark ≡ is_some link.value },
 }
 
 /// Why no heap was opened.
@@ -47,9 +48,9 @@ pub enum OpenRefusal {
 }
 
 impl Handle {
-    // A handle with no heap.
-    fn closed(alloc: Global) -> Handle
-        ensures { result.link.heap ≡ None }
+    // A handle that owns nothing.
+    pub(crate) fn closed(alloc: Global) -> Handle
+        ensures { result.link.value ≡ None }
     {
         Handle {
             mark: 0,
@@ -57,22 +58,29 @@ impl Handle {
         }
     }
 
-    // A handle with this heap.
-    fn of(heap: Box<ControlHeap>) -> Handle
-        ensures { result.link.heap ≡ Some heap.value }
+    // A handle with this value.
+    pub(crate) fn of(value: Box<Owned>) -> Handle
+        ensures { result.link.value ≡ Some value.value }
     {
         Handle {
             mark: OPEN,
-            link: Link::of(heap),
+            link: Link::of(value),
         }
     }
 
-    // The heap, if there is one.
-    fn into_heap(self) -> Option<Box<ControlHeap>>
-        ensures { MatchOption result (self.link.heap ≡ None) (λ b. self.link.heap ≡ Some b.value) }
+    // Whether it owns something.
+    pub(crate) fn is_open(&self) -> bool
+        ensures { result ≡ is_some self.now.link.value }
     {
-        if self.mark == OPEN {
-            Some(self.link.into_heap())
+        self.mark == OPEN
+    }
+
+    // The value, if there is one.
+    pub(crate) fn into_box(self) -> Option<Box<Owned>>
+        ensures { MatchOption result (self.link.value ≡ None) (λ b. self.link.value ≡ Some b.value) }
+    {
+        if self.is_open() {
+            Some(self.link.into_box())
         } else {
             None
         }
@@ -83,29 +91,39 @@ impl Handle {
 ///
 /// # Errors
 ///
-/// `Closed` if the handle has no heap, and otherwise those of `ControlHeap::ask`. Nothing has
+/// `Closed` if the handle has no heap of one thread, and otherwise those of `ControlHeap::ask`. Nothing has
 /// changed then.
 pub fn ask(alloc: Global, handle: &mut Handle, command: Command) -> Result<Reply, Refusal>
-    ensures { Became handle.old.link.heap command result handle.new.link.heap }
+    ensures { Became handle.old.link.value command result handle.new.link.value }
 {
-    match replace(handle, Handle::closed(alloc)).into_heap() {
+    match replace(handle, Handle::closed(alloc)).into_box() {
         None => Err(Refusal::Closed),
-        Some(heap) => {
-            let (heap, outcome) = ask_box(heap, command);
-            *handle = Handle::of(heap);
+        Some(owned) => {
+            let (owned, outcome) = ask_box(owned, command);
+            *handle = Handle::of(owned);
             outcome
         }
     }
 }
 
-// Asks a command of a heap.
-fn ask_box(heap: Box<ControlHeap>, command: Command) -> (Box<ControlHeap>, Result<Reply, Refusal>)
-    ensures { Became (Some heap.value) command result.1 (Some result.0.value) }
+// Asks a command of a heap, if this is one.
+fn ask_box(owned: Box<Owned>, command: Command) -> (Box<Owned>, Result<Reply, Refusal>)
+    ensures { Became (Some owned.value) command result.1 (Some result.0.value) }
 {
-    let mut heap = heap;
-    match heap.ask(command) {
-        Ok(reply) => (heap, Ok(reply)),
-        Err(refused) => (heap, Err(Refusal::Heap(refused))),
+    let mut owned = owned;
+    let outcome = ask_owned(&mut owned, command);
+    (owned, outcome)
+}
+
+fn ask_owned(owned: &mut Owned, command: Command) -> Result<Reply, Refusal>
+    ensures { Became (Some owned.old) command result (Some owned.new) }
+{
+    match owned {
+        Owned::Heap(heap) => match heap.ask(command) {
+            Ok(reply) => Ok(reply),
+            Err(refused) => Err(Refusal::Heap(refused)),
+        },
+        _ => Err(Refusal::Closed),
     }
 }
 
@@ -124,12 +142,12 @@ pub fn open(
     object: u32,
     shared: u32,
 ) -> Option<OpenRefusal>
-    ensures { BecameOpen handle.old.link.heap (width_of version)
-        (λ w. config_of w blocks live object shared) result handle.new.link.heap }
+    ensures { BecameOpen handle.old.link.value (width_of version)
+        (λ w. config_of w blocks live object shared) result handle.new.link.value }
 {
-    match replace(handle, Handle::closed(alloc)).into_heap() {
-        Some(heap) => {
-            *handle = Handle::of(heap);
+    match replace(handle, Handle::closed(alloc)).into_box() {
+        Some(owned) => {
+            *handle = Handle::of(owned);
             Some(OpenRefusal::Open)
         }
         None => match width_of(version) {
@@ -171,8 +189,8 @@ pub fn open_told(refusal: Option<OpenRefusal>) -> u32
     }
 }
 
-// The width of a version.
-fn width_of(version: u32) -> Option<Width>
+/// The width of a version.
+pub fn width_of(version: u32) -> Option<Width>
     ensures { result ≡ width_of version }
 {
     if version == 1 {
@@ -197,29 +215,39 @@ pub fn lent_words(version: u32, blocks: u32, object: u32) -> u64
 }
 
 // A new heap in a box.
-fn opened(alloc: Global, config: Config) -> Result<Box<ControlHeap>, OpenFault>
-    ensures fresh { IfOk result (λ b. Fresh config b.value) }
+fn opened(alloc: Global, config: Config) -> Result<Box<Owned>, OpenFault>
+    ensures fresh { IfOk result (λ b. IsOpened (Some config.width) (λ w. config)
+        (heap_in (Some b.value))) }
     ensures refused { IfErr result (IsOpenFault config) }
 {
     let heap = ControlHeap::open(alloc, config)?;
-    match Box::new(alloc, heap) {
+    match Box::new(alloc, Owned::Heap(heap)) {
         Ok(heap) => Ok(heap),
         Err(_) => Err(OpenFault::NoMemory),
     }
 }
 
-/// Drops the heap of a handle. Returns whether there was one.
-pub fn close(alloc: Global, handle: &mut Handle) -> bool
-    ensures told { result ≡ is_some handle.old.link.heap }
-    ensures closed { handle.new.link.heap ≡ None }
+/// Drops the heap of a handle. Returns the status.
+pub fn close(alloc: Global, handle: &mut Handle) -> u32
+    ensures { Shut handle.old.link.value result handle.new.link.value }
 {
-    match replace(handle, Handle::closed(alloc)).into_heap() {
-        None => false,
-        Some(heap) => {
-            drop(heap);
-            true
+    match replace(handle, Handle::closed(alloc)).into_box() {
+        None => 1,
+        Some(owned) => {
+            if is_heap(&owned) {
+                drop(owned);
+                return 0;
+            }
+            *handle = Handle::of(owned);
+            1
         }
     }
+}
+
+fn is_heap(owned: &Owned) -> bool
+    ensures { result ≡ is_some (heap_in (Some owned.now)) }
+{
+    matches!(owned, Owned::Heap(_))
 }
 
 /// What is left of a heap's life, and how many commands it was asked.
@@ -232,29 +260,34 @@ pub struct Counts {
 
 /// The counts of the heap of a handle; 0 if it has none.
 pub fn counts_at(alloc: Global, handle: &mut Handle) -> Counts
-    ensures told { result ≡ counts_of handle.old.link.heap }
-    ensures unchanged { handle.new.link.heap ≡ handle.old.link.heap }
+    ensures told { result ≡ counts_of (heap_in handle.old.link.value) }
+    ensures unchanged { handle.new.link.value ≡ handle.old.link.value }
 {
-    match replace(handle, Handle::closed(alloc)).into_heap() {
-        None => Counts {
-            units: 0,
-            objects: 0,
-            asked: 0,
-        },
-        Some(heap) => {
-            let counts = counts_of(&heap);
-            *handle = Handle::of(heap);
+    match replace(handle, Handle::closed(alloc)).into_box() {
+        None => NO_COUNTS,
+        Some(owned) => {
+            let counts = counts_of(&owned);
+            *handle = Handle::of(owned);
             counts
         }
     }
 }
 
-fn counts_of(heap: &ControlHeap) -> Counts
-    ensures { result ≡ counts_of (Some heap.now) }
+const NO_COUNTS: Counts = Counts {
+    units: 0,
+    objects: 0,
+    asked: 0,
+};
+
+fn counts_of(owned: &Owned) -> Counts
+    ensures { result ≡ counts_of (heap_in (Some owned.now)) }
 {
-    Counts {
-        units: heap.units_left(),
-        objects: heap.objects_left(),
-        asked: heap.asked(),
+    match owned {
+        Owned::Heap(heap) => Counts {
+            units: heap.units_left(),
+            objects: heap.objects_left(),
+            asked: heap.asked(),
+        },
+        _ => NO_COUNTS,
     }
 }

@@ -10,7 +10,8 @@ ghost use Rattle.control_heap.specs.Controls.{Control, AllAnswered};
 ghost use Rattle.control_heap_c.specs.declared.answer.Answer.{Answer};
 ghost use Rattle.control_heap_c.specs.declared.answer.Refusal.{Refusal};
 ghost use Rattle.control_heap_c.specs.declared.handle.OpenRefusal.{OpenRefusal};
-ghost use Rattle.control_heap_c.specs.Outcomes.{Called, IsAnswered, IsNotAsked, IsNotOpened, IsOpened, AllCalled, Opened, config_of, open_refusal_in, open_status, refusal_in, register, reply_in, status_of, written};
+ghost use Rattle.control_heap_c.specs.declared.owned.Owned.{Owned};
+ghost use Rattle.control_heap_c.specs.Outcomes.{Called, IsAnswered, IsNotAsked, IsNotOpened, IsOpened, AllCalled, Opened, config_of, heap_in, open_refusal_in, open_status, refusal_in, register, reply_in, status_of, written};
 
 use crate::handle::Handle;
 
@@ -27,12 +28,12 @@ pub fn numbers_read_back()
 /// A call of status 0 was answered, by the reply that it wrote. For a call of any other status the
 /// status gives the cause, and nothing has changed.
 pub fn statuses_tell()
-    ensures answered { (k : Command) (old new : Option Control) (before after : Answer)
+    ensures answered { (k : Command) (old new : Option Owned) (before after : Answer)
         → Called k old new before after 0
-        → (a : Reply) × (after ≡ written a) × IsAnswered old k a new }
-    ensures refused { (k : Command) (old new : Option Control) (before after : Answer) (s : ℕ)
+        → (a : Reply) × (after ≡ written a) × IsAnswered (heap_in old) k a (heap_in new) }
+    ensures refused { (k : Command) (old new : Option Owned) (before after : Answer) (s : ℕ)
         → Called k old new before after (suc s)
-        → (e : Refusal) × (refusal_in (suc s) ≡ Some e) × IsNotAsked old k e × (new ≡ old)
+        → (e : Refusal) × (refusal_in (suc s) ≡ Some e) × IsNotAsked (heap_in old) k e × (new ≡ old)
         × (after ≡ before) }
 {}
 
@@ -40,16 +41,16 @@ pub fn statuses_tell()
 /// gives the cause, and nothing has changed. Status 9 does not occur, and 15 only in lent memory of
 /// too few words.
 pub fn openings_tell()
-    ensures opened { (w : Option Width) (c : Width → Config) (old new : Option Control)
-        → Opened w c old new 0 → (old ≡ None) × IsOpened w c new }
-    ensures refused { (w : Option Width) (c : Width → Config) (old new : Option Control) (s : ℕ)
+    ensures opened { (w : Option Width) (c : Width → Config) (old new : Option Owned)
+        → Opened w c old new 0 → (old ≡ None) × IsOpened w c (heap_in new) }
+    ensures refused { (w : Option Width) (c : Width → Config) (old new : Option Owned) (s : ℕ)
         → Opened w c old new (suc s)
         → (e : OpenRefusal) × (open_refusal_in (suc s) ≡ Some e) × IsNotOpened old w c e
         × (new ≡ old) }
     ensures one_thread { (w : Option Width) (blocks live object shared : ℕ)
-        (old new : Option Control)
+        (old new : Option Owned)
         → ¬ Opened w (λ x. config_of x blocks live object shared) old new 9 }
-    ensures enough { (w : Option Width) (c : Width → Config) (old new : Option Control)
+    ensures enough { (w : Option Width) (c : Width → Config) (old new : Option Owned)
         → ¬ Opened w c old new 15 }
 {}
 

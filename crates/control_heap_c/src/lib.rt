@@ -1,4 +1,5 @@
-//! A heap of one thread for programs in C. Each export is a call that `c/rtheap.h` declares.
+//! Heaps for programs in C: of one thread, and of several. Each export is a call that `c/rtheap.h` or
+//! `c/rtheap_shared.h` declares.
 #![tactic(auto)]
 
 mod answer;
@@ -6,6 +7,8 @@ mod exports;
 mod handle;
 mod laws;
 mod link;
+mod owned;
+mod shared;
 
 pub use answer::{Answer, Refusal};
 pub use handle::{Handle, OpenRefusal};
@@ -13,3 +16,4 @@ pub use laws::{
     calls_are_requests, handles_cross, numbers_read_back, openings_tell,
     registers_are_not_truncated, statuses_tell,
 };
+pub use owned::{Executing, Group, Owned, Resting};

@@ -4,7 +4,7 @@ use mathlib.Core.List.{List, [], ◌∷◌, ◌++◌}
 use seplogic.Ra.Ura.{Ura}
 use mir.Val.{Val}
 use Rattle.std.specs.Prelude.{◌≡◌, Option, Some}
-use Rattle.control_heap.specs.Controls.{Control}
+use Rattle.control_heap_c.specs.declared.owned.Owned.{Owned}
 use Rattle.control_heap_c.specs.contracts.link.Link as Link
 use base.Logic.{SProp, ent, id⊢}
 use base.Fml.{ftrue, fsep}
@@ -44,10 +44,10 @@ module _ {M : Type 1} {𝓤 : Ura M} (𝓛 : Logic 𝓤) (at_mem : Memory → SP
   walk z =
       let Post = (walk_of 𝓛 F.ended stayed (F.clauses 𝓛 at_mem run)).post z in
       let d = z.0.3.0 in let us = z.0.4.0 in
-      let Has : Type 0 = (c : Control) × (d.heap ≡ Some c) in
+      let Has : Type 0 = (x : Owned) × (d.value ≡ Some x) in
       let To = type_at (F.signature).result tt in
       qed 𝓛 ((‵ ftrue ⊛ ‵ (fsep (Link.the_row.own_val d us) ftrue)) ∷ raw (fact 𝓤 Has) ∷ []) ∵ move ! (1 ∷ []) $ heard ! Has (λ has. split ! $ drop ! $ fsplit ! $
-      rewrite ! 0 (λ (h : Option Control). ‵ (Link.the_row.own_val (record { at = d.at; alloc = d.alloc; heap = h }) us)) has.1 refl $
+      rewrite ! 0 (λ (h : Option Owned). ‵ (Link.the_row.own_val (record { at = d.at; alloc = d.alloc; value = h }) us)) has.1 refl $
       let v : D E = record { ptr = d.at; alloc = d.alloc; value = has.0 } in
       let made : To.Denot = record { ptr = v.ptr; alloc = v.alloc; value = v.value } in
       box_out E ! v us (λ b o hv e ws fa. box_in E ! v b o v.value e refl $ use1 𝓛 (‵ (To.own_val made (word E hv b o ∷ []))) (id⊢ 𝓤 _) $ move ! (1 ∷ []) $ drop ! $

@@ -1,0 +1,13 @@
+-- The first of a group's workers, and the others, are of its heap.
+use Rattle.std.proofs.Common.{◌≡◌, ◌<◌, ℕ, suc, List, [], ◌∷◌, length, slice_index_or, sym, ap, ◌∙◌, subst, arith}
+use Rattle.atomic_table.specs.Seated.{TableId}
+use Rattle.shared_heap.specs.Workers.{WorkerState}
+
+abbrev AllOf : TableId → List WorkerState → Type 0
+AllOf t ws = (i : ℕ) (d : WorkerState) → i < length ws → (slice_index_or ws i d).heap ≡ t
+
+pub first_of : (t : TableId) (w : WorkerState) (rest ws : List WorkerState) → w ∷ rest ≡ ws → AllOf t ws → w.heap ≡ t
+first_of t w rest ws e all = (subst (λ (xs : List WorkerState). AllOf t xs) (sym e) all) 0 w (omega (arith))
+
+pub others_of : (t : TableId) (w : WorkerState) (rest ws : List WorkerState) → w ∷ rest ≡ ws → AllOf t ws → AllOf t rest
+others_of t w rest ws e all i d lt = (subst (λ (xs : List WorkerState). AllOf t xs) (sym e) all) (suc i) d (omega (arith, lt))

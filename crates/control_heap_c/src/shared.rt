@@ -1,0 +1,6 @@
+//! A heap that several threads of a program in C share, by calls that never wait.
+
+pub(crate) mod coded;
+mod exports;
+pub(crate) mod group;
+pub(crate) mod worker;

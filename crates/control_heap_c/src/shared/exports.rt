@@ -1,0 +1,131 @@
+//! The calls for a program in C whose threads share a heap. None of them waits. A call that is refused
+//! changes nothing, and its status gives the cause.
+
+ghost use Rattle.std.specs.Prelude.{◌≡◌};
+ghost use Rattle.control_heap_c.specs.Outcomes.{width_of};
+ghost use Rattle.control_heap_c.specs.Groups.{Attached, IsGroupShut, OpenedGroup, shared_config};
+ghost use Rattle.control_heap_c.specs.Shared.{IsShut, Polled, Started, command_in, worker_at, worker_counts};
+
+use super::coded::command_in;
+use super::group::{attach, attach_told, close as close_group, group_told, open};
+use super::worker::{close, counts, poll, poll_told, start, start_told};
+use crate::answer::Answer;
+use crate::handle::Handle;
+use std::alloc::Global;
+
+/// Opens a heap for several threads in the closed handle of a group, which then has its workers.
+#[unsafe(no_mangle)]
+pub extern "C" fn rtheap_group_raw_open(
+    alloc: Global,
+    group: &mut Handle,
+    version: u32,
+    threads: u32,
+    blocks: u32,
+    live: u32,
+    object: u32,
+    shared: u32,
+) -> u32
+    ensures { OpenedGroup (width_of version)
+        (λ w. shared_config w threads blocks live object shared) group.old.link.value
+        group.new.link.value result }
+{
+    group_told(open(alloc, group, version, threads, blocks, live, object, shared))
+}
+
+/// Moves the first worker of a group to the closed handle of a worker.
+#[unsafe(no_mangle)]
+pub extern "C" fn rtheap_group_raw_attach(
+    alloc: Global,
+    group: &mut Handle,
+    worker: &mut Handle,
+) -> u32
+    ensures { Attached group.old.link.value worker.old.link.value result group.new.link.value
+        worker.new.link.value }
+{
+    attach_told(attach(alloc, group, worker))
+}
+
+/// Closes the handle of a group, and drops the workers that no handle has. Returns 0, or 1 if it has
+/// none.
+#[unsafe(no_mangle)]
+pub extern "C" fn rtheap_group_raw_close(alloc: Global, group: &mut Handle) -> u32
+    ensures { IsGroupShut group.old.link.value result group.new.link.value }
+{
+    close_group(alloc, group)
+}
+
+/// Starts the command of these numbers, and makes none of its events.
+#[unsafe(no_mangle)]
+pub extern "C" fn rtheap_worker_raw_start(
+    alloc: Global,
+    worker: &mut Handle,
+    kind: u32,
+    a: u32,
+    b: u32,
+    v: u32,
+    n: u64,
+) -> u32
+    ensures { Started (command_in kind a b v n) worker.old.link.value worker.new.link.value
+        result }
+{
+    start_told(start(alloc, worker, command_in(kind, a, b, v, n)))
+}
+
+/// Makes at most `most` events of the command that was started last, and writes its reply if it is
+/// then done.
+#[unsafe(no_mangle)]
+pub extern "C" fn rtheap_worker_raw_poll(
+    alloc: Global,
+    worker: &mut Handle,
+    most: u64,
+    out: &mut Answer,
+) -> u32
+    ensures { Polled most worker.old.link.value worker.new.link.value out.old out.new result }
+{
+    let outcome = poll(alloc, worker, most);
+    poll_told(outcome, out)
+}
+
+/// Closes the handle of a worker, unless its command is not done.
+#[unsafe(no_mangle)]
+pub extern "C" fn rtheap_worker_raw_close(alloc: Global, worker: &mut Handle) -> u32
+    ensures { IsShut worker.old.link.value result worker.new.link.value }
+{
+    close(alloc, worker)
+}
+
+/// The number of the worker's thread, from 0; 0 if the handle has no worker between two commands.
+#[unsafe(no_mangle)]
+pub extern "C" fn rtheap_worker_raw_thread(alloc: Global, worker: &mut Handle) -> u32
+    ensures told { result ≡ (worker_counts (worker_at worker.old.link.value)).thread }
+    ensures unchanged { worker.new.link.value ≡ worker.old.link.value }
+{
+    counts(alloc, worker).thread
+}
+
+/// The units of collection that are left of the worker's life.
+#[unsafe(no_mangle)]
+pub extern "C" fn rtheap_worker_raw_units_left(alloc: Global, worker: &mut Handle) -> u64
+    ensures told { result ≡ (worker_counts (worker_at worker.old.link.value)).units }
+    ensures unchanged { worker.new.link.value ≡ worker.old.link.value }
+{
+    counts(alloc, worker).units
+}
+
+/// The allocations that are left of the worker's life.
+#[unsafe(no_mangle)]
+pub extern "C" fn rtheap_worker_raw_objects_left(alloc: Global, worker: &mut Handle) -> u64
+    ensures told { result ≡ (worker_counts (worker_at worker.old.link.value)).objects }
+    ensures unchanged { worker.new.link.value ≡ worker.old.link.value }
+{
+    counts(alloc, worker).objects
+}
+
+/// The number of commands that the worker has executed.
+#[unsafe(no_mangle)]
+pub extern "C" fn rtheap_worker_raw_asked(alloc: Global, worker: &mut Handle) -> u64
+    ensures told { result ≡ (worker_counts (worker_at worker.old.link.value)).asked }
+    ensures unchanged { worker.new.link.value ≡ worker.old.link.value }
+{
+    counts(alloc, worker).asked
+}
