@@ -2,7 +2,6 @@
 use Rattle.std.proofs.Common.{◌≡◌, ◌≢◌, ℕ, ◌+◌, ◌^◌, ◌<◌, ◌≤◌, Result, Ok, Err, Bool, true, false, List, [], ◌∷◌, length, slice_index_or, slice_set, sym, refl, ap, ◌∙◌, subst, arith}
 use Rattle.std.specs.Prelude.{IsOkAnd}
 use Rattle.std.proofs.lemmas.Bool.{both_ways}
-use Rattle.block_store.specs.declared.Config.{Config}
 use Rattle.block_store.specs.declared.Value.{Value}
 use Rattle.block_store.specs.declared.Value.TheVariants.{Nil, Int}
 use Rattle.never_heap.specs.declared.Command.{Command}
@@ -11,18 +10,17 @@ use Rattle.never_heap.specs.declared.Reply.{Reply}
 use Rattle.never_heap.specs.declared.Reply.TheVariants as replies
 use Rattle.never_heap.specs.Bounds.{IsCommandInBounds}
 use Rattle.never_heap.specs.Graphs.{Graph}
-use Rattle.never_heap.specs.RightWork.{units_owed}
 use Rattle.never_heap.specs.Steps.{step}
 use Rattle.never_heap.proofs.StepAnswers.{others_have_none, owes_told}
 use Rattle.heap_machine.specs.Memories.{Acts}
 use Rattle.heap_system.specs.Lives.{objects_of, most_objects, most_units}
 use Rattle.control_heap.specs.Calls.{HasAsked, HasTold, stored}
-use Rattle.control_heap.specs.Controls.{Control, HasLeft, units}
+use Rattle.control_heap.specs.Controls.{Control, HasLeft}
 use Rattle.control_heap.specs.declared.faults.Fault.{Fault}
 use Rattle.control_heap.specs.declared.faults.Fault.TheVariants as faults
 use Rattle.asked_graph.specs.Asked.{HasDone}
 use Rattle.heap_structures.specs.declared.cells.Cells.{Cells}
-use Rattle.heap_structures.specs.Cells.{IsCells, Spares, held}
+use Rattle.heap_structures.specs.Cells.{IsCells, held}
 use Rattle.heap_structures.specs.Heaps.{Does, Has, HasRoom, IsQuiet, Ready, Sight, Took}
 use Rattle.heap_structures.proofs.CellMoves.{IsLone, Stored, Put, get_step, get_stores, nil_stores, put_puts, put_step, set_stores}
 use Rattle.heap_structures.proofs.Quiet.{lone_of}
