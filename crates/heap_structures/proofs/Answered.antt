@@ -120,8 +120,8 @@ pub ok_map : {T E : Type 0} (P Q : T → Type 0) (x : Result T E) → ((v : T) �
 ok_map P Q (Ok v) f p = f v p
 ok_map P Q (Err e) f p = p
 
-module _ (law : QuietLaw) (s : Sight) (h z : Control) (c : Cells) (g : Graph) (vs : List Value) (ready : Ready s 1 h c g vs)
-    (same : z.config ≡ h.config) where
+module _ (law : QuietLaw) (s : Sight) (h z : Control) (c : Cells) (g : Graph) (vs : List Value)
+    (ready : Ready s 1 h c g vs) (same : z.config ≡ h.config) where
   abbrev lone : IsLone g
   lone = lone_of s h g ready.has
 
@@ -156,7 +156,8 @@ module _ (law : QuietLaw) (s : Sight) (h z : Control) (c : Cells) (g : Graph) (v
     holds = (st.cells, st.value);
   }
 
-  pub got : (acts : Acts (List ℕ) (Unit {0})) (i d : ℕ) (x : Result Value Fault) → i < length vs → d < 16 → d ≢ c.base
+  pub got : (acts : Acts (List ℕ) (Unit {0})) (i d : ℕ) (x : Result Value Fault)
+      → i < length vs → d < 16 → d ≢ c.base
       → HasTold replies.Val acts h (commands.Get d c.base i) z x
       → IsOkAnd x (λ v. (v ≡ loaded i) × Holds d (loaded i))
   got acts i d x low few apart told =
@@ -171,7 +172,8 @@ module _ (law : QuietLaw) (s : Sight) (h z : Control) (c : Cells) (g : Graph) (v
       (replies.Val (loaded i)) (ap (λ p. p.1) (get_step g c vs lone ready.cells d i low)) refl acts
       x told)
 
-  pub set_to : (acts : Acts (List ℕ) (Unit {0})) (d n : ℕ) (x : Result (Unit {0}) Fault) → d < 16 → d ≢ c.base → n < 2 ^ 62
+  pub set_to : (acts : Acts (List ℕ) (Unit {0})) (d n : ℕ) (x : Result (Unit {0}) Fault)
+      → d < 16 → d ≢ c.base → n < 2 ^ 62
       → HasTold stored acts h (commands.Set d n) z x → IsOkAnd x (λ v. Holds d (Int n))
   set_to acts d n x few apart low told =
       let k : Command = commands.Set d n in
