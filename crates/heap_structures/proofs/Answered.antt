@@ -2,7 +2,6 @@
 use Rattle.std.proofs.Common.{◌≡◌, ◌≢◌, ℕ, ◌+◌, ◌^◌, ◌<◌, ◌≤◌, Result, Ok, Err, Bool, true, false, List, [], ◌∷◌, length, slice_index_or, slice_set, sym, refl, ap, ◌∙◌, subst, arith}
 use Rattle.std.specs.Prelude.{IsOkAnd}
 use Rattle.std.proofs.lemmas.Bool.{both_ways}
-use Rattle.block_store.specs.declared.Config.{Config}
 use Rattle.block_store.specs.declared.Value.{Value}
 use Rattle.block_store.specs.declared.Value.TheVariants.{Nil, Int}
 use Rattle.never_heap.specs.declared.Command.{Command}
@@ -11,18 +10,17 @@ use Rattle.never_heap.specs.declared.Reply.{Reply}
 use Rattle.never_heap.specs.declared.Reply.TheVariants as replies
 use Rattle.never_heap.specs.Bounds.{IsCommandInBounds}
 use Rattle.never_heap.specs.Graphs.{Graph}
-use Rattle.never_heap.specs.RightWork.{units_owed}
 use Rattle.never_heap.specs.Steps.{step}
 use Rattle.never_heap.proofs.StepAnswers.{others_have_none, owes_told}
 use Rattle.heap_machine.specs.Memories.{Acts}
 use Rattle.heap_system.specs.Lives.{objects_of, most_objects, most_units}
 use Rattle.control_heap.specs.Calls.{HasAsked, HasTold, stored}
-use Rattle.control_heap.specs.Controls.{Control, HasLeft, units}
+use Rattle.control_heap.specs.Controls.{Control, HasLeft}
 use Rattle.control_heap.specs.declared.faults.Fault.{Fault}
 use Rattle.control_heap.specs.declared.faults.Fault.TheVariants as faults
 use Rattle.asked_graph.specs.Asked.{HasDone}
 use Rattle.heap_structures.specs.declared.cells.Cells.{Cells}
-use Rattle.heap_structures.specs.Cells.{IsCells, Spares, held}
+use Rattle.heap_structures.specs.Cells.{IsCells, held}
 use Rattle.heap_structures.specs.Heaps.{Does, Has, HasRoom, IsQuiet, Ready, Sight, Took}
 use Rattle.heap_structures.proofs.CellMoves.{IsLone, Stored, Put, get_step, get_stores, nil_stores, put_puts, put_step, set_stores}
 use Rattle.heap_structures.proofs.Quiet.{lone_of}
@@ -122,8 +120,8 @@ pub ok_map : {T E : Type 0} (P Q : T → Type 0) (x : Result T E) → ((v : T) �
 ok_map P Q (Ok v) f p = f v p
 ok_map P Q (Err e) f p = p
 
-module _ (law : QuietLaw) (s : Sight) (h z : Control) (c : Cells) (g : Graph) (vs : List Value) (ready : Ready s 1 h c g vs)
-    (same : z.config ≡ h.config) where
+module _ (law : QuietLaw) (s : Sight) (h z : Control) (c : Cells) (g : Graph) (vs : List Value)
+    (ready : Ready s 1 h c g vs) (same : z.config ≡ h.config) where
   abbrev lone : IsLone g
   lone = lone_of s h g ready.has
 
@@ -158,7 +156,8 @@ module _ (law : QuietLaw) (s : Sight) (h z : Control) (c : Cells) (g : Graph) (v
     holds = (st.cells, st.value);
   }
 
-  pub got : (acts : Acts (List ℕ) (Unit {0})) (i d : ℕ) (x : Result Value Fault) → i < length vs → d < 16 → d ≢ c.base
+  pub got : (acts : Acts (List ℕ) (Unit {0})) (i d : ℕ) (x : Result Value Fault)
+      → i < length vs → d < 16 → d ≢ c.base
       → HasTold replies.Val acts h (commands.Get d c.base i) z x
       → IsOkAnd x (λ v. (v ≡ loaded i) × Holds d (loaded i))
   got acts i d x low few apart told =
@@ -173,7 +172,8 @@ module _ (law : QuietLaw) (s : Sight) (h z : Control) (c : Cells) (g : Graph) (v
       (replies.Val (loaded i)) (ap (λ p. p.1) (get_step g c vs lone ready.cells d i low)) refl acts
       x told)
 
-  pub set_to : (acts : Acts (List ℕ) (Unit {0})) (d n : ℕ) (x : Result (Unit {0}) Fault) → d < 16 → d ≢ c.base → n < 2 ^ 62
+  pub set_to : (acts : Acts (List ℕ) (Unit {0})) (d n : ℕ) (x : Result (Unit {0}) Fault)
+      → d < 16 → d ≢ c.base → n < 2 ^ 62
       → HasTold stored acts h (commands.Set d n) z x → IsOkAnd x (λ v. Holds d (Int n))
   set_to acts d n x few apart low told =
       let k : Command = commands.Set d n in

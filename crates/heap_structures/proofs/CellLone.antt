@@ -1,9 +1,9 @@
 -- The graphs of a heap for one thread.
-use Rattle.std.proofs.Common.{◌≡◌, ℕ, ◌<◌, ◌≤◌, Bool, inl, inr, List, length, sym, refl, ap, ◌∙◌, subst, arith}
+use Rattle.std.proofs.Common.{◌≡◌, ℕ, ◌<◌, Bool, inl, inr, List, length, refl, ap, ◌∙◌, arith}
 use Rattle.std.proofs.lemmas.Bool.{cases_lt}
 use Rattle.block_store.specs.declared.Config.{Config}
 use Rattle.never_heap.specs.declared.Command.{Command}
-use Rattle.never_heap.specs.Graphs.{Graph, Mutator, field_of, mutator_at, next_name, object_of, register_of, start_graph, with_field, with_object}
+use Rattle.never_heap.specs.Graphs.{Graph, field_of, mutator_at, next_name, object_of, register_of, start_graph, with_field, with_object}
 use Rattle.block_store.specs.declared.Value.TheVariants.{Ref}
 use Rattle.never_heap.specs.Histories.{HistoryItem, replay}
 use Rattle.never_heap.specs.Steps.{makes_object, step}

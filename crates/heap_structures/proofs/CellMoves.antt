@@ -1,7 +1,6 @@
 -- What a command on an array does to the graph.
-use Rattle.std.proofs.Common.{◌≡◌, ◌≢◌, ℕ, zero, suc, ◌+◌, ◌<◌, ◌≤◌, Bool, true, false, inl, inr, List, [], ◌∷◌, ◌++◌, length, slice_index_or, slice_set, sym, refl, ap, ◌∙◌, subst, arith}
+use Rattle.std.proofs.Common.{◌≡◌, ◌≢◌, ℕ, zero, suc, ◌<◌, true, false, List, [], ◌∷◌, length, slice_index_or, slice_set, sym, refl, ap, ◌∙◌, subst, arith}
 use Rattle.std.specs.Prelude.{replicate}
-use Rattle.std.proofs.lemmas.Bool.{both_ways}
 use Rattle.std.proofs.lemmas.List.{length-set, length-replicate}
 use Rattle.block_store.specs.declared.Name.{Name}
 use Rattle.block_store.specs.declared.Value.{Value}
@@ -10,9 +9,8 @@ use Rattle.never_heap.specs.declared.Command.{Command}
 use Rattle.never_heap.specs.declared.Command.TheVariants as commands
 use Rattle.never_heap.specs.declared.Reply.{Reply}
 use Rattle.never_heap.specs.declared.Reply.TheVariants as replies
-use Rattle.never_heap.specs.Graphs.{Graph, Object, Array, field_of, has_name, mutator_at, next_name, nil_object, object_of, set_field, with_field, with_register}
+use Rattle.never_heap.specs.Graphs.{Graph, Object, Array, has_name, mutator_at, next_name, nil_object, object_of, set_field, with_field, with_register}
 use Rattle.never_heap.specs.Steps.{made, step}
-use Rattle.never_heap.proofs.GraphMoves.{has_name_with_register}
 use Rattle.never_heap.proofs.FieldStores.{has_name_with_field}
 use Rattle.never_heap.proofs.UnchangedBySteps.{next_is_new, step_names}
 use Rattle.operations.proofs.Effects.{Effect, gets, makes, puts, puts_is, stores}

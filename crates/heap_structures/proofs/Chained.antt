@@ -1,5 +1,5 @@
 -- Calls on an array one after the other.
-use Rattle.std.proofs.Common.{◌≡◌, ℕ, ◌+◌, ◌≤◌, ◌<◌, ◌≢◌, Result, Ok, Err, List, [], ◌∷◌, length, slice_index_or, slice_set, refl, sym, ap, ◌∙◌, subst, arith}
+use Rattle.std.proofs.Common.{◌≡◌, ℕ, ◌+◌, ◌≤◌, ◌<◌, ◌≢◌, Result, Ok, Err, List, [], ◌∷◌, length, slice_set, sym, ◌∙◌, subst}
 use Rattle.std.specs.Prelude.{IsErrAnd, IsOkAnd, MatchResult}
 use Rattle.block_store.specs.declared.Name.{Name}
 use Rattle.block_store.specs.declared.Value.{Value}
@@ -8,7 +8,7 @@ use Rattle.never_heap.specs.Graphs.{Graph}
 use Rattle.control_heap.specs.Controls.{Control}
 use Rattle.heap_structures.specs.declared.cells.Cells.{Cells}
 use Rattle.heap_structures.specs.Cells.{IsCells, IsNone, held}
-use Rattle.heap_structures.specs.Heaps.{Does, HasRoom, Ready, Sight}
+use Rattle.heap_structures.specs.Heaps.{Does, Ready, Sight}
 use Rattle.heap_structures.proofs.Answered.{ok_map, room_after, room_less, took_both}
 use Rattle.heap_structures.proofs.CellMoves.{spares_both, spares_wider}
 

@@ -1,5 +1,5 @@
 -- One value more at the end of a circle, and one fewer at its front.
-use Rattle.std.proofs.Common.{◌≡◌, ◌≢◌, ℕ, zero, suc, ◌+◌, ◌-◌, ◌<◌, ◌≤◌, nat_lt, lt-ltb, cond, inl, inr, List, [], ◌∷◌, ◌++◌, length, drop, slice_index_or, slice_set, sym, refl, ap, ◌∙◌, subst, arith}
+use Rattle.std.proofs.Common.{◌≡◌, ◌≢◌, ℕ, suc, ◌+◌, ◌-◌, ◌<◌, ◌≤◌, lt-ltb, inl, inr, List, [], ◌∷◌, ◌++◌, length, drop, slice_index_or, slice_set, sym, refl, ap, ◌∙◌, subst, arith}
 use Rattle.std.proofs.lemmas.Bool.{cases_eq, cases_lt, le-ltb}
 use Rattle.std.proofs.lemmas.List.{length-set, length_push, get_or_past, get_or_push, get_or_append_left, get_or-set_same, get_or-set_other, set-set, get_or-replicate, length-replicate}
 use Rattle.std.specs.Prelude.{replicate}

@@ -3,16 +3,13 @@ use Rattle.std.proofs.Common.{◌≡◌, ◌≢◌, ℕ, ◌+◌, ◌*◌, ◌<�
 use Rattle.std.specs.Prelude.{MatchResult, OnOk, replicate}
 use Rattle.std.proofs.lemmas.Bool.{both_ways}
 use Rattle.block_store.specs.declared.Name.{Name}
-use Rattle.block_store.specs.declared.Value.{Value}
 use Rattle.block_store.specs.declared.Value.TheVariants.{Nil, Ref}
 use Rattle.block_store.specs.declared.Width.{Width}
-use Rattle.rate_plan.specs.Rates.{IsRate}
 use Rattle.array_trees.specs.Trees.{array_blocks}
 use Rattle.never_heap.specs.declared.Command.{Command}
 use Rattle.never_heap.specs.declared.Command.TheVariants.{Arr}
 use Rattle.never_heap.specs.declared.Reply.{Reply}
 use Rattle.never_heap.specs.declared.Reply.TheVariants as replies
-use Rattle.never_heap.specs.Bounds.{IsCommandInBounds}
 use Rattle.never_heap.specs.Graphs.{Array, Graph, has_name, next_name, nil_object}
 use Rattle.never_heap.specs.Histories.{Legal, is_full}
 use Rattle.never_heap.specs.Licensed.{Licensed}
@@ -24,7 +21,7 @@ use Rattle.never_heap.proofs.StepChanges.{with_object_threads}
 use Rattle.heap_machine.specs.Memories.{Acts}
 use Rattle.heap_system.specs.Machines.{Run}
 use Rattle.control_heap.specs.Calls.{HasAsked, HasTold}
-use Rattle.control_heap.specs.Controls.{Control, HasLeft, Stands, units}
+use Rattle.control_heap.specs.Controls.{Control, Stands, units}
 use Rattle.control_heap.specs.declared.faults.Fault.{Fault}
 use Rattle.control_heap.specs.declared.faults.Fault.TheVariants as faults
 use Rattle.asked_graph.specs.Asked.{HasDone, HasDoneAll, HasUsed}

@@ -1,20 +1,18 @@
 -- Commands that make neither an object nor a unit, whatever is known of the heap.
-use Rattle.std.proofs.Common.{◌≡◌, ℕ, ◌+◌, ◌*◌, ◌≤◌, ◌⊎◌, Ok, true, false, inl, inr, List, [], ◌∷◌, length, sym, refl, ap, ◌∙◌, subst, arith}
+use Rattle.std.proofs.Common.{◌≡◌, ℕ, ◌+◌, ◌≤◌, ◌⊎◌, Ok, true, inl, inr, List, [], ◌∷◌, refl, ap, ◌∙◌, subst, arith}
 use Rattle.std.proofs.lemmas.Bool.{both_ways}
 use Rattle.block_store.specs.declared.Width.{Width}
 use Rattle.rate_plan.specs.Rates.{IsRate}
 use Rattle.never_heap.specs.declared.Command.{Command}
-use Rattle.never_heap.specs.declared.Reply.{Reply}
 use Rattle.never_heap.specs.Graphs.{Graph}
 use Rattle.never_heap.specs.Histories.{is_full, Legal, replay}
 use Rattle.never_heap.specs.Licensed.{Licensed}
 use Rattle.never_heap.specs.LiveBlocks.{live_blocks}
-use Rattle.never_heap.specs.RightWork.{units_owed}
 use Rattle.never_heap.specs.Steps.{blocks_of, makes_object, step}
 use Rattle.never_heap.proofs.StepAnswers.{others_have_none, owes_told, step_not_full}
 use Rattle.heap_system.specs.Lives.{objects_of}
 use Rattle.heap_system.specs.Machines.{Run}
-use Rattle.control_heap.specs.Controls.{Control, HasAnswered, Stands, asked, units}
+use Rattle.control_heap.specs.Controls.{Control, Stands}
 use Rattle.asked_graph.specs.Asked.{HasDone, HasDoneAll, HasUsed}
 use Rattle.asked_graph.specs.Shown.{Follows, Goes, HasMetNoFull, IsSmall, Leaves, Shows, graph_told}
 use Rattle.asked_graph.proofs.GraphAnswers.{follows_ok, goes_ok, never_ok}

@@ -1,7 +1,6 @@
 -- A ring's or queue's next values, by what was stored in its array.
-use Rattle.std.proofs.Common.{◌≡◌, ◌≢◌, ℕ, zero, suc, ◌+◌, ◌-◌, ◌<◌, ◌≤◌, ◌⊎◌, Bool, true, false, Result, Ok, Err, Option, Some, None, inl, inr, nat_lt, List, [], ◌∷◌, ◌++◌, length, drop, slice_index_or, slice_set, sym, refl, ap, ◌∙◌, subst, arith}
-use Rattle.std.specs.Prelude.{IsOkAnd, MatchResult, replicate}
-use Rattle.std.proofs.lemmas.Bool.{cases_lt}
+use Rattle.std.proofs.Common.{◌≡◌, ℕ, zero, suc, ◌+◌, ◌-◌, ◌<◌, ◌≤◌, Some, None, List, [], ◌∷◌, ◌++◌, length, drop, slice_index_or, slice_set, sym, refl, ap, ◌∙◌, subst, arith}
+use Rattle.std.specs.Prelude.{replicate}
 use Rattle.std.proofs.lemmas.List.{length_push, get_or_past}
 use Rattle.block_store.specs.declared.Name.{Name}
 use Rattle.block_store.specs.declared.Value.{Value}
@@ -11,10 +10,10 @@ use Rattle.control_heap.specs.Controls.{Control}
 use Rattle.control_heap.specs.declared.faults.Fault.{Fault}
 use Rattle.control_heap.specs.declared.faults.Fault.TheVariants as faults
 use Rattle.heap_structures.specs.declared.cells.Cells.{Cells}
-use Rattle.heap_structures.specs.Cells.{IsCells, IsNone, held}
+use Rattle.heap_structures.specs.Cells.{IsCells, held}
 use Rattle.heap_structures.specs.Circles.{around, last_of, IsCircle}
-use Rattle.heap_structures.specs.Heaps.{Does, Has, HasRoom, Ready, Sight, Stops, Took}
-use Rattle.heap_structures.specs.Rings.{Adds, Gives, IsRound}
+use Rattle.heap_structures.specs.Heaps.{Does, Has, HasRoom, Ready, Sight, Stops}
+use Rattle.heap_structures.specs.Rings.{Gives, IsRound}
 use Rattle.heap_structures.proofs.Circling.{around_in, around_low, around_high, circle_at, circle_fewer, circle_more, circle_over, empty_circle, length_drop, last_fewer, last_over}
 use Rattle.heap_structures.proofs.CellMoves.{spares_none, spares_wider}
 use Rattle.heap_structures.proofs.Chained.{does_wider}

@@ -1,9 +1,8 @@
 -- A new array on a heap.
-use Rattle.std.specs.Prelude.{ℕ, ◌+◌, ◌*◌, ◌≤◌, ◌≡◌, ◌⊎◌, false, List, [], ◌∷◌}
+use Rattle.std.specs.Prelude.{ℕ, ◌+◌, ◌*◌, ◌≤◌, ◌≡◌, ◌⊎◌, false, [], ◌∷◌}
 use Rattle.block_store.specs.declared.Config.{Config}
 use Rattle.rate_plan.specs.Rates.{IsRate}
 use Rattle.array_trees.specs.Trees.{array_blocks}
-use Rattle.never_heap.specs.declared.Command.{Command}
 use Rattle.never_heap.specs.declared.Command.TheVariants.{Arr}
 use Rattle.never_heap.specs.Bounds.{IsCommandInBounds}
 use Rattle.never_heap.specs.Graphs.{Graph, has_name}
@@ -13,7 +12,7 @@ use Rattle.control_heap.specs.declared.faults.Fault.{Fault}
 use Rattle.control_heap.specs.declared.faults.Fault.TheVariants as faults
 use Rattle.heap_structures.specs.declared.cells.Cells.{Cells}
 use Rattle.heap_structures.specs.Cells.{Spares}
-use Rattle.heap_structures.specs.Heaps.{Any, Small, Always, Has, Sight}
+use Rattle.heap_structures.specs.Heaps.{Any, Has, Sight}
 
 -- There is room for the blocks of n values. Where any `Full` may have been answered, nothing is
 -- asked: the array may be refused as `Full`.
