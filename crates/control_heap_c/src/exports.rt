@@ -1,5 +1,6 @@
-//! The calls for a program in C with a heap of one thread. Each takes a handle, open or closed, and a command also the struct
-//! for its reply. A call that is refused changes nothing, and its status gives the cause.
+//! The calls for a program in C with a heap of one thread. Each takes a handle, open or closed, and
+//! a command also the struct for its reply. A call that is refused changes nothing, and its status
+//! gives the cause.
 
 ghost use Rattle.std.specs.Prelude.{◌≡◌, ◌≤◌, ◌<◌};
 ghost use Rattle.never_heap.specs.declared.Command.TheVariants as commands;

@@ -77,7 +77,8 @@ impl Handle {
 
     // The value, if there is one.
     pub(crate) fn into_box(self) -> Option<Box<Owned>>
-        ensures { MatchOption result (self.link.value ≡ None) (λ b. self.link.value ≡ Some b.value) }
+        ensures { MatchOption result (self.link.value ≡ None)
+            (λ b. self.link.value ≡ Some b.value) }
     {
         if self.is_open() {
             Some(self.link.into_box())
@@ -91,8 +92,8 @@ impl Handle {
 ///
 /// # Errors
 ///
-/// `Closed` if the handle has no heap of one thread, and otherwise those of `ControlHeap::ask`. Nothing has
-/// changed then.
+/// `Closed` if the handle has no heap of one thread, and otherwise those of `ControlHeap::ask`.
+/// Nothing has changed then.
 pub fn ask(alloc: Global, handle: &mut Handle, command: Command) -> Result<Reply, Refusal>
     ensures { Became handle.old.link.value command result handle.new.link.value }
 {

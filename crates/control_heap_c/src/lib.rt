@@ -1,5 +1,5 @@
-//! Heaps for programs in C: of one thread, and of several. Each export is a call that `c/rtheap.h` or
-//! `c/rtheap_shared.h` declares.
+//! Heaps for programs in C: of one thread, and of several. Each export is a call that `c/rtheap.h`
+//! or `c/rtheap_shared.h` declares.
 #![tactic(auto)]
 
 mod answer;

@@ -1,5 +1,5 @@
-//! The calls for a program in C whose threads share a heap. None of them waits. A call that is refused
-//! changes nothing, and its status gives the cause.
+//! The calls for a program in C whose threads share a heap. None of them waits. A call that is
+//! refused changes nothing, and its status gives the cause.
 
 ghost use Rattle.std.specs.Prelude.{◌≡◌};
 ghost use Rattle.control_heap_c.specs.Outcomes.{width_of};
@@ -45,8 +45,8 @@ pub extern "C" fn rtheap_group_raw_attach(
     attach_told(attach(alloc, group, worker))
 }
 
-/// Closes the handle of a group, and drops the workers that no handle has. Returns 0, or 1 if it has
-/// none.
+/// Closes the handle of a group, and drops the workers that no handle has. Returns 0, or 1 if it
+/// has none.
 #[unsafe(no_mangle)]
 pub extern "C" fn rtheap_group_raw_close(alloc: Global, group: &mut Handle) -> u32
     ensures { IsGroupShut group.old.link.value result group.new.link.value }
