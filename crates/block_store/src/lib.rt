@@ -5,6 +5,7 @@
 ghost use Rattle.std.specs.Prelude.{◌≡◌, ◌<◌, ◌≤◌, ◌↔◌, IsTrue};
 ghost use Rattle.block_store.specs.Configs.{IsInBounds};
 ghost use Rattle.block_store.specs.Registers.{root_block, register_block, register_slot, registers_end};
+ghost use Rattle.block_store.specs.Texts.{out_of_memory_text};
 ghost use Rattle.block_store.specs.Widths.{payloads, register_blocks};
 
 mod colours;
@@ -21,6 +22,8 @@ pub use laws::{
 };
 pub use places::Places;
 use std::alloc::{AllocError, AllocFailed};
+use std::error::Error;
+use std::fmt;
 pub use words::{
     owner_word, payload_word, read_owner, read_payload, read_shape, read_wide, shape_word,
     wide_word,
@@ -98,6 +101,28 @@ impl Width {
 /// Memory ran out.
 #[derive(Clone, Copy, Debug, PartialEq, Eq)]
 pub struct OutOfMemory;
+
+impl OutOfMemory {
+    /// The printed text: what is wrong, and what to do.
+    pub fn text(self) -> &'static str
+        ensures { result.now ≡ out_of_memory_text }
+    {
+        "memory ran out; free memory, or open a smaller heap"
+    }
+}
+
+impl fmt::Display for OutOfMemory {
+    ghost use Rattle.std.specs.Prelude.{Some};
+    ghost use Rattle.block_store.specs.Texts.{out_of_memory_text};
+
+    ghost output = { λ _. Some out_of_memory_text };
+
+    fn fmt<W: fmt::Write>(&self, f: &mut fmt::Formatter<W>) -> fmt::Result {
+        f.write_str(self.text())
+    }
+}
+
+impl Error for OutOfMemory {}
 
 impl From<AllocError> for OutOfMemory {
     fn from(_error: AllocError) -> OutOfMemory {

@@ -2,7 +2,8 @@
 use Rattle.std.specs.Prelude.{ℕ, ◌≡◌, ◌≢◌, List, codes}
 use Rattle.block_store.specs.declared.Config.{Config}
 use Rattle.block_store.specs.Configs.{IsInBounds}
-use Rattle.rate_plan.specs.Rates.{IsRefusal}
+use Rattle.block_store.specs.Texts.{out_of_memory_text}
+use Rattle.rate_plan.specs.Rates.{IsRefusal, plan_fault_text}
 use Rattle.rate_plan.specs.declared.PlanFault.TheVariants as plans
 use Rattle.never_heap.specs.declared.Command.{Command}
 use Rattle.never_heap.specs.Bounds.{IsCommandInBounds}
@@ -31,8 +32,6 @@ abbrev pub open_fault_text : OpenFault → List ℕ
 open_fault_text OutOfBounds = codes "a number of the configuration is out of range; correct it"
 open_fault_text NotOneThread =
     codes "the configuration has more than one thread; set `threads` to 1"
-open_fault_text LiveTooSmall =
-    codes "the registers and the shared array exceed the live limit; raise `live`"
-open_fault_text NoRate =
-    codes "the live limit leaves too few blocks; raise `blocks`, or lower `live`"
-open_fault_text NoMemory = codes "memory ran out; free memory, or open a smaller heap"
+open_fault_text LiveTooSmall = plan_fault_text plans.LiveTooSmall
+open_fault_text NoRate = plan_fault_text plans.NoRate
+open_fault_text NoMemory = out_of_memory_text

@@ -5,6 +5,8 @@ ghost use Rattle.control_heap.specs.Calls.{fault_of, fault_text, refused_text};
 ghost use Rattle.control_heap.specs.Refusals.{open_fault_text};
 
 use crate::{OpenFault, Refused};
+use block_store::OutOfMemory;
+use rate_plan::PlanFault;
 use std::error::Error;
 use std::fmt;
 
@@ -104,11 +106,9 @@ impl OpenFault {
             OpenFault::OutOfBounds => "a number of the configuration is out of range; correct it",
             OpenFault::NotOneThread =>
                 "the configuration has more than one thread; set `threads` to 1",
-            OpenFault::LiveTooSmall =>
-                "the registers and the shared array exceed the live limit; raise `live`",
-            OpenFault::NoRate =>
-                "the live limit leaves too few blocks; raise `blocks`, or lower `live`",
-            OpenFault::NoMemory => "memory ran out; free memory, or open a smaller heap",
+            OpenFault::LiveTooSmall => PlanFault::LiveTooSmall.text(),
+            OpenFault::NoRate => PlanFault::NoRate.text(),
+            OpenFault::NoMemory => OutOfMemory.text(),
         }
     }
 }

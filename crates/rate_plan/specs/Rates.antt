@@ -1,6 +1,6 @@
 -- The rate: how many units of marking and sweeping an allocation makes for each block that it asks
 -- for.
-use Rattle.std.specs.Prelude.{ℕ, ◌+◌, ◌-◌, ◌*◌, ◌/◌, ◌<◌, ◌≤◌}
+use Rattle.std.specs.Prelude.{ℕ, List, codes, ◌+◌, ◌-◌, ◌*◌, ◌/◌, ◌<◌, ◌≤◌}
 use Rattle.block_store.specs.declared.Config.{Config}
 use Rattle.array_trees.specs.Openings.{opening_blocks}
 use Rattle.rate_plan.specs.declared.PlanFault.{PlanFault}
@@ -32,3 +32,10 @@ abbrev pub IsRefusal : Config → PlanFault → Type 0
 IsRefusal c LiveTooSmall = c.live < opening_blocks c
 IsRefusal c NoRate =
     (opening_blocks c ≤ c.live) × (c.blocks < c.live + 2 * (1 + c.threads * c.object))
+
+-- the printed text of a refusal
+abbrev pub plan_fault_text : PlanFault → List ℕ
+plan_fault_text LiveTooSmall =
+    codes "the registers and the shared array exceed the live limit; raise `live`"
+plan_fault_text NoRate =
+    codes "the live limit leaves too few blocks; raise `blocks`, or lower `live`"

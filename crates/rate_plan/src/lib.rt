@@ -5,10 +5,12 @@ ghost use Rattle.std.specs.Prelude.{◌≡◌, ℕ, ◌*◌, ◌≤◌, MatchRes
 ghost use Rattle.block_store.specs.Configs.{IsInBounds};
 ghost use Rattle.block_store.specs.declared.Config.{Config};
 ghost use Rattle.array_trees.specs.Openings.{opening_blocks};
-ghost use Rattle.rate_plan.specs.Rates.{IsRate, IsAdmitted, IsRefusal};
+ghost use Rattle.rate_plan.specs.Rates.{IsRate, IsAdmitted, IsRefusal, plan_fault_text};
 
 use array_trees::blocks_of_array;
 use block_store::Config;
+use std::error::Error;
+use std::fmt;
 
 /// Why a configuration has no rate.
 #[derive(Clone, Copy, Debug, PartialEq, Eq)]
@@ -18,6 +20,33 @@ pub enum PlanFault {
     /// The opening heap has more blocks than the live limit.
     LiveTooSmall,
 }
+
+impl PlanFault {
+    /// The printed text: what is wrong, and what to do.
+    pub fn text(self) -> &'static str
+        ensures { result.now ≡ plan_fault_text self }
+    {
+        match self {
+            PlanFault::NoRate =>
+                "the live limit leaves too few blocks; raise `blocks`, or lower `live`",
+            PlanFault::LiveTooSmall =>
+                "the registers and the shared array exceed the live limit; raise `live`",
+        }
+    }
+}
+
+impl fmt::Display for PlanFault {
+    ghost use Rattle.std.specs.Prelude.{Some};
+    ghost use Rattle.rate_plan.specs.Rates.{plan_fault_text};
+
+    ghost output = { λ fault. Some (plan_fault_text fault) };
+
+    fn fmt<W: fmt::Write>(&self, f: &mut fmt::Formatter<W>) -> fmt::Result {
+        f.write_str(self.text())
+    }
+}
+
+impl Error for PlanFault {}
 
 // The blocks with which the heap opens: the register arrays of all threads, and the shared array.
 fn opening_blocks(c: &Config) -> u32

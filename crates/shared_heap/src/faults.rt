@@ -4,6 +4,8 @@ ghost use Rattle.std.specs.Prelude.{◌≡◌};
 ghost use Rattle.shared_heap.specs.Refusals.{open_fault_text};
 
 use crate::OpenFault;
+use block_store::OutOfMemory;
+use rate_plan::PlanFault;
 use std::error::Error;
 use std::fmt;
 
@@ -14,11 +16,9 @@ impl OpenFault {
     {
         match self {
             OpenFault::OutOfBounds => "a number of the configuration is out of range; correct it",
-            OpenFault::LiveTooSmall =>
-                "the registers and the shared array exceed the live limit; raise `live`",
-            OpenFault::NoRate =>
-                "the live limit leaves too few blocks; raise `blocks`, or lower `live`",
-            OpenFault::NoMemory => "memory ran out; free memory, or open a smaller heap",
+            OpenFault::LiveTooSmall => PlanFault::LiveTooSmall.text(),
+            OpenFault::NoRate => PlanFault::NoRate.text(),
+            OpenFault::NoMemory => OutOfMemory.text(),
         }
     }
 }
