@@ -1,9 +1,8 @@
 -- What the calls of a list of alarms do.
-use Rattle.std.proofs.Common.{◌≡◌, ℕ, ◌+◌, ◌-◌, ◌*◌, ◌<◌, ◌≤◌, ◌^◌, true, false, Result, Ok, Err, Option, Some, None, List, [], ◌∷◌, ◌++◌, length, map, slice_index_or, slice_set, sym, refl, ap, ◌∙◌, subst, arith}
+use Rattle.std.proofs.Common.{◌≡◌, ℕ, ◌+◌, ◌-◌, ◌*◌, ◌<◌, ◌≤◌, true, false, Result, Ok, Err, List, [], ◌∷◌, ◌++◌, length, map, slice_set, sym, subst, arith}
 use Rattle.std.specs.Prelude.{IsOkAnd}
 use Rattle.std.proofs.lemmas.List.{length-map}
-use Rattle.block_store.specs.declared.Value.{Value}
-use Rattle.block_store.specs.declared.Value.TheVariants.{Int, Nil}
+use Rattle.block_store.specs.declared.Value.TheVariants.{Int}
 use Rattle.never_heap.specs.Graphs.{Graph}
 use Rattle.control_heap.specs.Controls.{Control}
 use Rattle.control_heap.specs.declared.faults.Fault.{Fault}
@@ -11,9 +10,9 @@ use Rattle.heap_structures.specs.declared.cells.Cells.{Cells}
 use Rattle.heap_structures.specs.declared.alarms.Alarm.{Alarm}
 use Rattle.heap_structures.specs.declared.alarms.AlarmList.{AlarmList}
 use Rattle.heap_structures.specs.declared.alarms.Raised.{Raised}
-use Rattle.heap_structures.specs.Alarms.{IsAlarms, IsFound, IsPlace, Raises, Shows, ShowsOrStops, acknowledged, alarm_at, cleared, looked, raised, stands, value_of, without}
+use Rattle.heap_structures.specs.Alarms.{IsAlarms, IsFound, Raises, Shows, ShowsOrStops, acknowledged, cleared, raised, stands, value_of, without}
 use Rattle.heap_structures.specs.Cells.{IsCells}
-use Rattle.heap_structures.specs.Heaps.{Has, HasRoom, Ready, Sight}
+use Rattle.heap_structures.specs.Heaps.{HasRoom, Ready, Sight}
 use Rattle.heap_structures.specs.Rings.{IsRound}
 use Rattle.heap_structures.proofs.Answered.{room_after, room_less}
 use Rattle.heap_structures.proofs.AlarmLists.{found_acknowledged, found_cleared, found_low, found_stands, none_acknowledged, none_cleared, raised_values}

@@ -2,7 +2,6 @@
 use Rattle.std.proofs.Common.{◌≡◌, ℕ, suc, zero, inl, inr, eq-eqb, ◌+◌, ◌*◌, ◌<◌, ◌≤◌, ◌==◌, ◌||◌, Bool, true, false, if◌then◌else◌, Some, None, List, [], ◌∷◌, ◌++◌, length, take, map, slice_index_or, slice_set, sym, refl, ap, ◌∙◌, subst, arith, eqb-true}
 use Rattle.std.proofs.lemmas.Bool.{both_ways, cases_Bool, ne_eqb}
 use Rattle.std.proofs.lemmas.List.{get_or-map, map-append, take_all}
-use Rattle.block_store.specs.declared.Value.{Value}
 use Rattle.block_store.specs.declared.Value.TheVariants.{Nil, Int}
 use Rattle.heap_structures.specs.declared.alarms.Alarm.{Alarm}
 use Rattle.heap_structures.specs.Alarms.{IsFound, StandOnce, acknowledged, alarm_at, cleared, raised, stands, value_of, without}

@@ -1,8 +1,7 @@
 -- What the parts of a call do to an array that shows values from its first place on.
-use Rattle.std.proofs.Common.{◌≡◌, ◌≢◌, Result, ℕ, suc, ◌+◌, ◌-◌, ◌*◌, ◌<◌, ◌≤◌, List, [], ◌∷◌, ◌++◌, length, slice_index_or, slice_set, sym, refl, ap, ◌∙◌, subst, arith}
+use Rattle.std.proofs.Common.{◌≡◌, ◌≢◌, Result, ℕ, ◌+◌, ◌-◌, ◌*◌, ◌<◌, ◌≤◌, List, [], ◌∷◌, ◌++◌, length, slice_index_or, slice_set, sym, ap, ◌∙◌, subst, arith}
 use Rattle.std.specs.Prelude.{IsOkAnd}
 use Rattle.std.proofs.lemmas.List.{length-set}
-use Rattle.block_store.specs.declared.Name.{Name}
 use Rattle.block_store.specs.declared.Value.{Value}
 use Rattle.block_store.specs.declared.Value.TheVariants.{Nil}
 use Rattle.never_heap.specs.Graphs.{Graph}
@@ -11,8 +10,7 @@ use Rattle.control_heap.specs.declared.faults.Fault.{Fault}
 use Rattle.heap_structures.specs.declared.cells.Cells.{Cells}
 use Rattle.heap_structures.specs.Alarms.{Shows, without}
 use Rattle.heap_structures.specs.Cells.{IsCells, held}
-use Rattle.heap_structures.specs.Circles.{IsCircle, around}
-use Rattle.heap_structures.specs.Heaps.{Does, Has, HasRoom, Ready, Sight, Took}
+use Rattle.heap_structures.specs.Heaps.{Does, HasRoom, Ready, Sight, Took}
 use Rattle.heap_structures.specs.Rings.{IsRound}
 use Rattle.heap_structures.proofs.Answered.{ok_map, room_after, room_less}
 use Rattle.heap_structures.proofs.Chained.{does_both}

@@ -1,5 +1,5 @@
 -- Lists of standing alarms: their operations, and the array that shows one.
-use Rattle.std.specs.Prelude.{ℕ, zero, suc, ◌+◌, ◌*◌, ◌<◌, ◌≡◌, ◌==◌, ◌||◌, Bool, true, false, if◌then◌else◌, Option, Some, None, Result, Ok, Err, List, [], ◌∷◌, ◌++◌, length, map}
+use Rattle.std.specs.Prelude.{ℕ, zero, suc, ◌+◌, ◌*◌, ◌<◌, ◌≡◌, ◌==◌, ◌||◌, Bool, true, false, if◌then◌else◌, Option, Some, None, Result, List, [], ◌∷◌, ◌++◌, length, map}
 use Rattle.block_store.specs.declared.Value.{Value}
 use Rattle.block_store.specs.declared.Value.TheVariants.{Int}
 use Rattle.never_heap.specs.Graphs.{Graph}
@@ -10,7 +10,7 @@ use Rattle.heap_structures.specs.declared.alarms.Raised.{Raised}
 use Rattle.heap_structures.specs.declared.alarms.Raised.TheVariants.{New, Standing, Full}
 use Rattle.control_heap.specs.Controls.{Control}
 use Rattle.control_heap.specs.declared.faults.Fault.{Fault}
-use Rattle.heap_structures.specs.Heaps.{Does, Sight, Stops}
+use Rattle.heap_structures.specs.Heaps.{Does, DoesOrStops, Sight}
 use Rattle.heap_structures.specs.Rings.{IsRound}
 
 -- whether the alarm with this number stands
@@ -71,11 +71,10 @@ Raises n Shows number xs Full = (stands number xs ≡ false) × (length xs ≡ n
 abbrev pub Shows : Sight → ℕ → Control → Control → Cells → Graph → (Graph → Type 0) → Type 0
 Shows s n h z c g Q = Does s n h z (c.spare ∷ []) c.array g Q
 
--- so for this result, or the call stops and nothing is changed
+-- the same, or the call stops and nothing is changed
 abbrev pub ShowsOrStops : {T : Type 0} → Sight → ℕ → Control → Control → Cells → Graph
     → (T → Graph → Type 0) → Type 0 → Type 0 → Result T Fault → Type 0
-ShowsOrStops s n h z c g Q Bad Same (Ok v) = Shows s n h z c g (Q v)
-ShowsOrStops s n h z c g Q Bad Same (Err f) = Stops n Bad h z f × Same
+ShowsOrStops s n h z c g Q Bad Same x = DoesOrStops s n h z (c.spare ∷ []) c g Q Bad Same x
 
 -- the first alarm with this number is at a place
 abbrev pub IsFound : ℕ → ℕ → List Alarm → Type 0

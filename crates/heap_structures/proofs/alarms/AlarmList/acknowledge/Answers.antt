@@ -1,4 +1,4 @@
-use Rattle.std.proofs.Common.{◌+◌, ◌*◌, ◌≤◌, ◌<◌, ◌^◌, ◌≡◌, true, length, subst, arith}
+use Rattle.std.proofs.Common.{◌+◌, ◌^◌, subst, arith}
 use Rattle.std.proofs.lemmas.Bool.{ltb-true}
 use Rattle.heap_structures.specs.Alarms.{Finds}
 use Rattle.heap_structures.proofs.Answered.{room_less}

@@ -1,4 +1,4 @@
-use Rattle.std.proofs.Common.{◌*◌, ◌<◌, ◌^◌, refl, arith}
+use Rattle.std.proofs.Common.{refl, arith}
 use Rattle.heap_structures.proofs.AlarmCalls.{add_low, added}
 use Rattle.heap_structures.proofs.alarms.AlarmList.add.Goals as goal
 

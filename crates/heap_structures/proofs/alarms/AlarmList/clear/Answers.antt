@@ -1,4 +1,4 @@
-use Rattle.std.proofs.Common.{◌+◌, ◌*◌, ◌≤◌, ◌<◌, ◌^◌, refl, subst, arith}
+use Rattle.std.proofs.Common.{◌+◌, ◌*◌, refl, subst, arith}
 use Rattle.heap_structures.specs.Alarms.{Finds}
 use Rattle.heap_structures.proofs.Answered.{room_less}
 use Rattle.heap_structures.proofs.AlarmCalls.{close_room, closes, not_cleared, walk_room}

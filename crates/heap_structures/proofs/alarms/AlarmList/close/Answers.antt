@@ -1,4 +1,4 @@
-use Rattle.std.proofs.Common.{◌≡◌, ◌+◌, ◌-◌, ◌*◌, ◌<◌, ◌≤◌, Err, Ok, length, arith}
+use Rattle.std.proofs.Common.{◌+◌, ◌-◌, ◌*◌, ◌≤◌, Err, Ok, arith}
 use Rattle.heap_structures.proofs.Answered.{room_less}
 use Rattle.heap_structures.proofs.AlarmMoves.{closed, moved, size_over}
 use Rattle.heap_structures.proofs.alarms.AlarmList.close.Goals as goal

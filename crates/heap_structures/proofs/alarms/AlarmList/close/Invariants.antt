@@ -1,5 +1,5 @@
 -- The values behind the place have moved up as far as this one.
-use Rattle.std.proofs.Common.{◌-◌, ◌*◌, ◌<◌, List}
+use Rattle.std.proofs.Common.{◌-◌, ◌*◌, List}
 use Rattle.block_store.specs.declared.Value.{Value}
 use Rattle.never_heap.specs.Graphs.{Graph}
 use Rattle.heap_structures.specs.Alarms.{Shows}

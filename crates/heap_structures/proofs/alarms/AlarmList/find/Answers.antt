@@ -1,4 +1,4 @@
-use Rattle.std.proofs.Common.{◌≡◌, ◌+◌, ◌<◌, Ok, Err, List, length, map, slice_index_or, sym, ◌∙◌, arith}
+use Rattle.std.proofs.Common.{◌+◌, ◌<◌, Ok, Err, length, map, slice_index_or, sym, ◌∙◌, arith}
 use Rattle.std.proofs.lemmas.List.{length-map}
 use Rattle.heap_structures.specs.Alarms.{value_of}
 use Rattle.heap_structures.proofs.Answered.{room_less}

@@ -1,6 +1,6 @@
-use Rattle.std.proofs.Common.{◌≡◌, ◌<◌, ◌≤◌, Ok, Err, length, map, slice_index_or, sym, ◌∙◌, arith}
+use Rattle.std.proofs.Common.{◌<◌, Ok, Err, length, map, slice_index_or, sym, ◌∙◌, arith}
 use Rattle.std.proofs.lemmas.List.{length-map}
-use Rattle.heap_structures.specs.Alarms.{IsAlarms, alarm_at, value_of}
+use Rattle.heap_structures.specs.Alarms.{IsAlarms, value_of}
 use Rattle.heap_structures.proofs.AlarmLists.{alarm_past, alarm_there, none, value_at}
 use Rattle.heap_structures.proofs.AlarmMoves.{loaded, shows_as}
 use Rattle.heap_structures.proofs.Rounds.{does_none}
