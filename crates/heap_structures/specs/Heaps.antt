@@ -1,5 +1,5 @@
 -- A heap seen as a graph: what a call takes of the heap's life, and what it leaves in its graph.
-use Rattle.std.specs.Prelude.{ℕ, ◌+◌, ◌≤◌, ◌≡◌, false, List}
+use Rattle.std.specs.Prelude.{ℕ, ◌+◌, ◌≤◌, ◌≡◌, false, MatchResult, Result, List, [], ◌∷◌}
 use Rattle.block_store.specs.declared.Name.{Name}
 use Rattle.block_store.specs.declared.Value.{Value}
 use Rattle.rate_plan.specs.Rates.{IsRate}
@@ -67,3 +67,13 @@ abbrev pub Stops : ℕ → Type 0 → Control → Control → Fault → Type 0
 Stops n Bad h z faults.OutOfBounds = Bad × (z ≡ h)
 Stops n Bad h z faults.NoLifeLeft = ¬ HasRoom n h × (z ≡ h)
 Stops n Bad h z _ = ⊥
+
+-- A call does at most so many commands with this outcome, or it stops and nothing is changed.
+abbrev pub DoesOrStops : {T : Type 0} → Sight → ℕ → Control → Control → List ℕ → Cells → Graph
+    → (T → Graph → Type 0) → Type 0 → Type 0 → Result T Fault → Type 0
+DoesOrStops s n h z rs c g Q Bad Same x =
+    MatchResult x (λ v. Does s n h z rs c.array g (Q v)) (λ f. Stops n Bad h z f × Same)
+
+-- a value went by the spare register, and the array has these
+abbrev pub Fills : Sight → ℕ → Control → Control → Cells → Graph → List Value → Type 0
+Fills s n h z c g ws = Does s n h z (c.spare ∷ []) c.array g (λ k. IsCells k c ws)

@@ -3,3 +3,4 @@ pub mod Cells
 pub mod Heaps
 pub mod Rings
 pub mod Opened
+pub mod Alarms

@@ -6,7 +6,7 @@ ghost use Rattle.block_store.specs.declared.Value.TheVariants.{Int, Nil};
 ghost use Rattle.never_heap.specs.Graphs.{Graph};
 ghost use Rattle.heap_structures.specs.declared.cells.Cells.{Cells};
 ghost use Rattle.heap_structures.specs.Cells.{HasPlace, IsCells, IsPlaced, held};
-ghost use Rattle.heap_structures.specs.Heaps.{Does, Has, Ready, Sight};
+ghost use Rattle.heap_structures.specs.Heaps.{Does, Fills, Has, Ready, Sight};
 ghost use Rattle.heap_structures.specs.Opened.{MayOpen, NotOpened, Opens};
 ghost use Rattle.heap_structures.specs.Rings.{IsNoTarget};
 
@@ -113,8 +113,7 @@ impl Cells {
     pub(crate) fn clear(&self, heap: &mut ControlHeap, i: u64) -> Result<(), Fault>
         ensures { (s : Sight) (g : Graph) (vs : List Value)
             → Ready s 2 heap.old self.now g vs → i < length vs
-            → IsOkAnd result (λ _. Does s 2 heap.old heap.new (self.now.spare ∷ []) self.now.array g
-            (λ z. IsCells z self.now (slice_set vs i Nil))) }
+            → IsOkAnd result (λ _. Fills s 2 heap.old heap.new self.now g (slice_set vs i Nil)) }
     {
         self.blank(heap)?;
         self.put(heap, i, self.spare)
@@ -124,8 +123,8 @@ impl Cells {
     pub(crate) fn write(&self, heap: &mut ControlHeap, i: u64, number: u64) -> Result<(), Fault>
         ensures { (s : Sight) (g : Graph) (vs : List Value)
             → Ready s 2 heap.old self.now g vs → i < length vs → number < 2 ^ 62
-            → IsOkAnd result (λ _. Does s 2 heap.old heap.new (self.now.spare ∷ []) self.now.array g
-            (λ z. IsCells z self.now (slice_set vs i (Int number)))) }
+            → IsOkAnd result (λ _. Fills s 2 heap.old heap.new self.now g
+            (slice_set vs i (Int number))) }
     {
         self.count_in(heap, number)?;
         self.put(heap, i, self.spare)
@@ -135,8 +134,8 @@ impl Cells {
     pub(crate) fn copy(&self, heap: &mut ControlHeap, from: u64, to: u64) -> Result<(), Fault>
         ensures { (s : Sight) (g : Graph) (vs : List Value)
             → Ready s 2 heap.old self.now g vs → from < length vs → to < length vs
-            → IsOkAnd result (λ _. Does s 2 heap.old heap.new (self.now.spare ∷ []) self.now.array g
-            (λ z. IsCells z self.now (slice_set vs to (slice_index_or vs from Nil)))) }
+            → IsOkAnd result (λ _. Fills s 2 heap.old heap.new self.now g
+            (slice_set vs to (slice_index_or vs from Nil))) }
     {
         self.get(heap, from, self.spare)?;
         self.put(heap, to, self.spare)

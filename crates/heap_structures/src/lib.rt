@@ -1,6 +1,9 @@
 //! Structures for programs on a `ControlHeap`: each shows a plain list of values.
 #![tactic(auto)]
 
+#[cfg(test)]
+mod alarm_tests;
+mod alarms;
 mod cells;
 mod laws;
 mod places;
@@ -9,6 +12,7 @@ mod ring;
 #[cfg(test)]
 mod tests;
 
+pub use alarms::{Alarm, AlarmList, NUMBERS, Raised, alarms_stand_once};
 pub use cells::Cells;
 pub use laws::{blocks_of, others_stay, quiet_commands_keep_graphs};
 pub use queue::Queue;
