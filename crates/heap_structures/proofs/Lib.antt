@@ -6,3 +6,7 @@ pub mod Answered
 pub mod Chained
 pub mod Opening
 pub mod Rounds
+pub mod PairLists
+pub mod PairPlaces
+pub mod TableCalls
+pub mod TableChains

@@ -3,3 +3,6 @@ pub mod Cells
 pub mod Heaps
 pub mod Rings
 pub mod Opened
+pub mod Pairs
+pub mod Tables
+pub mod Maps

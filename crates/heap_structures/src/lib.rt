@@ -3,13 +3,18 @@
 
 mod cells;
 mod laws;
+mod map;
+#[cfg(test)]
+mod map_tests;
 mod places;
 mod queue;
 mod ring;
+mod table;
 #[cfg(test)]
 mod tests;
 
 pub use cells::Cells;
 pub use laws::{blocks_of, others_stay, quiet_commands_keep_graphs};
+pub use map::{Insertion, Map};
 pub use queue::Queue;
 pub use ring::Ring;
