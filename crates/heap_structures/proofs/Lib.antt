@@ -10,3 +10,4 @@ pub mod PairLists
 pub mod PairPlaces
 pub mod TableCalls
 pub mod TableChains
+pub mod MapCalls

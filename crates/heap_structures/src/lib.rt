@@ -15,6 +15,6 @@ mod tests;
 
 pub use cells::Cells;
 pub use laws::{blocks_of, others_stay, quiet_commands_keep_graphs};
-pub use map::{Insertion, Map};
+pub use map::{Insertion, Map, other_maps_stay};
 pub use queue::Queue;
 pub use ring::Ring;

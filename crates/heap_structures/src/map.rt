@@ -1,9 +1,11 @@
 //! Values by their keys, in one array.
 
-ghost use Rattle.std.specs.Prelude.{◌≡◌, ◌≤◌, ◌*◌, ◌∷◌, ℕ, List, [], drop, length, IfOk, MatchResult};
+ghost use Rattle.std.specs.Prelude.{◌≡◌, ◌≢◌, ◌≤◌, ◌*◌, ◌∷◌, ℕ, List, [], drop, length, IfOk, MatchResult};
+ghost use Rattle.block_store.specs.declared.Name.{Name};
 ghost use Rattle.block_store.specs.declared.Value.{Value};
 ghost use Rattle.never_heap.specs.Graphs.{Graph};
-ghost use Rattle.heap_structures.specs.Cells.{HasPlace, held};
+ghost use Rattle.heap_structures.specs.Cells.{HasPlace, IsNone, Spares, held};
+ghost use Rattle.heap_structures.specs.declared.cells.Cells.{Cells};
 ghost use Rattle.heap_structures.specs.Heaps.{Does, Has, Sight, Stops};
 ghost use Rattle.heap_structures.specs.Maps.{GivesPair, Inserts, IsLoaded, IsMap, map_cells, most_pairs, most_to_change, most_to_get};
 ghost use Rattle.heap_structures.specs.Opened.{MayOpen, NotOpened, Opens};
@@ -81,7 +83,8 @@ impl Map {
             heap.old heap.new f) }
     {
         admit(heap, to_get(self.count), self.cells.may_load(d))?;
-        match self.cells.find(heap, self.count, key)? {
+        let place = self.cells.find(heap, self.count, key)?;
+        match place {
             Place::Row(row) => {
                 let value = self.cells.load(heap, row, d)?;
                 Ok(Some(value))
@@ -142,7 +145,8 @@ impl Map {
             heap.old heap.new f × (self.new ≡ self.old)) }
     {
         admit(heap, to_change(self.count), self.cells.may_load(from))?;
-        match self.cells.find(heap, self.count, key)? {
+        let place = self.cells.find(heap, self.count, key)?;
+        match place {
             Place::Row(row) => {
                 let old = self.cells.replace(heap, row, from)?;
                 Ok(Insertion::Replaced(old))
@@ -181,7 +185,8 @@ impl Map {
             heap.old heap.new f × (self.new ≡ self.old)) }
     {
         admit(heap, to_change(self.count), self.cells.may_load(d))?;
-        match self.cells.find(heap, self.count, key)? {
+        let place = self.cells.find(heap, self.count, key)?;
+        match place {
             Place::Row(row) => {
                 let old = self.cells.load(heap, row, d)?;
                 self.cells.remove_row(heap, self.count, row)?;
@@ -206,6 +211,14 @@ impl Map {
         self.cells
     }
 }
+
+/// A map keeps its pairs where a call spares its array and its base register, as `others_stay` says
+/// of rings and queues.
+pub fn other_maps_stay()
+    ensures { (rs : List ℕ) (a : Name) (g z : Graph) (c : Cells) (count : ℕ) (xs : List Pair)
+        → Spares rs a g z → c.array ≢ a → IsNone rs c.base
+        → IsTable g c count xs → IsTable z c count xs }
+{}
 
 /// The most commands of a `get`.
 fn to_get(count: u32) -> u64

@@ -1,4 +1,4 @@
-use Rattle.std.proofs.Common.{◌+◌, ◌*◌, ◌≡◌, ◌×◌, ◌∷◌, [], slice_index_or, arith}
+use Rattle.std.proofs.Common.{◌+◌, ◌*◌, ◌≡◌, ◌∷◌, [], slice_index_or, arith}
 use Rattle.block_store.specs.declared.Value.TheVariants.{Nil}
 use Rattle.heap_structures.specs.Cells.{IsCells, held}
 use Rattle.heap_structures.proofs.TableCalls.{place_low, ready_of, ready_then, row_of}
