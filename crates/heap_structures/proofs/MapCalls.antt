@@ -1,5 +1,5 @@
 -- The calls of a map, by those on its array.
-use Rattle.std.proofs.Common.{◌≡◌, ◌≢◌, ℕ, zero, suc, ◌+◌, ◌*◌, ◌-◌, ◌/◌, ◌<◌, ◌≤◌, Some, None, List, [], ◌∷◌, ◌++◌, length, drop, sym, refl, ap, ◌∙◌, subst, arith}
+use Rattle.std.proofs.Common.{◌≡◌, ◌≢◌, ℕ, zero, suc, ◌+◌, ◌*◌, ◌-◌, ◌/◌, ◌<◌, ◌≤◌, Some, None, List, [], ◌∷◌, length, drop, sym, refl, ap, ◌∙◌, subst, arith}
 use Rattle.block_store.specs.declared.Value.{Value}
 use Rattle.never_heap.specs.Graphs.{Graph}
 use Rattle.control_heap.specs.Controls.{Control}
@@ -7,7 +7,7 @@ use Rattle.heap_structures.specs.declared.cells.Cells.{Cells}
 use Rattle.heap_structures.specs.declared.table.Place.TheVariants.{Row, Before}
 use Rattle.heap_structures.specs.Cells.{held}
 use Rattle.heap_structures.specs.Heaps.{Does, Has, HasRoom, Sight}
-use Rattle.heap_structures.specs.Maps.{GivesPair, IsLoaded, most_to_change, most_to_get}
+use Rattle.heap_structures.specs.Maps.{GivesPair, most_to_change, most_to_get}
 use Rattle.heap_structures.specs.Pairs.{Pair, pair_at, value_of, with_value, without}
 use Rattle.heap_structures.specs.Tables.{Finds, IsStocked, IsTable, digits}
 use Rattle.heap_structures.proofs.Answered.{room_less}
@@ -109,8 +109,11 @@ module _ (s : Sight) (c : Cells) (count key : ℕ) (xs : List Pair) (h : Control
         (λ q. IsTable q c (count - 1) (without key xs))
         (λ q. IsTable q c (count - 1) (without key xs)) (λ q none. none.1) e (λ t. t))
         (let k = to_change in omega (arith, k))
-        (λ t. (t, ap (λ (u : Value). Some u) l.0 ∙ sym (value_row key xs row f.0),
-        e.spares.registers d (apart, tt) ∙ l.1.holds.1))
+        (λ t. (
+          t,
+          ap (λ (u : Value). Some u) l.0 ∙ sym (value_row key xs row f.0),
+          e.spares.registers d (apart, tt) ∙ l.1.holds.1,
+        ))
 
     pub nth_found : (z : Control) (i k : ℕ) (v : Value) → i < count
         → (f : (k ≡ (pair_at xs i).0) × Reads 1 h y g)
@@ -151,8 +154,11 @@ module _ (s : Sight) (c : Cells) (count key : ℕ) (xs : List Pair) (h : Control
         (λ q. IsTable q c count (with_value key (held f.1.graph from) xs))
         (λ q. (value_of key xs ≡ Some old) × IsTable q c count (with_value key (held g from) xs))
         f.1 e.1 (let k = to_change in omega (arith, k))
-        (λ t. (e.0, subst (λ v. IsTable e.1.graph c count (with_value key v xs))
-        (f.1.spares.registers from (apart, tt)) t))
+        (λ t. (
+          e.0,
+          subst (λ v. IsTable e.1.graph c count (with_value key v xs))
+              (f.1.spares.registers from (apart, tt)) t,
+        ))
 
     pub insert_new : (z : Control) → count < c.size / 2
         → (f : Finds key xs (Before row) × Reads (digits count + 1) h y g)
@@ -168,9 +174,12 @@ module _ (s : Sight) (c : Cells) (count key : ℕ) (xs : List Pair) (h : Control
         (λ q. (value_of key xs ≡ None) × (length xs < c.size / 2)
         × IsTable q c (count + 1) (with_value key (held g from) xs))
         f.1 e (let k = to_change in omega (arith, k))
-        (λ t. (value_absent key xs f.0.1, omega (arith, room, counted),
-        subst (λ v. IsTable e.graph c (count + 1) (with_value key v xs))
-        (f.1.spares.registers from (apart, tt)) t))
+        (λ t. (
+          value_absent key xs f.0.1,
+          omega (arith, room, counted),
+          subst (λ v. IsTable e.graph c (count + 1) (with_value key v xs))
+              (f.1.spares.registers from (apart, tt)) t,
+        ))
 
     pub insert_full : c.size / 2 ≤ count
         → Finds key xs (Before row) × Reads (digits count + 1) h y g

@@ -1,5 +1,5 @@
 -- Pairs with rising keys, cut at a key.
-use Rattle.std.proofs.Common.{◌≡◌, ◌≢◌, ℕ, zero, suc, ◌+◌, ◌*◌, ◌-◌, ◌<◌, ◌≤◌, ◌⊎◌, lt-ltb, eq-eqb, inl, inr, Some, None, List, [], ◌∷◌, ◌++◌, length, slice_index_or, sym, refl, ap, ◌∙◌, subst, arith}
+use Rattle.std.proofs.Common.{◌≡◌, ◌≢◌, ℕ, zero, suc, ◌<◌, ◌≤◌, lt-ltb, eq-eqb, inl, inr, Some, None, List, [], ◌∷◌, ◌++◌, length, sym, refl, ap, ◌∙◌, subst, arith}
 use Rattle.std.specs.List.{AllByRecursion}
 use Rattle.std.proofs.lemmas.Bool.{cases_eq, cases_lt, le-ltb, ne_eqb}
 use Rattle.block_store.specs.declared.Value.{Value}
@@ -155,19 +155,23 @@ cut_found k (x ∷ xs) up low is = elim (cases_lt x.0 k) [
       let e = below_less k x xs l in
       let n : length (below k (x ∷ xs)) ≡ suc (length (below k xs)) = ap length e in
       let p = cut_found k xs up.1 (omega (arith, low, n))
-      (ap (λ i. (pair_at (x ∷ xs) i).0) (sym n) ∙ is) in
-      (p.0, ap (λ ys. x ∷ ys) p.1
-      ∙ ap (λ ys. ys ++ (k, p.0) ∷ above k xs) (sym e)
-      ∙ ap (λ ys. below k (x ∷ xs) ++ (k, p.0) ∷ ys) (sym (above_less k x xs (omega (arith, l)))))
+      (ap (λ i. (pair_at (x ∷ xs) i).0) (sym n) ∙ is) in (
+        p.0,
+        ap (λ ys. x ∷ ys) p.1
+            ∙ ap (λ ys. ys ++ (k, p.0) ∷ above k xs) (sym e)
+            ∙ ap (λ ys. below k (x ∷ xs) ++ (k, p.0) ∷ ys) (sym (above_less k x xs (omega (arith, l)))),
+      )
   | inr m ↦
       let high = past k x xs m up.0 in
       let e : below k (x ∷ xs) ≡ [] = below_more k x xs m ∙ below_none k xs high in
       let n : length (below k (x ∷ xs)) ≡ 0 = ap length e in
-      let same : x.0 ≡ k = ap (λ i. (pair_at (x ∷ xs) i).0) (sym n) ∙ is in
-      (x.1, ap (λ q. (q, x.1) ∷ xs) same
-      ∙ ap (λ ys. ys ++ (k, x.1) ∷ xs) (sym e)
-      ∙ ap (λ ys. below k (x ∷ xs) ++ (k, x.1) ∷ ys)
-      (sym (above_less k x xs (omega (arith, same)) ∙ above_same k xs high)))
+      let same : x.0 ≡ k = ap (λ i. (pair_at (x ∷ xs) i).0) (sym n) ∙ is in (
+        x.1,
+        ap (λ q. (q, x.1) ∷ xs) same
+            ∙ ap (λ ys. ys ++ (k, x.1) ∷ xs) (sym e)
+            ∙ ap (λ ys. below k (x ∷ xs) ++ (k, x.1) ∷ ys)
+            (sym (above_less k x xs (omega (arith, same)) ∙ above_same k xs high)),
+      )
 ]
 
 pub cut_absent : (k : ℕ) (xs : List Pair) → IsRising xs

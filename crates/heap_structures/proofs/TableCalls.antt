@@ -1,5 +1,5 @@
 -- Calls on an array of pairs.
-use Rattle.std.proofs.Common.{◌≡◌, ◌≢◌, ℕ, zero, suc, ◌+◌, ◌*◌, ◌-◌, ◌/◌, ◌^◌, ◌<◌, ◌≤◌, Result, Some, None, List, [], ◌∷◌, ◌++◌, length, slice_index_or, slice_set, sym, refl, ap, ◌∙◌, subst, arith}
+use Rattle.std.proofs.Common.{◌≡◌, ◌≢◌, ℕ, zero, suc, ◌+◌, ◌*◌, ◌-◌, ◌^◌, ◌<◌, ◌≤◌, Result, Some, None, List, [], ◌∷◌, ◌++◌, length, slice_index_or, slice_set, sym, ap, ◌∙◌, subst, arith}
 use Rattle.std.specs.Prelude.{IsOkAnd}
 use Rattle.std.specs.List.{AllByRecursion}
 use Rattle.std.proofs.lemmas.List.{length-append}
@@ -13,12 +13,12 @@ use Rattle.heap_structures.specs.declared.cells.Cells.{Cells}
 use Rattle.heap_structures.specs.declared.table.Place.TheVariants.{Row, Before}
 use Rattle.heap_structures.specs.Cells.{IsCells, held}
 use Rattle.heap_structures.specs.Heaps.{Does, Ready, Sight, Took}
-use Rattle.heap_structures.specs.Pairs.{Pair, IsRising, above, below, pair_at, value_of, with_value, without}
+use Rattle.heap_structures.specs.Pairs.{Pair, above, below, pair_at, value_of, with_value, without}
 use Rattle.heap_structures.specs.Tables.{Finds, IsLowered, IsRaised, IsStocked, IsTable, place_of}
 use Rattle.heap_structures.proofs.Answered.{ok_map, room_after, room_less, took_both}
 use Rattle.heap_structures.proofs.CellMoves.{spares_both, spares_wider}
 use Rattle.heap_structures.proofs.PairLists.{all_above, all_below, all_join, cut_absent, cut_found, in_above, in_below, rising_with, rising_without, value_here, value_none}
-use Rattle.heap_structures.proofs.PairPlaces.{pair_behind, place_key, place_right, place_value, places_added, places_removed, places_replaced}
+use Rattle.heap_structures.proofs.PairPlaces.{pair_behind, place_key, place_value, places_added, places_removed, places_replaced}
 
 -- ---- one call after the other
 
@@ -135,13 +135,16 @@ module _ (g : Graph) (c : Cells) (count : ℕ) (xs : List Pair) (t : IsTable g c
         × Does s 1 h y (c.spare ∷ []) c.array g (λ z. IsTable z c count xs))
     key_read x is got known =
         ok_map (λ k. k ≡ (pair_at xs row).0) _ x
-        (λ k e. (e, record {
-          graph = got.1.graph;
-          has = got.1.has;
-          took = got.1.took;
-          spares = got.1.spares;
-          holds = table_same got.1.graph got.1.holds.0;
-        }))
+        (λ k e. (
+          e,
+          record {
+            graph = got.1.graph;
+            has = got.1.has;
+            took = got.1.took;
+            spares = got.1.spares;
+            holds = table_same got.1.graph got.1.holds.0;
+          },
+        ))
         (known (pair_at xs row).0
         (got.0 ∙ t.places place ∙ place_key xs row place few_rows is)
         (at_all xs row t.small few_rows))
@@ -177,8 +180,11 @@ module _ (s : Sight) (c : Cells) (count key : ℕ) (xs : List Pair) (n k : ℕ) 
 
   pub found_end : count ≤ r → Reads n h y g → n ≤ k → Finds key xs (Before r) × Reads k h y g
   found_end past d less = (
-    (is, cut_absent key xs d.holds.rising
-        (λ low. absurd (let m = d.holds.counted in omega (arith, low, m, past, is)))),
+    (
+      is,
+      cut_absent key xs d.holds.rising
+          (λ low. absurd (let m = d.holds.counted in omega (arith, low, m, past, is))),
+    ),
     does_more s n k h y (c.spare ∷ []) c.array g (λ w. IsTable w c count xs) less d,
   )
 
@@ -186,8 +192,11 @@ module _ (s : Sight) (c : Cells) (count key : ℕ) (xs : List Pair) (n k : ℕ) 
       → (here ≡ (pair_at xs r).0) × Reads 1 y z d.graph → here ≢ key → n + 1 ≤ k
       → Finds key xs (Before r) × Reads k h z g
   found_none z here d got other less = (
-    (is, cut_absent key xs d.holds.rising
-        (λ low same. other (got.0 ∙ ap (λ i. (pair_at xs i).0) is ∙ same))),
+    (
+      is,
+      cut_absent key xs d.holds.rising
+          (λ low same. other (got.0 ∙ ap (λ i. (pair_at xs i).0) is ∙ same)),
+    ),
     does_then s n 1 k h y z (c.spare ∷ []) c.array g (λ w. IsTable w c count xs)
         (λ w. IsTable w c count xs) (λ w. IsTable w c count xs) d got.1 less (λ t. t),
   )
@@ -196,8 +205,11 @@ module _ (s : Sight) (c : Cells) (count key : ℕ) (xs : List Pair) (n k : ℕ) 
       → (here ≡ (pair_at xs r).0) × Reads 1 y z d.graph → here ≡ key → r < count → n + 1 ≤ k
       → Finds key xs (Row r) × Reads k h z g
   found_row z here d got same low less = (
-    (is, cut_found key xs d.holds.rising (let m = d.holds.counted in omega (arith, low, m, is))
-        (ap (λ i. (pair_at xs i).0) (sym is) ∙ sym got.0 ∙ same)),
+    (
+      is,
+      cut_found key xs d.holds.rising (let m = d.holds.counted in omega (arith, low, m, is))
+          (ap (λ i. (pair_at xs i).0) (sym is) ∙ sym got.0 ∙ same),
+    ),
     does_then s n 1 k h y z (c.spare ∷ []) c.array g (λ w. IsTable w c count xs)
         (λ w. IsTable w c count xs) (λ w. IsTable w c count xs) d got.1 less (λ t. t),
   )

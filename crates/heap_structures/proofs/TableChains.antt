@@ -1,5 +1,5 @@
 -- Rows that are found, added, changed and removed by several calls.
-use Rattle.std.proofs.Common.{◌≡◌, ◌≢◌, ℕ, zero, suc, ◌+◌, ◌*◌, ◌-◌, ◌/◌, ◌^◌, ◌<◌, ◌≤◌, inl, inr, Some, List, [], ◌∷◌, ◌++◌, length, slice_index_or, slice_set, sym, refl, ap, ◌∙◌, subst, arith}
+use Rattle.std.proofs.Common.{◌≡◌, ◌≢◌, ℕ, zero, suc, ◌+◌, ◌*◌, ◌-◌, ◌/◌, ◌^◌, ◌<◌, ◌≤◌, inl, inr, Some, List, [], ◌∷◌, length, slice_index_or, slice_set, sym, refl, ap, ◌∙◌, subst, arith}
 use Rattle.std.proofs.Math.Nat.{pow-suc}
 use Rattle.std.proofs.lemmas.Bool.{cases_Bool, cases_eq, cases_lt}
 use Rattle.std.proofs.lemmas.List.{get_or-replicate, get_or-set_same, get_or-set_other, get_or_past, length-replicate}
@@ -12,9 +12,9 @@ use Rattle.control_heap.specs.Controls.{Control}
 use Rattle.heap_structures.specs.declared.cells.Cells.{Cells}
 use Rattle.heap_structures.specs.declared.table.Place.TheVariants.{Row, Before}
 use Rattle.heap_structures.specs.Cells.{IsCells, held}
-use Rattle.heap_structures.specs.Heaps.{Does, Ready, Sight}
-use Rattle.heap_structures.specs.Pairs.{Pair, above, below, pair_at, value_of, with_value, without}
-use Rattle.heap_structures.specs.Tables.{Finds, IsLowered, IsRaised, IsStocked, IsTable, digits, place_of}
+use Rattle.heap_structures.specs.Heaps.{Does, Sight}
+use Rattle.heap_structures.specs.Pairs.{Pair, below, pair_at, value_of, with_value, without}
+use Rattle.heap_structures.specs.Tables.{Finds, IsLowered, IsRaised, IsStocked, IsTable, digits}
 use Rattle.heap_structures.proofs.PairLists.{few_below, more_below}
 use Rattle.heap_structures.proofs.PairPlaces.{place_value}
 use Rattle.heap_structures.proofs.Rounds.{does_none}

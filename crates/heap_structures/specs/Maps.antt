@@ -6,7 +6,11 @@ use Rattle.heap_structures.specs.declared.cells.Cells.{Cells}
 use Rattle.heap_structures.specs.declared.map.Map.{Map}
 use Rattle.heap_structures.specs.declared.map.Insertion.{Insertion}
 use Rattle.heap_structures.specs.declared.map.Insertion.TheVariants as insertions
+use Rattle.control_heap.specs.Controls.{Control}
+use Rattle.control_heap.specs.declared.faults.Fault.{Fault}
 use Rattle.heap_structures.specs.Cells.{held}
+use Rattle.heap_structures.specs.Heaps.{Does, Sight, Stops}
+use Rattle.heap_structures.specs.Rings.{IsNoTarget}
 use Rattle.heap_structures.specs.Pairs.{Pair, value_of, with_value}
 use Rattle.heap_structures.specs.Tables.{IsTable, digits}
 
@@ -27,6 +31,18 @@ most_to_get n = digits n + 2
 
 abbrev pub most_to_change : ℕ → ℕ
 most_to_change n = digits n + 4 * n + 4
+
+-- A call of at most n commands, after which this holds. It may load a value into register d.
+abbrev pub Loads : Sight → ℕ → Control → Control → Map → ℕ → Graph → (Graph → Type 0) → Type 0
+Loads s n h z m d g Q = Does s n h z (d ∷ m.cells.spare ∷ []) m.cells.array g Q
+
+-- a call of at most n commands that loads nothing
+abbrev pub Changes : Sight → ℕ → Control → Control → Map → Graph → (Graph → Type 0) → Type 0
+Changes s n h z m g Q = Does s n h z (m.cells.spare ∷ []) m.cells.array g Q
+
+-- a call stops: it was given a bad register, or the life has no room for n commands
+abbrev pub Refuses : ℕ → Map → ℕ → Control → Control → Fault → Type 0
+Refuses n m d h z f = Stops n (IsNoTarget m.cells d) h z f
 
 -- the value, if there is one, is in this register
 abbrev pub IsLoaded : Graph → ℕ → Option Value → Type 0

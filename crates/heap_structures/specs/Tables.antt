@@ -10,7 +10,7 @@ use Rattle.heap_structures.specs.declared.cells.Cells.{Cells}
 use Rattle.heap_structures.specs.declared.table.Place.{Place}
 use Rattle.heap_structures.specs.declared.table.Place.TheVariants as places
 use Rattle.heap_structures.specs.Cells.{IsCells}
-use Rattle.heap_structures.specs.Heaps.{Has, HasRoom, Sight}
+use Rattle.heap_structures.specs.Heaps.{Does, Has, HasRoom, Sight}
 use Rattle.heap_structures.specs.Pairs.{Pair, IsRising, above, below}
 
 -- value t of an array of these pairs
@@ -36,6 +36,10 @@ pub record IsStocked (s : Sight) (n : ℕ) (h : Control) (c : Cells) (g : Graph)
   pub has : Has s h g
   pub table : IsTable g c count xs
   pub room : HasRoom n h
+
+-- a call of at most n commands on an array, after which this holds
+abbrev pub Works : Sight → ℕ → Control → Control → Cells → Graph → (Graph → Type 0) → Type 0
+Works s n h z c g Q = Does s n h z (c.spare ∷ []) c.array g Q
 
 -- how many binary digits a number below 2^32 has
 abbrev pub digits : ℕ → ℕ

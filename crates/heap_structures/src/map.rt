@@ -1,17 +1,16 @@
 //! Values by their keys, in one array.
 
-ghost use Rattle.std.specs.Prelude.{◌≡◌, ◌≢◌, ◌≤◌, ◌*◌, ◌∷◌, ℕ, List, [], drop, length, IfOk, MatchResult};
+ghost use Rattle.std.specs.Prelude.{◌≡◌, ◌≢◌, ◌*◌, ℕ, List, [], drop, length, IfOk, MatchResult};
 ghost use Rattle.block_store.specs.declared.Name.{Name};
 ghost use Rattle.block_store.specs.declared.Value.{Value};
 ghost use Rattle.never_heap.specs.Graphs.{Graph};
 ghost use Rattle.heap_structures.specs.Cells.{HasPlace, IsNone, Spares, held};
 ghost use Rattle.heap_structures.specs.declared.cells.Cells.{Cells};
-ghost use Rattle.heap_structures.specs.Heaps.{Does, Has, Sight, Stops};
-ghost use Rattle.heap_structures.specs.Maps.{GivesPair, Inserts, IsLoaded, IsMap, map_cells, most_pairs, most_to_change, most_to_get};
+ghost use Rattle.heap_structures.specs.Heaps.{Has, Sight};
+ghost use Rattle.heap_structures.specs.Maps.{Changes, GivesPair, Inserts, IsLoaded, IsMap, Loads, Refuses, map_cells, most_pairs, most_to_change, most_to_get};
 ghost use Rattle.heap_structures.specs.Opened.{MayOpen, NotOpened, Opens};
 ghost use Rattle.heap_structures.specs.Pairs.{Pair, value_of, without};
-ghost use Rattle.heap_structures.specs.Rings.{IsNoTarget};
-ghost use Rattle.heap_structures.specs.Tables.{Finds, IsStocked, IsTable};
+ghost use Rattle.heap_structures.specs.Tables.{IsTable};
 
 use crate::Cells;
 use crate::cells::made;
@@ -76,11 +75,9 @@ impl Map {
         ensures { (s : Sight) (g : Graph) (xs : List Pair)
             → Has s heap.old g → IsMap g self.now xs
             → MatchResult result
-            (λ v. Does s (most_to_get (length xs)) heap.old heap.new
-            (d ∷ (map_cells self.now).spare ∷ []) (map_cells self.now).array g
+            (λ v. Loads s (most_to_get (length xs)) heap.old heap.new self.now d g
             (λ z. IsMap z self.now xs × (v ≡ value_of key xs) × IsLoaded z d v))
-            (λ f. Stops (most_to_get (length xs)) (IsNoTarget (map_cells self.now) d)
-            heap.old heap.new f) }
+            (λ f. Refuses (most_to_get (length xs)) self.now d heap.old heap.new f) }
     {
         admit(heap, to_get(self.count), self.cells.may_load(d))?;
         let place = self.cells.find(heap, self.count, key)?;
@@ -99,19 +96,13 @@ impl Map {
     /// # Errors
     ///
     /// As for `get`.
-    pub fn nth(
-        &self,
-        heap: &mut ControlHeap,
-        i: u32,
-        d: u8,
-    ) -> Result<Option<(u32, Value)>, Fault>
+    pub fn nth(&self, heap: &mut ControlHeap, i: u32, d: u8) -> Result<Option<(u32, Value)>, Fault>
         ensures { (s : Sight) (g : Graph) (xs : List Pair)
             → Has s heap.old g → IsMap g self.now xs
             → MatchResult result
-            (λ v. Does s 2 heap.old heap.new (d ∷ (map_cells self.now).spare ∷ [])
-            (map_cells self.now).array g
+            (λ v. Loads s 2 heap.old heap.new self.now d g
             (λ z. IsMap z self.now xs × GivesPair z d (drop i xs) v))
-            (λ f. Stops 2 (IsNoTarget (map_cells self.now) d) heap.old heap.new f) }
+            (λ f. Refuses 2 self.now d heap.old heap.new f) }
     {
         admit(heap, 2, self.cells.may_load(d))?;
         if i >= self.count {
@@ -128,21 +119,15 @@ impl Map {
     /// # Errors
     ///
     /// As for `get`, with register `from`. Map and heap are then unchanged.
-    pub fn insert(
-        &mut self,
-        heap: &mut ControlHeap,
-        key: u32,
-        from: u8,
-    ) -> Result<Insertion, Fault>
+    pub fn insert(&mut self, heap: &mut ControlHeap, key: u32, from: u8) -> Result<Insertion, Fault>
         ensures same { map_cells self.new ≡ map_cells self.old }
         ensures shows { (s : Sight) (g : Graph) (xs : List Pair)
             → Has s heap.old g → IsMap g self.old xs
             → MatchResult result
-            (λ done. Does s (most_to_change (length xs)) heap.old heap.new
-            ((map_cells self.old).spare ∷ []) (map_cells self.old).array g
+            (λ done. Changes s (most_to_change (length xs)) heap.old heap.new self.old g
             (λ z. Inserts (most_pairs self.old) (IsMap z self.new) key (held g from) xs done))
-            (λ f. Stops (most_to_change (length xs)) (IsNoTarget (map_cells self.old) from)
-            heap.old heap.new f × (self.new ≡ self.old)) }
+            (λ f. Refuses (most_to_change (length xs)) self.old from heap.old heap.new f
+            × (self.new ≡ self.old)) }
     {
         admit(heap, to_change(self.count), self.cells.may_load(from))?;
         let place = self.cells.find(heap, self.count, key)?;
@@ -178,11 +163,10 @@ impl Map {
         ensures shows { (s : Sight) (g : Graph) (xs : List Pair)
             → Has s heap.old g → IsMap g self.old xs
             → MatchResult result
-            (λ v. Does s (most_to_change (length xs)) heap.old heap.new
-            (d ∷ (map_cells self.old).spare ∷ []) (map_cells self.old).array g
+            (λ v. Loads s (most_to_change (length xs)) heap.old heap.new self.old d g
             (λ z. IsMap z self.new (without key xs) × (v ≡ value_of key xs) × IsLoaded z d v))
-            (λ f. Stops (most_to_change (length xs)) (IsNoTarget (map_cells self.old) d)
-            heap.old heap.new f × (self.new ≡ self.old)) }
+            (λ f. Refuses (most_to_change (length xs)) self.old d heap.old heap.new f
+            × (self.new ≡ self.old)) }
     {
         admit(heap, to_change(self.count), self.cells.may_load(d))?;
         let place = self.cells.find(heap, self.count, key)?;

@@ -2,7 +2,7 @@
 
 use crate::tests::{DRAWN, LOADED, RECORD, draw, least_heap, number, record};
 use crate::{Insertion, Map};
-use block_store::{Config, Value, Width};
+use block_store::Value;
 use control_heap::{ControlHeap, Fault};
 use std::collections::BTreeMap;
 use std::process::Abort;
@@ -25,7 +25,9 @@ fn a_map_agrees_with_a_plain_map(rt: HostRuntime) -> Result<(), Fail> {
     for value in 0..DRAWN {
         let key = (draw(&mut state) % 16 * 286_331_153) as u32;
         if draw(&mut state) % 100 < 40 + value / 1000 % 20 {
-            let done = insert(&mut heap, &mut map, key, value).ok().ok_or("insert")?;
+            let done = insert(&mut heap, &mut map, key, value)
+                .ok()
+                .ok_or("insert")?;
             let room = plain.len() < PAIRS as usize;
             match done {
                 Insertion::Added => assert!(rt; room && !plain.contains_key(&key)),
@@ -62,6 +64,23 @@ fn a_map_agrees_with_a_plain_map(rt: HostRuntime) -> Result<(), Fail> {
             None => assert_eq!(rt; map.nth(&mut heap, i as u32, LOADED), Ok(None)),
         }
         assert_eq!(rt; map.len() as usize, plain.len());
+    }
+    Ok(())
+}
+
+#[test]
+fn wrong_registers_and_sizes_are_refused(rt: HostRuntime) -> Result<(), Fail> {
+    let mut heap = least_heap(&rt, 20)?;
+    for size in [0, 32_768, 4_294_967_295] {
+        assert_eq!(rt; Map::new(&mut heap, 1, 2, size), Err(Fault::OutOfBounds));
+    }
+    assert_eq!(rt; Map::new(&mut heap, 1, 1, PAIRS), Err(Fault::OutOfBounds));
+    let mut map = Map::new(&mut heap, 1, 2, PAIRS).ok().ok_or("map")?;
+    for d in [1, 2, 16] {
+        assert_eq!(rt; map.insert(&mut heap, 7, d), Err(Fault::OutOfBounds));
+        assert_eq!(rt; map.get(&mut heap, 7, d), Err(Fault::OutOfBounds));
+        assert_eq!(rt; map.nth(&mut heap, 0, d), Err(Fault::OutOfBounds));
+        assert_eq!(rt; map.remove(&mut heap, 7, d), Err(Fault::OutOfBounds));
     }
     Ok(())
 }

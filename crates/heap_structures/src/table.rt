@@ -7,7 +7,7 @@ ghost use Rattle.never_heap.specs.Graphs.{Graph};
 ghost use Rattle.heap_structures.specs.Cells.{held};
 ghost use Rattle.heap_structures.specs.Heaps.{Does, Ready, Sight};
 ghost use Rattle.heap_structures.specs.Pairs.{Pair, below, pair_at, value_of, with_value, without};
-ghost use Rattle.heap_structures.specs.Tables.{Finds, IsLowered, IsRaised, IsRowOf, IsStocked, IsTable, digits};
+ghost use Rattle.heap_structures.specs.Tables.{Finds, IsLowered, IsRaised, IsRowOf, IsStocked, IsTable, Works, digits};
 ghost use Rattle.heap_structures.specs.declared.table.Place.TheVariants.{Row, Before};
 
 use crate::Cells;
@@ -48,8 +48,7 @@ impl Cells {
         ensures { (s : Sight) (g : Graph) (count : ℕ) (xs : List Pair)
             → IsStocked s 1 heap.old self.now g count xs → row < count
             → IsOkAnd result (λ k. (k ≡ (pair_at xs row).0)
-            × Does s 1 heap.old heap.new (self.now.spare ∷ []) self.now.array g
-            (λ z. IsTable z self.now count xs)) }
+            × Works s 1 heap.old heap.new self.now g (λ z. IsTable z self.now count xs)) }
     {
         let place = 2 * u64::from(row);
         let value = self.get(heap, place, self.spare)?;
@@ -61,7 +60,7 @@ impl Cells {
         ensures { (s : Sight) (g : Graph) (xs : List Pair)
             → IsStocked s (digits count) heap.old self.now g count xs
             → IsOkAnd result (λ r. (r ≡ length (below key xs))
-            × Does s (digits count) heap.old heap.new (self.now.spare ∷ []) self.now.array g
+            × Works s (digits count) heap.old heap.new self.now g
             (λ z. IsTable z self.now count xs)) }
     {
         let mut low = 0;
@@ -79,17 +78,12 @@ impl Cells {
     }
 
     /// Finds a key in `count` rows.
-    pub(crate) fn find(
-        &self,
-        heap: &mut ControlHeap,
-        count: u32,
-        key: u32,
-    ) -> Result<Place, Fault>
+    pub(crate) fn find(&self, heap: &mut ControlHeap, count: u32, key: u32) -> Result<Place, Fault>
         ensures range { IfOk result (IsRowOf count) }
         ensures finds { (s : Sight) (g : Graph) (xs : List Pair)
             → IsStocked s (digits count + 1) heap.old self.now g count xs
             → IsOkAnd result (λ p. Finds key xs p
-            × Does s (digits count + 1) heap.old heap.new (self.now.spare ∷ []) self.now.array g
+            × Works s (digits count + 1) heap.old heap.new self.now g
             (λ z. IsTable z self.now count xs)) }
     {
         let row = self.rank(heap, count, key)?;
@@ -110,8 +104,8 @@ impl Cells {
         ensures { (s : Sight) (g : Graph) (vs : List Value)
             → Ready s (2 * (end - first)) heap.old self.now g vs → end + 2 ≤ length vs
             → first ≤ end
-            → IsOkAnd result (λ _. Does s (2 * (end - first)) heap.old heap.new
-            (self.now.spare ∷ []) self.now.array g (λ z. IsRaised z self.now first end vs)) }
+            → IsOkAnd result (λ _. Works s (2 * (end - first)) heap.old heap.new self.now g
+            (λ z. IsRaised z self.now first end vs)) }
     {
         for place in (first..end).rev() {
             self.copy(heap, place, place + 2)?;
@@ -125,8 +119,8 @@ impl Cells {
         ensures { (s : Sight) (g : Graph) (vs : List Value)
             → Ready s (2 * (end - first)) heap.old self.now g vs → end + 2 ≤ length vs
             → first ≤ end
-            → IsOkAnd result (λ _. Does s (2 * (end - first)) heap.old heap.new
-            (self.now.spare ∷ []) self.now.array g (λ z. IsLowered z self.now first end vs)) }
+            → IsOkAnd result (λ _. Works s (2 * (end - first)) heap.old heap.new self.now g
+            (λ z. IsLowered z self.now first end vs)) }
     {
         for place in first..end {
             self.copy(heap, place + 2, place)?;
@@ -147,8 +141,7 @@ impl Cells {
             → IsStocked s (4 * count + 3) heap.old self.now g count xs
             → Finds key xs (Before row) → 2 * count + 2 ≤ self.now.size
             → from < 16 → from ≢ self.now.spare
-            → IsOkAnd result (λ _. Does s (4 * count + 3) heap.old heap.new
-            (self.now.spare ∷ []) self.now.array g
+            → IsOkAnd result (λ _. Works s (4 * count + 3) heap.old heap.new self.now g
             (λ z. IsTable z self.now (count + 1) (with_value key (held g from) xs))) }
     {
         let place = 2 * u64::from(row);
@@ -160,17 +153,12 @@ impl Cells {
 
     /// Loads the value of a row into the spare register and returns it, and lets it be the value of
     /// register `from`.
-    pub(crate) fn replace(
-        &self,
-        heap: &mut ControlHeap,
-        row: u32,
-        from: u8,
-    ) -> Result<Value, Fault>
+    pub(crate) fn replace(&self, heap: &mut ControlHeap, row: u32, from: u8) -> Result<Value, Fault>
         ensures { (s : Sight) (g : Graph) (count : ℕ) (xs : List Pair) (key : ℕ)
             → IsStocked s 2 heap.old self.now g count xs → key < 2 ^ 32
             → Finds key xs (Row row) → from < 16 → from ≢ self.now.spare
             → IsOkAnd result (λ old. (value_of key xs ≡ Some old)
-            × Does s 2 heap.old heap.new (self.now.spare ∷ []) self.now.array g
+            × Works s 2 heap.old heap.new self.now g
             (λ z. IsTable z self.now count (with_value key (held g from) xs))) }
     {
         let place = 2 * u64::from(row) + 1;
@@ -202,8 +190,7 @@ impl Cells {
         requires { 1 ≤ count }
         ensures { (s : Sight) (g : Graph) (xs : List Pair) (key : ℕ)
             → IsStocked s (4 * count) heap.old self.now g count xs → Finds key xs (Row row)
-            → IsOkAnd result (λ _. Does s (4 * count) heap.old heap.new
-            (self.now.spare ∷ []) self.now.array g
+            → IsOkAnd result (λ _. Works s (4 * count) heap.old heap.new self.now g
             (λ z. IsTable z self.now (count - 1) (without key xs))) }
     {
         let place = 2 * u64::from(row);

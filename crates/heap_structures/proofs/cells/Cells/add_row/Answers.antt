@@ -1,6 +1,6 @@
 use Rattle.std.proofs.Common.{◌≡◌, ◌+◌, ◌*◌, ◌-◌, ◌∷◌, [], refl, slice_set, subst, arith}
 use Rattle.block_store.specs.declared.Value.TheVariants.{Int}
-use Rattle.heap_structures.specs.Cells.{IsCells, held}
+use Rattle.heap_structures.specs.Cells.{IsCells}
 use Rattle.heap_structures.specs.Heaps.{Does}
 use Rattle.heap_structures.specs.Tables.{IsRaised}
 use Rattle.heap_structures.proofs.Answered.{ok_map}

@@ -13,8 +13,8 @@ loop-place-init c = record {
   low = λ order. order;
   raised = λ s g vs ready room order.
       does_none s (2 * (c.args.end - c.args.end)) c.args.heap.now (c.args.self.now.spare ∷ [])
-          c.args.self.now.array g (λ z. IsRaised z c.args.self.now c.args.end c.args.end vs)
-          ready.has (raised_none g c.args.self.now c.args.end vs ready.cells);
+      c.args.self.now.array g (λ z. IsRaised z c.args.self.now c.args.end c.args.end vs)
+      ready.has (raised_none g c.args.self.now c.args.end vs ready.cells);
 }
 
 pub returns-in_err-copy : goal.returns-in_err-copy
@@ -49,13 +49,13 @@ loop-place-preserved c = record {
       let e = c.in_ok-copy.ensures s d.graph d.holds.array next (omega (arith, l, n, room))
       (omega (arith, l, n, room)) in
       does_then s (2 * (end - place)) 2 (2 * (end - (place - 1))) c.args.heap.now
-          c.loop-place.heap c.copy.new.heap (cells.spare ∷ []) cells.array g
-          (λ z. IsRaised z cells place end vs)
-          (λ z. IsCells z cells (slice_set d.holds.array ((place - 1) + 2)
-          (slice_index_or d.holds.array (place - 1) Nil)))
-          (λ z. IsRaised z cells (place - 1) end vs) d e (omega arith)
-          (λ is. raised_more cells first end vs d.graph e.graph (place - 1) place d.holds
-          (omega arith) (omega arith) (omega (arith, n, room)) is);
+      c.loop-place.heap c.copy.new.heap (cells.spare ∷ []) cells.array g
+      (λ z. IsRaised z cells place end vs)
+      (λ z. IsCells z cells (slice_set d.holds.array ((place - 1) + 2)
+      (slice_index_or d.holds.array (place - 1) Nil)))
+      (λ z. IsRaised z cells (place - 1) end vs) d e (omega arith)
+      (λ is. raised_more cells first end vs d.graph e.graph (place - 1) place d.holds
+      (omega arith) (omega arith) (omega (arith, n, room)) is);
 }
 
 pub returns : goal.returns

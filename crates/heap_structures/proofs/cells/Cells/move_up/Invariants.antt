@@ -1,4 +1,4 @@
-use Rattle.std.proofs.Common.{◌+◌, ◌*◌, ◌-◌, ◌≤◌, ◌∷◌, ℕ, List, [], length}
+use Rattle.std.proofs.Common.{◌+◌, ◌*◌, ◌-◌, ◌≤◌, ◌∷◌, List, [], length}
 use Rattle.block_store.specs.declared.Value.{Value}
 use Rattle.never_heap.specs.Graphs.{Graph}
 use Rattle.heap_structures.specs.Heaps.{Does, Ready, Sight}

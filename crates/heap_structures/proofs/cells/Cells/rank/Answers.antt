@@ -24,13 +24,13 @@ loop-low-preserved-then-here-key c = record {
   halving = λ s g xs st.
       let is = c.loop-low.invariant.halving s g xs st in
       goes_up s c.args.heap.now c.args.self.now g c.args.count c.args.key xs c.loop-low.heap
-          c.key_at.new.heap c.loop-low.low c.loop-low.high
-          (c.loop-low.low + (c.loop-low.high - c.loop-low.low) / 2) c.in_ok-here.here is
-          c.loop-low-test.true refl c.loop-low.invariant.within
-          (c.in_ok-here.ensures s is.does.graph c.args.count xs
-          (halving_goes s c.args.heap.now c.args.self.now g c.args.count c.args.key xs
-          c.loop-low.heap c.loop-low.low c.loop-low.high is c.loop-low-test.true st) (omega arith))
-          c.if-here-key.true;
+      c.key_at.new.heap c.loop-low.low c.loop-low.high
+      (c.loop-low.low + (c.loop-low.high - c.loop-low.low) / 2) c.in_ok-here.here is
+      c.loop-low-test.true refl c.loop-low.invariant.within
+      (c.in_ok-here.ensures s is.does.graph c.args.count xs
+      (halving_goes s c.args.heap.now c.args.self.now g c.args.count c.args.key xs
+      c.loop-low.heap c.loop-low.low c.loop-low.high is c.loop-low-test.true st) (omega arith))
+      c.if-here-key.true;
 }
 
 pub loop-low-preserved : goal.loop-low-preserved
@@ -40,13 +40,13 @@ loop-low-preserved c = record {
   halving = λ s g xs st.
       let is = c.loop-low.invariant.halving s g xs st in
       goes_down s c.args.heap.now c.args.self.now g c.args.count c.args.key xs c.loop-low.heap
-          c.key_at.new.heap c.loop-low.low c.loop-low.high
-          (c.loop-low.low + (c.loop-low.high - c.loop-low.low) / 2) c.in_ok-here.here is
-          c.loop-low-test.true refl c.loop-low.invariant.within
-          (c.in_ok-here.ensures s is.does.graph c.args.count xs
-          (halving_goes s c.args.heap.now c.args.self.now g c.args.count c.args.key xs
-          c.loop-low.heap c.loop-low.low c.loop-low.high is c.loop-low-test.true st) (omega arith))
-          c.if-here-key.false;
+      c.key_at.new.heap c.loop-low.low c.loop-low.high
+      (c.loop-low.low + (c.loop-low.high - c.loop-low.low) / 2) c.in_ok-here.here is
+      c.loop-low-test.true refl c.loop-low.invariant.within
+      (c.in_ok-here.ensures s is.does.graph c.args.count xs
+      (halving_goes s c.args.heap.now c.args.self.now g c.args.count c.args.key xs
+      c.loop-low.heap c.loop-low.low c.loop-low.high is c.loop-low-test.true st) (omega arith))
+      c.if-here-key.false;
 }
 
 pub returns : goal.returns

@@ -1,4 +1,4 @@
-use Rattle.std.proofs.Common.{◌≤◌, ◌-◌, ℕ, List}
+use Rattle.std.proofs.Common.{◌≤◌, ◌-◌, List}
 use Rattle.never_heap.specs.Graphs.{Graph}
 use Rattle.heap_structures.specs.Heaps.{Sight}
 use Rattle.heap_structures.specs.Pairs.{Pair}

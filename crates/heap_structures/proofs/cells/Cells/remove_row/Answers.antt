@@ -1,4 +1,4 @@
-use Rattle.std.proofs.Common.{◌≡◌, ◌+◌, ◌*◌, ◌-◌, ◌∷◌, [], refl, slice_set, arith}
+use Rattle.std.proofs.Common.{◌+◌, ◌*◌, ◌-◌, ◌∷◌, [], refl, slice_set, arith}
 use Rattle.block_store.specs.declared.Value.TheVariants.{Nil}
 use Rattle.heap_structures.specs.Cells.{IsCells}
 use Rattle.heap_structures.specs.Tables.{IsLowered}

@@ -1,6 +1,4 @@
-use Rattle.std.proofs.Common.{◌+◌, ◌*◌, ◌≡◌, ◌∷◌, [], slice_index_or, arith}
-use Rattle.block_store.specs.declared.Value.TheVariants.{Nil}
-use Rattle.heap_structures.specs.Cells.{IsCells, held}
+use Rattle.std.proofs.Common.{◌+◌, ◌*◌, ◌∷◌, [], arith}
 use Rattle.heap_structures.proofs.TableCalls.{place_low, ready_of, ready_then, row_of}
 use Rattle.heap_structures.proofs.TableChains.{row_replaced}
 use Rattle.heap_structures.proofs.cells.Cells.replace.Goals as goal

@@ -1,4 +1,4 @@
-use Rattle.std.proofs.Common.{◌+◌, ◌*◌, ◌≡◌, ◌∷◌, [], subst, arith}
+use Rattle.std.proofs.Common.{◌+◌, ◌∷◌, [], subst, arith}
 use Rattle.heap_structures.specs.Heaps.{Does}
 use Rattle.heap_structures.specs.Tables.{Finds, IsTable, digits}
 use Rattle.heap_structures.proofs.MapCalls.{map_stocked, get_found, get_none}

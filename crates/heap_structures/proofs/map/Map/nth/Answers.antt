@@ -1,4 +1,4 @@
-use Rattle.std.proofs.Common.{◌+◌, ◌≡◌, ◌<◌, ◌∷◌, [], arith}
+use Rattle.std.proofs.Common.{◌<◌, ◌∷◌, [], arith}
 use Rattle.heap_structures.specs.Tables.{IsTable}
 use Rattle.heap_structures.proofs.MapCalls.{map_stocked, nth_found}
 use Rattle.heap_structures.proofs.TableCalls.{stocked_then}
