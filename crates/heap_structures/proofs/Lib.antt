@@ -10,3 +10,8 @@ pub mod Closing
 pub mod AlarmLists
 pub mod AlarmMoves
 pub mod AlarmCalls
+pub mod PairLists
+pub mod PairPlaces
+pub mod TableCalls
+pub mod TableChains
+pub mod MapCalls

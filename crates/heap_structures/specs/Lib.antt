@@ -4,3 +4,6 @@ pub mod Heaps
 pub mod Rings
 pub mod Opened
 pub mod Alarms
+pub mod Pairs
+pub mod Tables
+pub mod Maps

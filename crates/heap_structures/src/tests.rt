@@ -14,11 +14,11 @@ pub(crate) const DRAWN: u64 = 100_000;
 pub(crate) const SIZE: u32 = 9;
 
 /// Registers of the tests: a record with a number, the number, and what is loaded.
-const RECORD: u8 = 3;
+pub(crate) const RECORD: u8 = 3;
 
-const NUMBER: u8 = 4;
+pub(crate) const NUMBER: u8 = 4;
 
-const LOADED: u8 = 5;
+pub(crate) const LOADED: u8 = 5;
 
 // A heap on which so many blocks may be live, of the fewest blocks for that.
 pub(crate) fn least_heap(rt: &HostRuntime, live: u32) -> Result<ControlHeap, Fail> {
@@ -47,14 +47,14 @@ pub(crate) fn draw(state: &mut u64) -> u64 {
 }
 
 // Makes a record with a number, in register `RECORD`.
-fn record(heap: &mut ControlHeap, number: u64) -> Result<(), Fault> {
+pub(crate) fn record(heap: &mut ControlHeap, number: u64) -> Result<(), Fault> {
     let _name = heap.record(RECORD, 1)?;
     heap.set(NUMBER, number)?;
     heap.put(RECORD, 0, NUMBER)
 }
 
 // The number of the record in register `LOADED`.
-fn number(heap: &mut ControlHeap) -> Result<Value, Fault> {
+pub(crate) fn number(heap: &mut ControlHeap) -> Result<Value, Fault> {
     heap.get(NUMBER, LOADED, 0)
 }
 
