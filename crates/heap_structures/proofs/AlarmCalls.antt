@@ -150,7 +150,7 @@ module _ (s : Sight) (g : Graph) (h y z : Control) (l : AlarmList) (xs : List Al
   pub raises : (Bad Same : Type 0) (new : AlarmList) (x : Result Raised Fault)
       → IsOkAnd x (λ a. Shows s 2 y z l.cells d.graph
       (λ k. Raises l.cells.size (IsAlarms k new) number xs a))
-      → ShowsOrStops s (l.cells.size + 2) h z l.cells g
+      → ShowsOrStops s (l.cells.size + 2) h z l g
       (λ a k. Raises l.cells.size (IsAlarms k new) number xs a) Bad Same x
   raises Bad Same new (Ok a) e =
       shows_then s l.count 2 (l.cells.size + 2) h y z l.cells g (λ k. IsAlarms k l xs)

@@ -1,5 +1,5 @@
 -- Lists of standing alarms: their operations, and the array that shows one.
-use Rattle.std.specs.Prelude.{ℕ, zero, suc, ◌+◌, ◌*◌, ◌<◌, ◌≡◌, ◌==◌, ◌||◌, Bool, true, false, if◌then◌else◌, Option, Some, None, Result, List, [], ◌∷◌, ◌++◌, length, map}
+use Rattle.std.specs.Prelude.{ℕ, zero, suc, ◌+◌, ◌-◌, ◌*◌, ◌<◌, ◌≡◌, ◌==◌, ◌||◌, Bool, true, false, if◌then◌else◌, Option, Some, None, Result, List, [], ◌∷◌, ◌++◌, length, map}
 use Rattle.block_store.specs.declared.Value.{Value}
 use Rattle.block_store.specs.declared.Value.TheVariants.{Int}
 use Rattle.never_heap.specs.Graphs.{Graph}
@@ -57,6 +57,10 @@ IsAlarms g l xs = IsRound g l.cells 0 l.count (map value_of xs)
 abbrev pub alarm_cells : AlarmList → Cells
 alarm_cells l = l.cells
 
+-- how many alarms it holds at most
+abbrev pub alarm_size : AlarmList → ℕ
+alarm_size l = l.cells.size
+
 -- what a list of at most n shows after an alarm was raised, and why it was not added
 abbrev pub Raises : ℕ → (List Alarm → Type 0) → ℕ → List Alarm → Raised → Type 0
 Raises n Shows number xs New =
@@ -72,9 +76,10 @@ abbrev pub Shows : Sight → ℕ → Control → Control → Cells → Graph →
 Shows s n h z c g Q = Does s n h z (c.spare ∷ []) c.array g Q
 
 -- the same, or the call stops and nothing is changed
-abbrev pub ShowsOrStops : {T : Type 0} → Sight → ℕ → Control → Control → Cells → Graph
+abbrev pub ShowsOrStops : {T : Type 0} → Sight → ℕ → Control → Control → AlarmList → Graph
     → (T → Graph → Type 0) → Type 0 → Type 0 → Result T Fault → Type 0
-ShowsOrStops s n h z c g Q Bad Same x = DoesOrStops s n h z (c.spare ∷ []) c g Q Bad Same x
+ShowsOrStops s n h z l g Q Bad Same x =
+    DoesOrStops s n h z (l.cells.spare ∷ []) l.cells g Q Bad Same x
 
 -- the first alarm with this number is at a place
 abbrev pub IsFound : ℕ → ℕ → List Alarm → Type 0
@@ -103,3 +108,9 @@ abbrev pub without : ℕ → List Value → List Value
 without i [] = []
 without zero (v ∷ vs) = vs
 without (suc i) (v ∷ vs) = v ∷ without i vs
+
+-- value i of a list's array is gone, and those behind it have moved up
+abbrev pub Closes : Sight → Control → Control → Graph → AlarmList → ℕ → List Value → Type 0
+Closes s h z g l i vs =
+    Shows s (2 * (l.count - i)) h z l.cells g
+    (λ k. IsRound k l.cells 0 (l.count - 1) (without i vs))

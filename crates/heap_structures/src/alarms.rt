@@ -3,7 +3,7 @@
 ghost use Rattle.std.specs.Prelude.{◌≡◌, ◌≤◌, ◌<◌, ◌+◌, ◌-◌, ◌*◌, ◌^◌, ◌==◌, ◌∷◌, ◌++◌, ℕ, Option, Some, List, [], length, map, IfOk, IfSome, IsOkAnd, MatchResult, true, false};
 ghost use Rattle.block_store.specs.declared.Value.{Value};
 ghost use Rattle.never_heap.specs.Graphs.{Graph};
-ghost use Rattle.heap_structures.specs.Alarms.{Finds, IsAlarms, Raises, Shows, ShowsOrStops, StandOnce, acknowledged, alarm_at, alarm_cells, cleared, raised, stands, value_of, without};
+ghost use Rattle.heap_structures.specs.Alarms.{Closes, Finds, IsAlarms, Raises, Shows, ShowsOrStops, StandOnce, acknowledged, alarm_at, alarm_cells, alarm_size, cleared, raised, stands, value_of};
 ghost use Rattle.heap_structures.specs.Cells.{HasPlace};
 ghost use Rattle.heap_structures.specs.Heaps.{Has, HasRoom, Sight};
 ghost use Rattle.heap_structures.specs.Opened.{MayOpen, NotOpened, Opens};
@@ -104,9 +104,8 @@ impl AlarmList {
         ensures same { alarm_cells self.new ≡ alarm_cells self.old }
         ensures shows { (s : Sight) (g : Graph) (xs : List Alarm)
             → Has s heap.old g → IsAlarms g self.old xs
-            → ShowsOrStops s ((alarm_cells self.old).size + 2) heap.old heap.new
-            (alarm_cells self.old) g
-            (λ r z. Raises (alarm_cells self.old).size (IsAlarms z self.new) number xs r)
+            → ShowsOrStops s (alarm_size self.old + 2) heap.old heap.new self.old g
+            (λ r z. Raises (alarm_size self.old) (IsAlarms z self.new) number xs r)
             (2 ^ 61 ≤ number) (self.new ≡ self.old) result }
     {
         admit(heap, u64::from(self.cells.size) + 2, number < NUMBERS)?;
@@ -125,8 +124,7 @@ impl AlarmList {
     pub fn acknowledge(&self, heap: &mut ControlHeap, number: u64) -> Result<bool, Fault>
         ensures { (s : Sight) (g : Graph) (xs : List Alarm)
             → Has s heap.old g → IsAlarms g self.now xs
-            → ShowsOrStops s ((alarm_cells self.now).size + 2) heap.old heap.new
-            (alarm_cells self.now) g
+            → ShowsOrStops s (alarm_size self.now + 2) heap.old heap.new self.now g
             (λ r z. (r ≡ stands number xs) × IsAlarms z self.now (acknowledged number xs))
             (2 ^ 61 ≤ number) (Unit {0}) result }
     {
@@ -150,8 +148,7 @@ impl AlarmList {
         ensures same { alarm_cells self.new ≡ alarm_cells self.old }
         ensures shows { (s : Sight) (g : Graph) (xs : List Alarm)
             → Has s heap.old g → IsAlarms g self.old xs
-            → ShowsOrStops s (2 * (alarm_cells self.old).size + 1) heap.old heap.new
-            (alarm_cells self.old) g
+            → ShowsOrStops s (2 * alarm_size self.old + 1) heap.old heap.new self.old g
             (λ r z. (r ≡ stands number xs) × IsAlarms z self.new (cleared number xs))
             (2 ^ 61 ≤ number) (self.new ≡ self.old) result }
     {
@@ -175,7 +172,7 @@ impl AlarmList {
     pub fn get(&self, heap: &mut ControlHeap, i: u32) -> Result<Option<Alarm>, Fault>
         ensures { (s : Sight) (g : Graph) (xs : List Alarm)
             → Has s heap.old g → IsAlarms g self.now xs
-            → ShowsOrStops s 1 heap.old heap.new (alarm_cells self.now) g
+            → ShowsOrStops s 1 heap.old heap.new self.now g
             (λ a z. (a ≡ alarm_at i xs) × IsAlarms z self.now xs) ⊥ (Unit {0}) result }
     {
         admit(heap, 1, true)?;
@@ -241,9 +238,7 @@ impl AlarmList {
         ensures { (s : Sight) (g : Graph) (vs : List Value)
             → Has s heap.old g → IsRound g self.now.cells 0 self.now.count vs
             → HasRoom (2 * (self.now.count - place)) heap.old
-            → IsOkAnd result (λ _. Shows s (2 * (self.now.count - place)) heap.old heap.new
-            self.now.cells g
-            (λ z. IsRound z self.now.cells 0 (self.now.count - 1) (without place vs))) }
+            → IsOkAnd result (λ _. Closes s heap.old heap.new g self.now place vs) }
     {
         let last = self.count - 1;
         for to in place..last {

@@ -5,9 +5,9 @@ ghost use Rattle.block_store.specs.declared.Value.{Value};
 ghost use Rattle.block_store.specs.declared.Value.TheVariants.{Int, Nil};
 ghost use Rattle.never_heap.specs.Graphs.{Graph};
 ghost use Rattle.heap_structures.specs.declared.cells.Cells.{Cells};
-ghost use Rattle.heap_structures.specs.Cells.{HasPlace, IsCells, IsPlaced, held};
-ghost use Rattle.heap_structures.specs.Heaps.{Does, Fills, Has, Ready, Sight};
-ghost use Rattle.heap_structures.specs.Opened.{MayOpen, NotOpened, Opens};
+ghost use Rattle.heap_structures.specs.Cells.{HasPlace, IsCells, held};
+ghost use Rattle.heap_structures.specs.Heaps.{Does, Fills, Has, Ready, Sight, Takes};
+ghost use Rattle.heap_structures.specs.Opened.{MayOpen, NotOpened, Opens, OpensNils};
 ghost use Rattle.heap_structures.specs.Rings.{IsNoTarget};
 
 use crate::laws::quiet_commands_keep_graphs;
@@ -147,8 +147,7 @@ impl Cells {
             → Ready s 3 heap.old self.now g vs → i < length vs → d < 16 → d ≢ self.now.base
             → d ≢ self.now.spare
             → IsOkAnd result (λ v. (v ≡ slice_index_or vs i Nil)
-            × Does s 3 heap.old heap.new (d ∷ self.now.spare ∷ []) self.now.array g
-            (λ z. IsCells z self.now (slice_set vs i Nil) × (held z d ≡ slice_index_or vs i Nil))) }
+            × Takes s heap.old heap.new self.now g vs i d) }
     {
         let value = self.get(heap, i, d)?;
         self.clear(heap, i)?;
@@ -162,8 +161,7 @@ fn nil_array(heap: &mut ControlHeap, base: u8, size: u32) -> Result<Name, Fault>
     ensures opens { (s : Sight) (g : Graph) (spare : ℕ) → Has s heap.old g
         → MayOpen s heap.old.config g size
         → MatchResult result
-        (λ a. (c : Cells) → c.array ≡ a → c.base ≡ base → c.size ≡ size → IsPlaced c
-        → Opens s heap.old heap.new c g (λ z. IsCells z c (replicate size Nil)))
+        (λ a. OpensNils s heap.old heap.new g base size a)
         (λ f. NotOpened s heap.old heap.new base spare size g f) }
 {
     histories_are_right();

@@ -6,7 +6,7 @@ ghost use Rattle.never_heap.specs.Graphs.{Graph};
 ghost use Rattle.heap_structures.specs.Cells.{HasPlace, held};
 ghost use Rattle.heap_structures.specs.Heaps.{DoesOrStops, Has, Sight};
 ghost use Rattle.heap_structures.specs.Opened.{MayOpen, NotOpened, Opens};
-ghost use Rattle.heap_structures.specs.Rings.{Adds, Gives, IsNoTarget, IsQueue, queue_cells};
+ghost use Rattle.heap_structures.specs.Rings.{Adds, IsNoTarget, IsQueue, Pops, queue_cells};
 
 use crate::Cells;
 use crate::cells::made;
@@ -85,7 +85,7 @@ impl Queue {
         ensures shows { (s : Sight) (g : Graph) (xs : List Value)
             → Has s heap.old g → IsQueue g self.old xs
             → DoesOrStops s 3 heap.old heap.new (d ∷ (queue_cells self.old).spare ∷ [])
-            (queue_cells self.old) g (λ v z. IsQueue z self.new (drop 1 xs) × Gives z d xs v)
+            (queue_cells self.old) g (λ v z. Pops z self.new d xs v)
             (IsNoTarget (queue_cells self.old) d) (self.new ≡ self.old) result }
     {
         admit(heap, 3, self.cells.may_load(d))?;
