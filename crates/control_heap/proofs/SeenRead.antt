@@ -141,11 +141,13 @@ module _ {M : Type 0} (s : ControlOf M) (r : Run) (st : Stands s r) where
   fields_told x a at xs is =
       let all = all_told a at.0 in
       let same : xs ≡ fields_seen (extent s.config) words (shape_in (words (ShapeOf (r.names.at a 0)))) (r.names.at a 0) (shape_length (shape_in (words (ShapeOf (r.names.at a 0))))) =
-      is ∙ ap (λ y. fields_seen (extent s.config) words (shape_in (words (ShapeOf y))) y (shape_length (shape_in (words (ShapeOf y))))) at.1 in
-      (record {
-        values = ap (map value_seen) same ∙ all.values ∙ take-length (object_of shown a).fields;
-        seen = subst (AllByRecursion (IsSeen r)) (sym same) all.seen;
-      }, subst (AllByRecursion (IsPlaced s.config.blocks)) (sym same) all.placed)
+      is ∙ ap (λ y. fields_seen (extent s.config) words (shape_in (words (ShapeOf y))) y (shape_length (shape_in (words (ShapeOf y))))) at.1 in (
+        record {
+          values = ap (map value_seen) same ∙ all.values ∙ take-length (object_of shown a).fields;
+          seen = subst (AllByRecursion (IsSeen r)) (sym same) all.seen;
+        },
+        subst (AllByRecursion (IsPlaced s.config.blocks)) (sym same) all.placed,
+      )
 
   pub kind_told : (x : ℕ) (a : Name) → IsSeenAt r (Ref a) x → (f : Shape) → f ≡ shape_in (words (ShapeOf x)) → kind_seen f ≡ (object_of shown a).kind
   kind_told x a at f is =

@@ -24,8 +24,6 @@ mod seen;
 mod shown;
 mod watch;
 
-pub use seen::Seen;
-
 use crate::Store;
 use crate::gauges::{allocation_operations, cycle_in, free_in, other_operations};
 use block_store::{Config, OutOfMemory};
@@ -33,6 +31,7 @@ use heap_machine::Words;
 use heap_system::{Local, opening};
 use never_heap::{Command, Reply};
 use rate_plan::{PlanFault, plan};
+pub use seen::Seen;
 use std::alloc::Global;
 use std::marker::Model;
 

@@ -92,11 +92,7 @@ impl ControlHeap {
     /// # Errors
     ///
     /// `OutOfMemory` where there is no memory for the fields.
-    pub fn fields_seen(
-        &self,
-        alloc: Global,
-        reference: Seen,
-    ) -> Result<Vec<Seen>, OutOfMemory>
+    pub fn fields_seen(&self, alloc: Global, reference: Seen) -> Result<Vec<Seen>, OutOfMemory>
         ensures fields { IfOk result (λ v. (r : Run) (a : Name) → Stands self.now r
             → IsSeenAt r (Ref a) reference.block
             → HasSeen r (object_of (replay self.now.config r.order) a) v.items) }
