@@ -1,0 +1,5 @@
+pub mod Makes
+pub mod Decoded
+pub mod Doing
+pub mod Crews
+pub mod Opening

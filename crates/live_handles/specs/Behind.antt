@@ -1,0 +1,11 @@
+-- The place of operations in the order of slots, by what workers had seen.
+use Rattle.std.specs.Prelude.{ℕ, List}
+use Rattle.operations.specs.Linearizations.{Call}
+use Rattle.handle_table.specs.Handles.{Answer, Deed}
+use Rattle.live_rows.specs.Behind as behind
+
+-- A prefix of the order has at least these operations of thread u, and exactly those of thread t.
+-- So what t did after those comes after all that u had done with these.
+abbrev pub StandsBehind : List (Call Deed Answer) → ℕ → List Deed → ℕ → List Deed
+    → Type 0
+StandsBehind order u these t those = behind.StandsBehind order u these t those
