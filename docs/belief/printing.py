@@ -1,8 +1,4 @@
-"""Definitions as they are printed: counted, named and placed."""
-import re
-from functools import lru_cache
-
-from files import crate_lines
+"""Definitions as they are printed: counted and named."""
 
 
 def count(belief, it, parts):
@@ -17,16 +13,6 @@ def counted(it, lines):
 
 def sum_of(belief, kept):
     return tuple(map(sum, zip(*(count(belief, it, parts) for it, parts in kept)))) or (0, 0)
-
-
-@lru_cache(maxsize=None)
-def crate_order():
-    names = [re.split(r"[: ]", line)[0] for line in crate_lines()]
-    return {name: n for n, name in enumerate(names)}
-
-
-def place(it):
-    return crate_order()[it.file.crate], it.file.crate, it.file.short()
 
 
 def shown(belief, it, parts):

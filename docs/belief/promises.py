@@ -1,4 +1,4 @@
-"""The promises that docs/TRUST.md has tables for."""
+"""The promises that docs/TRUST.md counts."""
 from typing import NamedTuple
 
 
@@ -23,17 +23,16 @@ PRINTED = {
 PROMISES = [
     Promise("history", "History of a run or a replay", """
 If the arguments ask for a run or a replay and the status is 0, there is one history: starts of
-cycles, and each command with its reply. Each reply is that of the heap that never frees, on the
-graph that the earlier commands left; only an allocation may be answered `full` instead. The history
-has each thread's commands in the order of its trace. If the source reveals its bytes, they are that
-job and were read to the end; if the sink does, the text of that history was appended.""",
+cycles, and each thread's commands in the order of its trace. Each reply is that of the heap that
+never frees, after the commands before it; only an allocation may be answered `full` instead. If the
+source reveals its bytes, they are that job and were read to the end; if the sink does, the text of
+that history was appended.""",
             ["rtheap_core::rtheap.done"],
             {**PRINTED, "HasHistory": "is_run", "IsRun": "legal traces_whole"}),
     Promise("work", "Exact work", """
 Each entry of that history has the units that its command owes: for an allocation of k blocks k
 times the job's rate, for `idle u` u, for any other command 0. One list of turns of the machine
-makes that history, and entry k of a thread has as many units as the thread has unit turns in the
-list while its log has k entries.""",
+makes that history; entry k of a thread has its unit turns there while its log has k entries.""",
             ["rtheap_core::rtheap.done"],
             {**PRINTED, "HasHistory": "is_rate is_run same parts_logged",
              "IsRun": "legal traces_whole right_work", "IsFinished": "each"}),
@@ -44,8 +43,7 @@ limit were live when that cycle began. If no cycle began with more, no entry is 
             {**PRINTED, "HasHistory": "is_run", "IsRun": "legal traces_whole licensed"}),
     Promise("bound", "Bound of a lone thread", """
 If nobody is inside the heap, the gate is open and from then on one thread alone has turns, its
-command ends within the bound, and none of those turns waits. That holds with the stated bound
-(`command_bound`) and with the tighter one (`command_near`).""",
+command ends within `command_bound`, and within `command_near`, and none of those turns waits.""",
             ["heap_system::a_lone_thread_ends_its_command",
              "heap_system::a_lone_command_ends_near_its_bound"]),
     Promise("checker", "Order checker", """

@@ -116,17 +116,36 @@ def code_lines(file):
     return sum(file.is_code(n) for n in range(len(file.text)))
 
 
-def program_row(crate):
-    """A program: its main file, the calls that it makes of this repository, and its streams."""
-    file = rust_file(main_of(crate))
-    calls = sorted(calls_of(file))
-    streams = []
-    for word in STREAMS:
-        at = [str(n + 1) for n, line in enumerate(file.text) if word in line]
-        if at:
-            streams.append(f"`{word.split('::')[0].strip('.(')}` {', '.join(at)}")
-    return (f"`{crate}`", code_lines(file), "; ".join(streams) or "none",
-            ", ".join(f"`{call}`" for call in calls))
+def program_rows(common):
+    """The programs by their streams: the lines of each main file, and the calls of this repository
+    that it makes, without the common ones if it makes all of those."""
+    alike = {}
+    for crate, calls in program_calls().items():
+        file = rust_file(main_of(crate))
+        streams = [f"`{word.split('::')[0].strip('.(')}`" for word in STREAMS
+                   if any(word in line for line in file.text)]
+        own = calls - common if common <= calls else calls
+        said = f"`{crate}` {code_lines(file)} " + ", ".join(f"`{call}`" for call in sorted(own))
+        alike.setdefault(", ".join(streams) or "none", []).append(said)
+    for streams, said in alike.items():
+        yield streams, "; ".join(said)
+
+
+def program_calls():
+    return {crate: set(calls_of(rust_file(main_of(crate))))
+            for crate in linked() if main_of(crate).exists()}
+
+
+def common_calls():
+    """The calls that each program makes that asks for its words."""
+    return set.intersection(*(calls for calls in program_calls().values()
+                              if "program_words::words_of" in calls))
+
+
+def common_text(common):
+    others = [f"`{crate}`" for crate, calls in program_calls().items() if not common <= calls]
+    return (f"All{' but ' if others else ''}{', '.join(others)} also call "
+            + ", ".join(f"`{call}`" for call in sorted(common)) + ".")
 
 
 def calls_of(file):
@@ -140,11 +159,11 @@ def calls_of(file):
                 yield f"{path[0]}::{name}::{method}"
 
 
-def stream_rows():
-    """The impls of the traits of streams for those of std."""
+def stream_texts():
+    """The impls of the traits of streams for those of std, and the lines of their files."""
     for trait, kind in (("Source", "StdSource"), ("Sink", "StdSink")):
         for file, _ in rust_items("trace_text").get((f"impl {trait}", kind), []):
-            yield f"`{kind}`", f"`trace_text/{file.short()}`", code_lines(file)
+            yield f"`{kind}` (`trace_text/{file.short()}`, {code_lines(file)} lines)"
 
 
 def script_rows():
@@ -187,16 +206,14 @@ program is linked with, and `docs/believed --kit LOG` compares it with the log o
 {axioms}
 
 **Programs.** A `main` has no contract. The kit proves that it is safe; what it passes to the call,
-and what it does with the answer, is read off its text.
+and what it does with the answer, is read off its text. {common}
 
 {programs}
 
-**Streams.** The kit proves that these keep the contracts of `Source` and `Sink` if std's readers
-and writers keep theirs. Standard input and output reveal no bytes, so no clause says which bytes
-they gave or took. That a `read` returns what the input has, and that a `write` or the flush of a
-buffer writes what it was given, is assumed.
-
-{streams}
+**Streams.** The kit proves that {streams} keep the contracts of `Source` and `Sink` if std's
+readers and writers keep theirs. Standard input and output reveal no bytes, so no clause says which
+bytes they gave or took. That a `read` returns what the input has, and that a `write` or the flush
+of a buffer writes what it was given, is assumed.
 
 **Scripts and C.** Nothing is proved of these. Below them are bash, the C library, the loader, Linux
 and the processor.
@@ -214,12 +231,13 @@ def trusted():
     for name in linked():
         alike.setdefault(axioms_text(kept.get(name)), []).append(f"`{name}`")
     axioms = [(" ".join(names), said) for said, names in alike.items()]
+    common = common_calls()
     text = TEXT.format(
-        kit=kit, libraries=libraries, lemmas=lemmas_text(),
+        kit=kit, libraries=libraries, lemmas=lemmas_text(), common=common_text(common),
         axioms=table_text(["Programs", "Functions outside of Rattle"], axioms),
-        programs=table_text(["Program", "Lines", "Streams and buffers, by lines", "Calls"],
-                            [program_row(name) for name in linked() if main_of(name).exists()]),
-        streams=table_text(["Stream", "File", "Lines of the file"], stream_rows()),
+        programs=table_text(["Streams and buffers", "Programs, lines of main, calls"],
+                            program_rows(common)),
+        streams=", ".join(stream_texts()),
         scripts=table_text(["File", "Lines", "Purpose"], script_rows()))
     return [line if line[:1] == "|" else wrapped(line) for line in joined(text)]
 
