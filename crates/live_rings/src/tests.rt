@@ -11,7 +11,7 @@ use std::thread;
 use std::thread::Threads;
 
 // How many rounds of five requests each thread does.
-const ROUNDS: u32 = 200;
+const ROUNDS: u32 = 4_000;
 
 // How many own numbers were recalled right, and how many answers were wrong.
 #[derive(Drop)]

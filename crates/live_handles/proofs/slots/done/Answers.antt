@@ -1,18 +1,19 @@
-use Rattle.std.proofs.Common.{rules, ◌≡◌, ◌<◌, List, [], ◌∷◌, length, subst, sym, ap, ◌∙◌}
+use Rattle.std.proofs.Common.{rules, ◌≡◌, ◌<◌, ◌≤◌, List, [], ◌∷◌, length, subst, sym, ap, ◌∙◌}
 use Rattle.block_store.specs.declared.Config.{Config}
 use Rattle.block_store.specs.declared.Width.{Width}
 use Rattle.never_heap.specs.declared.Command.{Command}
 use Rattle.shared_heap.specs.Workers.{WorkerState}
-use Rattle.handle_table.specs.Handles.{Deed}
 use Rattle.live_rows.specs.Life.{HasRoomFor, HasRun, MakeObjects}
 use Rattle.live_rows.proofs.Lawful.{some_commands}
-use Rattle.live_handles.specs.Live.{HandleWorkerState, HasDone, answer_by, commands_of, deed_of, handle_worker, handles}
+use Rattle.live_handles.specs.Live.{HandleWorkerState, HasDone, HasSmallId, IsInRange, IsMade, answer_by, commands_of, deed_of, handle_worker, handles, slots_of}
 use Rattle.live_handles.proofs.Decoded.{law}
 use Rattle.live_handles.proofs.Doing.{deed_done, fits, keeps_on}
 use Rattle.live_handles.proofs.slots.done.Goals as goal
 
 pub has_life-requires-clause-some : goal.has_life-requires-clause-some
-has_life-requires-clause-some g c = ?
+has_life-requires-clause-some g c =
+    subst (λ (ks : List Command). 0 < length ks) (sym c.requires.commands)
+    (some_commands handles law _)
 
 pub has_life-requires-clause-make : goal.has_life-requires-clause-make
 has_life-requires-clause-make g c = ?
@@ -21,7 +22,47 @@ pub run-requires-clause-bounds : goal.run-requires-clause-bounds
 run-requires-clause-bounds g c = ?
 
 pub invariant_of-who : goal.invariant_of-who
-invariant_of-who g c = ?
+invariant_of-who g c =
+    let old : WorkerState = c.who.inside.worker in
+    let w : HandleWorkerState = handle_worker old in
+    let new : WorkerState = c.run-replies.new.who in
+    let is : c.args.commands.now ≡ commands_of (deed_of w c.args.request ∷ []) =
+    subst (λ (v : HandleWorkerState). c.args.commands.now ≡ commands_of (deed_of v c.args.request ∷ []))
+    (sym c.who.view_is) c.requires.commands in
+    let run : HasRun old (commands_of (deed_of w c.args.request ∷ [])) c.run-replies.result new =
+    subst (λ (ks : List Command). HasRun old ks c.run-replies.result new) is
+    c.run-replies.ensures.run in
+    let range : IsInRange (slots_of w) c.args.request =
+    subst (λ (v : HandleWorkerState). IsInRange (slots_of v) c.args.request) (sym c.who.view_is)
+    c.requires.checked.0 in
+    let can : IsMade w c.args.request =
+    subst (λ (v : HandleWorkerState). IsMade v c.args.request) (sym c.who.view_is)
+    c.requires.checked.1 in
+    let room : HasRoomFor old.thread (commands_of (deed_of w c.args.request ∷ [])) = ? in
+    keeps_on old c.who.inside.made c.who.inside.slots c.who.invariant c.args.request range can new
+    c.run-replies.result run room c.made_next.result c.made_next.ensures c.slots_next.result
+    c.slots_next.ensures
 
 pub returns-clause-did : goal.returns-clause-did
-returns-clause-did g c = ?
+returns-clause-did g c =
+    let old : WorkerState = c.who.inside.worker in
+    let w : HandleWorkerState = handle_worker old in
+    let new : WorkerState = c.run-replies.new.who in
+    let is : c.args.commands.now ≡ commands_of (deed_of w c.args.request ∷ []) =
+    subst (λ (v : HandleWorkerState). c.args.commands.now ≡ commands_of (deed_of v c.args.request ∷ []))
+    (sym c.who.view_is) c.requires.commands in
+    let run : HasRun old (commands_of (deed_of w c.args.request ∷ [])) c.run-replies.result new =
+    subst (λ (ks : List Command). HasRun old ks c.run-replies.result new) is
+    c.run-replies.ensures.run in
+    let range : IsInRange (slots_of w) c.args.request =
+    subst (λ (v : HandleWorkerState). IsInRange (slots_of v) c.args.request) (sym c.who.view_is)
+    c.requires.checked.0 in
+    let can : IsMade w c.args.request =
+    subst (λ (v : HandleWorkerState). IsMade v c.args.request) (sym c.who.view_is)
+    c.requires.checked.1 in
+    subst (λ (v : HandleWorkerState). HasDone v (deed_of v c.args.request)
+    (answer_by c.args.request c.run-replies.result) (handle_worker new)) c.who.view_is
+    (deed_done old c.who.inside.made c.who.inside.slots c.who.invariant c.args.request range can new
+    c.run-replies.result run c.has_life.ensures.sound
+    (c.run-replies.ensures.begun (subst (λ (ks : List Command). 0 < length ks)
+    (sym c.requires.commands) (some_commands handles law _))))
