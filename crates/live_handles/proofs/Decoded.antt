@@ -17,14 +17,14 @@ use Rattle.live_handles.specs.Live.{commands_of, handles}
 use Rattle.live_handles.proofs.Makes.{numbered_more}
 
 -- what is read of the commands of deeds that others follow
-record IsRead (t : ℕ) (r : Reading) (ops : List Deed) (ks : List Command) : Type 0 where
-  next : Reading
-  told : deeds_from t r (commands_of ops ++ ks) ≡ ops ++ deeds_from t next ks
+pub record IsRead (t : ℕ) (r : Reading) (ops : List Deed) (ks : List Command) : Type 0 where
+  pub next : Reading
+  pub told : deeds_from t r (commands_of ops ++ ks) ≡ ops ++ deeds_from t next ks
 
 h_again : (h : ℕ) → h_of (register_of_h h) ≡ h
 h_again h = omega arith
 
-read_on : (slots t : ℕ) (r : Reading) (ops : List Deed) (ks : List Command)
+pub read_on : (slots t : ℕ) (r : Reading) (ops : List Deed) (ks : List Command)
     → AreNumbered slots t r.made r.last ops → IsRead t r ops ks
 read_on slots t r [] ks all = record { next = r; told = refl }
 read_on slots t r (Take i ∷ ops) ks all =
@@ -65,7 +65,7 @@ read_on slots t r (Make u j h i x ∷ ops) ks all =
           ∙ (λ k. Make (sym all.0.0 k) (sym all.0.1 k) h i x ∷ rest.told k);
     }
 
-decoded : (slots t : ℕ) (ops : List Deed) → AreNumbered slots t 0 (λ h. 0) ops
+pub decoded : (slots t : ℕ) (ops : List Deed) → AreNumbered slots t 0 (λ h. 0) ops
     → deeds_of t (commands_of ops) ≡ ops
 decoded slots t ops all =
     ap (deeds_of t) (sym (append-nil (commands_of ops)))
@@ -82,7 +82,7 @@ answer_told (Take i) rs =
 answer_told (Evict i) rs =
     let p = last_three answers.Null answers.Null answers.Null rs in Found (found_by p.0 p.2)
 
-told_one : (op : Deed) (rows : List Row) (rs more : List Reply)
+pub told_one : (op : Deed) (rows : List Row) (rs more : List Reply)
     → length rs ≡ length (rows_of op)
     → answers_told ends [] (rows_of op ++ rows) (rs ++ more)
     ≡ answer_told op rs ∷ answers_told ends [] rows more

@@ -31,7 +31,7 @@ Fits slots (Take i) = i < slots
 Fits slots (Evict i) = i < slots
 
 -- the commands of a deed in range are in bounds
-module _ (n slots blocks : ℕ) (few_slots : slots ≤ 512) where
+module _ (n slots blocks : ℕ) (few_slots : slots ≤ 1024) where
   fits_there : (op : Deed) → Fits slots op
       → AllByRecursion (IsCommandInBounds (handle_config n slots blocks)) (commands_of (op ∷ []))
   fits_there (Make u j h i x) is =
@@ -40,7 +40,7 @@ module _ (n slots blocks : ℕ) (few_slots : slots ≤ 512) where
       ▸ plain_fits refl refl tt (omega arith)
       ▸ record { range = omega (arith, is.1); blocks = omega arith; units = omega arith; version = tt }
       ▸ plain_fits refl refl tt (omega (arith, is.1))
-      ▸ plain_fits refl refl tt (is.0)
+      ▸ plain_fits refl refl tt (omega (arith, is.0))
       ▸ plain_fits refl refl tt (omega (arith, is.1))
       ▸ plain_fits refl refl tt (omega arith)
       ▸ plain_fits refl refl refl (omega arith, omega (arith, is.2), omega arith, omega (arith, is.1))
@@ -93,13 +93,13 @@ module _ (old : WorkerState) (made : ℕ) (slots : List (Option ℕ)) (is : Keep
       choose (asks.Take i) range can = range
       choose (asks.Evict i) range can = range
 
-  pub fits : (c : Config) → old.thread.config ≡ c → c.shared ≤ 512 → HasSmallId (deed_of w request)
+  pub fits : (c : Config) → old.thread.config ≡ c → c.shared ≤ 1024 → HasSmallId (deed_of w request)
       → AllByRecursion (IsCommandInBounds old.thread.config) (commands_of (deed_of w request ∷ []))
   fits c same few small =
       subst (λ (x : Config). AllByRecursion (IsCommandInBounds x) (commands_of (deed_of w request ∷ [])))
       (sym is.worker.heap)
       (fits_there old.thread.config.threads old.thread.config.shared old.thread.config.blocks
-      (subst (λ (x : Config). x.shared ≤ 512) (sym same) few) (deed_of w request)
+      (subst (λ (x : Config). x.shared ≤ 1024) (sym same) few) (deed_of w request)
       (choose request range can small))
     where
       choose : (request : Request) → IsInRange (slots_of w) request → IsMade w request

@@ -57,7 +57,7 @@ numbered_more s t n last (Evict i ∷ ops) op all one =
 abbrev pub AreKnown : ℕ → (ℕ → Option ℕ) → (ℕ → ℕ) → Type 0
 AreKnown slots slot last = (h i : ℕ) → slot h ≡ Some i → (0 < last h) × (i < slots)
 
-or_zero : Option ℕ → ℕ
+abbrev or_zero : Option ℕ → ℕ
 or_zero None = 0
 or_zero (Some i) = i
 

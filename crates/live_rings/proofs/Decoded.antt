@@ -16,11 +16,11 @@ use Rattle.live_rings.specs.Decoding.{operations_from, operations_of}
 use Rattle.live_rings.specs.Live.{AreOwnFrom, CanBeNext, commands_of, kept_behind, kept_by, rings}
 
 -- what is read of the commands of operations that others follow
-record IsRead (v : ℕ) (ops : List Operation) (ks : List Command) : Type 0 where
-  next : ℕ
-  told : operations_from v (commands_of ops ++ ks) ≡ ops ++ operations_from next ks
+pub record IsRead (v : ℕ) (ops : List Operation) (ks : List Command) : Type 0 where
+  pub next : ℕ
+  pub told : operations_from v (commands_of ops ++ ks) ≡ ops ++ operations_from next ks
 
-read_on : (v : ℕ) (ops : List Operation) (ks : List Command) → IsRead v ops ks
+pub read_on : (v : ℕ) (ops : List Operation) (ks : List Command) → IsRead v ops ks
 read_on v [] ks = record { next = v; told = refl }
 read_on v (Keep i n ∷ ops) ks =
     let rest = read_on n ops ks in
@@ -34,7 +34,7 @@ abbrev pub answer_told : Operation → List Reply → Cell
 answer_told (Keep i v) rs = None
 answer_told (Recall i) rs = number_of (last_three answers.Null answers.Null answers.Null rs).2
 
-told_one : (op : Operation) (rows : List Row) (rs more : List Reply)
+pub told_one : (op : Operation) (rows : List Row) (rs more : List Reply)
     → length rs ≡ length (rows_of op)
     → answers_told ends [] (rows_of op ++ rows) (rs ++ more)
     ≡ answer_told op rs ∷ answers_told ends [] rows more
@@ -42,23 +42,23 @@ told_one (Keep i v) rows (a ∷ b ∷ c ∷ d ∷ []) more same = refl
 told_one (Recall i) rows (a ∷ b ∷ []) more same = refl
 told_one op rows rs more same = absurd (omega arith)
 
-own_more : (t n : ℕ) (ops : List Operation) (op : Operation) → AreOwnFrom t n ops
+pub own_more : (t n : ℕ) (ops : List Operation) (op : Operation) → AreOwnFrom t n ops
     → AreOwnFrom t (kept_behind n ops) (op ∷ []) → AreOwnFrom t n (ops ++ op ∷ [])
 own_more t n [] op all one = one
 own_more t n (Keep i v ∷ ops) op all one = (all.0, own_more t (n + 1) ops op all.1 one)
 own_more t n (Recall i ∷ ops) op all one = own_more t n ops op all one
 
-low_more : (places : ℕ) (ops : List Operation) (op : Operation) → AreInCells places ops
+pub low_more : (places : ℕ) (ops : List Operation) (op : Operation) → AreInCells places ops
     → AreInCells places (op ∷ []) → AreInCells places (ops ++ op ∷ [])
 low_more places [] op all one = one
 low_more places (x ∷ ops) op all one = (all.0, low_more places ops op all.1 one)
 
-next_low : (places t : ℕ) (ops : List Operation) (op : Operation) → CanBeNext places t ops op
+pub next_low : (places t : ℕ) (ops : List Operation) (op : Operation) → CanBeNext places t ops op
     → AreInCells places (op ∷ [])
 next_low places t ops (Keep i v) one = (one.1, tt)
 next_low places t ops (Recall i) one = (one, tt)
 
-next_own : (places t : ℕ) (ops : List Operation) (op : Operation) → CanBeNext places t ops op
+pub next_own : (places t : ℕ) (ops : List Operation) (op : Operation) → CanBeNext places t ops op
     → AreOwnFrom t (kept_by ops) (op ∷ [])
 next_own places t ops (Keep i v) one = (one.0, tt)
 next_own places t ops (Recall i) one = tt

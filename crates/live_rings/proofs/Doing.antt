@@ -27,7 +27,7 @@ Fits places (Keep i v) = (i < places) × (v < 2 ^ 62)
 Fits places (Recall i) = i < places
 
 -- the commands of an operation in range are in bounds
-module _ (n places blocks : ℕ) (few_places : places ≤ 128) where
+module _ (n places blocks : ℕ) (few_places : places ≤ 1024) where
   fits_there : (op : Operation) → Fits places op
       → AllByRecursion (IsCommandInBounds (cell_config n places blocks)) (commands_of (op ∷ []))
   fits_there (Keep i v) is =
@@ -67,14 +67,14 @@ module _ (old : WorkerState) (kept : ℕ) (is : Knows old kept) (request : Reque
       )
       choose (asks.Recall u k) range = omega (arith, is.places, range.0, range.1)
 
-  pub fits : old.thread.config.threads ≤ 16
+  pub fits : (c : Config) → old.thread.config ≡ c → c.shared ≤ 1024
       → AllByRecursion (IsCommandInBounds old.thread.config)
       (commands_of (operation_of w request ∷ []))
-  fits few =
+  fits c same few =
       subst (λ (x : Config). AllByRecursion (IsCommandInBounds x)
       (commands_of (operation_of w request ∷ []))) (sym is.worker.heap)
       (fits_there old.thread.config.threads old.thread.config.shared old.thread.config.blocks
-      (omega (arith, few, is.places)) (operation_of w request) (choose request range is_next))
+      (subst (λ (x : Config). x.shared ≤ 1024) (sym same) few) (operation_of w request) (choose request range is_next))
     where
       choose : (request : Request) → IsInRange (threads_of w) request
           → IsNext rings w (operation_of w request) → Fits (places_of w) (operation_of w request)

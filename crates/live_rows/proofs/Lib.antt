@@ -1,6 +1,7 @@
 pub mod Lawful
 pub mod Told
 pub mod Rooms
+pub mod Lives
 pub mod Asked
 pub mod Doing
 pub mod Crews

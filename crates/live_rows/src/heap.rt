@@ -2,6 +2,7 @@
 
 ghost use Rattle.std.specs.Prelude.{◌≡◌, ◌≤◌, ◌<◌, ◌++◌, ◌∷◌, [], ◌↔◌, IsTrue, IfSome, List, length, map};
 ghost use Rattle.std.specs.List.{AllByRecursion};
+ghost use Rattle.block_store.specs.Configs.{IsInBounds};
 ghost use Rattle.never_heap.specs.Bounds.{IsCommandInBounds};
 ghost use Rattle.shared_heap.specs.Workers as heaps;
 ghost use Rattle.shared_heap.specs.Workers.{CanOpen, HasSeenIts, HaveOneHistory, WorkerState};
@@ -69,7 +70,8 @@ impl RowHeap {
     }
 
     /// Whether a worker's lifetime allows all of these commands. So many of them, at most two, make
-    /// an object of one block, and no other owes any work.
+    /// an object of one block, and no other owes any work. The contract adds that the heap's
+    /// configuration is in bounds.
     pub fn has_life(&self, who: &Worker, objects: u64, commands: &[Command]) -> bool
         requires own { who.now.thread.config ≡ self.now.config }
         requires some { 0 < length commands.now }
@@ -77,6 +79,7 @@ impl RowHeap {
         requires make { MakeObjects who.now.thread.config.width objects commands.now }
         ensures room { IsTrue result ↔ HasRoomFor who.now.thread commands.now }
         ensures sound { HasSeenIts who.now }
+        ensures config { IsInBounds self.now.config }
     {
         let few = who.asked().saturating_add(commands.len() as u64) <= MOST_COMMANDS;
         let within = who.has_left(&Command::Nil { d: 1 });

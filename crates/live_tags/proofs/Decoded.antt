@@ -1,5 +1,5 @@
 -- The commands of operations tell the operations, and their replies the answers.
-use Rattle.std.proofs.Common.{◌≡◌, ℕ, Bool, refl, arith, ap, List, [], ◌∷◌, ◌++◌, length}
+use Rattle.std.proofs.Common.{◌≡◌, ℕ, Bool, true, false, refl, arith, ap, List, [], ◌∷◌, ◌++◌, length}
 use Rattle.never_heap.specs.declared.Command.{Command}
 use Rattle.never_heap.specs.declared.Reply.{Reply}
 use Rattle.never_heap.specs.declared.Reply.TheVariants as answers
@@ -14,7 +14,7 @@ use Rattle.live_rows.proofs.Lawful.{Lawful}
 use Rattle.live_tags.specs.Decoding.{operations_from, operations_of}
 use Rattle.live_tags.specs.Live.{commands_of, tags}
 
-decoded_from : (ops : List Operation) (made : Bool) (v q : ℕ)
+pub decoded_from : (ops : List Operation) (made : Bool) (v q : ℕ)
     → operations_from made v q (commands_of ops) ≡ ops
 decoded_from [] made v q = refl
 decoded_from (Write i a b ∷ ops) made v q = ap (λ l. Write i a b ∷ l) (decoded_from ops _ a b)
@@ -22,14 +22,14 @@ decoded_from (Clear i ∷ ops) made v q = ap (λ l. Clear i ∷ l) (decoded_from
 decoded_from (Read i ∷ ops) made v q = ap (λ l. Read i ∷ l) (decoded_from ops made v q)
 
 -- the commands of a script begin with those of its first operations alone
-record IsRead (made : Bool) (v q : ℕ) (ops : List Operation) (ks : List Command) : Type 0 where
-  made_then : Bool
-  v_then : ℕ
-  q_then : ℕ
-  told : operations_from made v q (commands_of ops ++ ks)
+pub record IsRead (made : Bool) (v q : ℕ) (ops : List Operation) (ks : List Command) : Type 0 where
+  pub made_then : Bool
+  pub v_then : ℕ
+  pub q_then : ℕ
+  pub told : operations_from made v q (commands_of ops ++ ks)
       ≡ ops ++ operations_from made_then v_then q_then ks
 
-read_on : (ops : List Operation) (made : Bool) (v q : ℕ) (ks : List Command)
+pub read_on : (ops : List Operation) (made : Bool) (v q : ℕ) (ks : List Command)
     → IsRead made v q ops ks
 read_on [] made v q ks = record { made_then = made; v_then = v; q_then = q; told = refl }
 read_on (Write i a b ∷ ops) made v q ks =
@@ -42,20 +42,20 @@ read_on (Read i ∷ ops) made v q ks =
     let r = read_on ops made v q ks in
     record { made_then = r.made_then; v_then = r.v_then; q_then = r.q_then; told = ap (λ l. Read i ∷ l) r.told }
 
-inside_more : (n : ℕ) (ops : List Operation) (op : Operation) → AreInTable n ops
+pub inside_more : (n : ℕ) (ops : List Operation) (op : Operation) → AreInTable n ops
     → IsOperationInRange n op → AreInTable n (ops ++ op ∷ [])
 inside_more n [] (Write i v q) all one = (one.0, tt)
 inside_more n [] (Clear i) all one = (one, tt)
 inside_more n [] (Read i) all one = (one, tt)
 inside_more n (x ∷ ops) op all one = (all.0, inside_more n ops op all.1 one)
 
-whole_one : (op : Operation) (rows : List Row)
+pub whole_one : (op : Operation) (rows : List Row)
     → ops_in decides (rows_of op ++ rows) ≡ op ∷ ops_in decides rows
 whole_one (Write i v q) rows = refl
 whole_one (Clear i) rows = refl
 whole_one (Read i) rows = refl
 
-told_one : (op : Operation) (rows : List Row) (rs more : List Reply)
+pub told_one : (op : Operation) (rows : List Row) (rs more : List Reply)
     → length rs ≡ length (rows_of op)
     → answers_told ends [] (rows_of op ++ rows) (rs ++ more)
     ≡ tag_told op rs ∷ answers_told ends [] rows more

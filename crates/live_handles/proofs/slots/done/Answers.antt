@@ -1,6 +1,9 @@
 use Rattle.std.proofs.Common.{rules, ◌≡◌, ◌<◌, ◌≤◌, List, [], ◌∷◌, length, subst, sym, ap, ◌∙◌}
+use Rattle.std.specs.List.{AllByRecursion}
 use Rattle.block_store.specs.declared.Config.{Config}
 use Rattle.block_store.specs.declared.Width.{Width}
+use Rattle.block_store.specs.declared.Width.TheVariants.{Eight}
+use Rattle.never_heap.specs.Bounds.{IsCommandInBounds}
 use Rattle.never_heap.specs.declared.Command.{Command}
 use Rattle.shared_heap.specs.Workers.{WorkerState}
 use Rattle.live_rows.specs.Life.{HasRoomFor, HasRun, MakeObjects}
@@ -16,10 +19,39 @@ has_life-requires-clause-some g c =
     (some_commands handles law _)
 
 pub has_life-requires-clause-make : goal.has_life-requires-clause-make
-has_life-requires-clause-make g c = ?
+has_life-requires-clause-make g c =
+    let old : WorkerState = c.who.inside.worker in
+    let w : HandleWorkerState = handle_worker old in
+    let is : c.args.commands.now ≡ commands_of (deed_of w c.args.request ∷ []) =
+    subst (λ (v : HandleWorkerState). c.args.commands.now ≡ commands_of (deed_of v c.args.request ∷ []))
+    (sym c.who.view_is) c.requires.commands in
+    subst (λ (x : Width). MakeObjects x c.objects_in.result c.args.commands.now)
+    (sym (ap (λ (k : Config). k.width) c.who.invariant.worker.heap))
+    (subst (λ (ks : List Command). MakeObjects Eight c.objects_in.result ks) (sym is)
+    (c.objects_in.ensures.made w))
 
 pub run-requires-clause-bounds : goal.run-requires-clause-bounds
-run-requires-clause-bounds g c = ?
+run-requires-clause-bounds g c =
+    let old : WorkerState = c.who.inside.worker in
+    let w : HandleWorkerState = handle_worker old in
+    let is : c.args.commands.now ≡ commands_of (deed_of w c.args.request ∷ []) =
+    subst (λ (v : HandleWorkerState). c.args.commands.now ≡ commands_of (deed_of v c.args.request ∷ []))
+    (sym c.who.view_is) c.requires.commands in
+    let range : IsInRange (slots_of w) c.args.request =
+    subst (λ (v : HandleWorkerState). IsInRange (slots_of v) c.args.request) (sym c.who.view_is)
+    c.requires.checked.0 in
+    let can : IsMade w c.args.request =
+    subst (λ (v : HandleWorkerState). IsMade v c.args.request) (sym c.who.view_is)
+    c.requires.checked.1 in
+    let small : HasSmallId (deed_of w c.args.request) =
+    subst (λ (v : HandleWorkerState). HasSmallId (deed_of v c.args.request)) (sym c.who.view_is)
+    c.requires.id in
+    let same : old.thread.config ≡ c.args.rows.now.config =
+    subst (λ (v : HandleWorkerState). v.worker.thread.config ≡ c.args.rows.now.config) (sym c.who.view_is)
+    c.requires.own.1 in
+    subst (λ (ks : List Command). AllByRecursion (IsCommandInBounds old.thread.config) ks) (sym is)
+    (fits old c.who.inside.made c.who.inside.slots c.who.invariant c.args.request range can c.args.rows.now.config same
+    c.has_life.ensures.config.shared small)
 
 pub invariant_of-who : goal.invariant_of-who
 invariant_of-who g c =
@@ -38,7 +70,9 @@ invariant_of-who g c =
     let can : IsMade w c.args.request =
     subst (λ (v : HandleWorkerState). IsMade v c.args.request) (sym c.who.view_is)
     c.requires.checked.1 in
-    let room : HasRoomFor old.thread (commands_of (deed_of w c.args.request ∷ [])) = ? in
+    let room_now : HasRoomFor old.thread c.args.commands.now = search rules in
+    let room : HasRoomFor old.thread (commands_of (deed_of w c.args.request ∷ [])) =
+    subst (λ (ks : List Command). HasRoomFor old.thread ks) is room_now in
     keeps_on old c.who.inside.made c.who.inside.slots c.who.invariant c.args.request range can new
     c.run-replies.result run room c.made_next.result c.made_next.ensures c.slots_next.result
     c.slots_next.ensures

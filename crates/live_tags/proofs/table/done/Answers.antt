@@ -1,18 +1,42 @@
-use Rattle.std.proofs.Common.{rules, ◌<◌, List, [], ◌∷◌, length, subst, sym}
+use Rattle.std.proofs.Common.{rules, ◌≡◌, ◌<◌, ◌≤◌, List, [], ◌∷◌, length, subst, sym, ap}
+use Rattle.std.specs.List.{AllByRecursion}
+use Rattle.block_store.specs.declared.Config.{Config}
+use Rattle.block_store.specs.declared.Width.{Width}
+use Rattle.block_store.specs.declared.Width.TheVariants.{Eight}
+use Rattle.never_heap.specs.Bounds.{IsCommandInBounds}
 use Rattle.never_heap.specs.declared.Command.{Command}
 use Rattle.shared_heap.specs.Workers.{WorkerState}
 use Rattle.tag_table.specs.Tables.{IsOperationInRange}
-use Rattle.live_rows.specs.Life.{HasRun}
+use Rattle.live_rows.specs.Life.{HasRun, MakeObjects}
 use Rattle.live_rows.proofs.Lawful.{some_commands}
 use Rattle.live_tags.specs.Live.{HasDone, TagWorkerState, commands_of, tag_worker, tags}
 use Rattle.live_tags.proofs.Decoded.{law}
-use Rattle.live_tags.proofs.Doing.{still_tags, tag_done}
+use Rattle.live_tags.proofs.Doing.{fits, still_tags, tag_done}
 use Rattle.live_tags.proofs.table.done.Goals as goal
 
 pub has_life-requires-clause-some : goal.has_life-requires-clause-some
 has_life-requires-clause-some g c =
     subst (λ (ks : List Command). 0 < length ks) (sym c.requires.commands)
     (some_commands tags law c.args.op)
+
+pub has_life-requires-clause-make : goal.has_life-requires-clause-make
+has_life-requires-clause-make g c =
+    subst (λ (x : Width). MakeObjects x c.objects_in.result c.args.commands.now)
+    (sym (ap (λ (k : Config). k.width) c.who.invariant.heap))
+    (subst (λ (ks : List Command). MakeObjects Eight c.objects_in.result ks) (sym c.requires.commands)
+    c.objects_in.ensures.made)
+
+pub run-requires-clause-bounds : goal.run-requires-clause-bounds
+run-requires-clause-bounds g c =
+    let old : WorkerState = c.who.inside.worker in
+    let same : old.thread.config ≡ c.args.rows.now.config =
+    subst (λ (v : TagWorkerState). v.worker.thread.config ≡ c.args.rows.now.config) (sym c.who.view_is)
+    c.requires.own.1 in
+    let range : IsOperationInRange old.thread.config.shared c.args.op = search rules in
+    subst (λ (ks : List Command). AllByRecursion (IsCommandInBounds old.thread.config) ks)
+    (sym c.requires.commands)
+    (fits old.thread.config c.args.op c.who.invariant.heap
+    (subst (λ (k : Config). k.shared ≤ 1024) (sym same) c.has_life.ensures.config.shared) range)
 
 pub invariant_of-who : goal.invariant_of-who
 invariant_of-who g c =

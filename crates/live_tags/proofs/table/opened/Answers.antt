@@ -1,12 +1,10 @@
 use Rattle.std.proofs.Common.{refl, subst, sym}
 use Rattle.block_store.specs.declared.Config.{Config}
 use Rattle.shared_heap.specs.Workers as heaps
-use Rattle.shared_heap.specs.Workers.{CanOpen}
 use Rattle.live_rows.proofs.Opening.{all_fresh, all_of, in_order, row_of}
 use Rattle.live_tags.specs.Live.{AreFresh, AreInOrder, IsTagWorker, opened_config, tags}
 use Rattle.live_tags.proofs.Crews.{in_order_each}
 use Rattle.live_tags.proofs.Decoded.{law}
-use Rattle.live_tags.proofs.Opening.{can_open}
 use Rattle.live_tags.proofs.table.opened.Goals as goal
 
 pub wrapped-requires : goal.wrapped-requires
