@@ -60,16 +60,14 @@ arguments, such bytes have that `due`, unless it is 5 or 7. The status is `due`,
 A command is answered within the bound of a lone thread, in turns and in operations on the memory; a
 refused one changes nothing. All requests have one legal history with exact work, in which each
 `full` is licensed. From any moment on, once more than 4m units were made on m blocks, no allocation
-is answered `full` if each cycle that began since that moment began within the live limit
-(`full_heaps_come_back`).""",
+is answered `full` if each cycle that began since began within the live limit.""",
             ["control_heap::ControlHeap::open", "control_heap::ControlHeap::ask",
              "control_heap::ControlHeap::request", "control_heap::laws"]),
     Promise("shared", "Heap of several threads, as a library", """
 Between any two steps the answers so far fit one legal history with exact work, in which each `full`
-is licensed; at `close` there is that of the whole life. The entry of a command comes after
-everything that its worker had seen and after every note that it had learned. If all workers are at
-rest, and one of them is then asked and alone has turns, its command ends within the bound of a lone
-thread.""",
+is licensed; at `close` there is that of the whole life. A command comes after everything that its
+worker had seen and every note that it had learned. If all workers are at rest, and one of them is
+then asked and alone has turns, its command ends within the bound of a lone thread.""",
             ["shared_heap::SharedHeap::open", "shared_heap::SharedHeap::ask",
              "shared_heap::SharedHeap::request", "shared_heap::SharedHeap::note",
              "shared_heap::SharedHeap::learn", "shared_heap::SharedHeap::close",

@@ -201,7 +201,8 @@ TEXT = """## Besides definitions
 **Kit.** `{kit}`, as `rt version` prints it: its logic, its prover, its two compilers, and the
 contracts of its standard library and of {libraries}. Some of its functions are not written in
 Rattle; that they meet their contracts is assumed. `docs/belief/kit.txt` keeps which of them each
-program is linked with, and `docs/believed --kit LOG` compares it with the log of `rt ci`.
+program is linked with, as far as `rt ci` names them, and `docs/believed --kit LOG` compares it with
+that log.
 
 {axioms}
 
@@ -243,16 +244,9 @@ def trusted():
 
 
 def axioms_text(axioms):
-    return "; ".join(map(library_text, axioms)) if axioms else "not recorded"
-
-
-def library_text(axioms):
-    """How many functions of a library, and the first of them, as `rt ci` names them."""
-    library, count, names = re.match(r"(\w+)=(\d+):(.*)$", axioms).groups()
-    shown = [f"`{name}`" for name in names.split(",")]
-    if len(shown) < int(count):
-        shown.append("..")
-    return f"{count} of {library}: {', '.join(shown)}"
+    """How many functions of each library."""
+    found = [re.match(r"(\w+)=(\d+):", library).groups() for library in axioms or []]
+    return ", ".join(f"{count} of {library}" for library, count in found) or "not recorded"
 
 
 def table_text(heads, rows):
