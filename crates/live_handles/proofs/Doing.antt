@@ -1,5 +1,6 @@
 -- The commands of a request: what they need, and their outcome.
 use Rattle.std.proofs.Common.{◌≡◌, ℕ, ◌+◌, ◌-◌, ◌<◌, ◌≤◌, ◌^◌, ◌==◌, cond, Option, Some, None, refl, arith, subst, sym, ap, ◌∙◌, List, [], ◌∷◌, ◌++◌, length, slice_index_or}
+use Rattle.std.specs.Prelude.{IsTrue}
 use Rattle.std.specs.List.{AllByRecursion}
 use Rattle.std.proofs.lemmas.List.{length-append}
 use Rattle.block_store.specs.declared.Config.{Config}
@@ -17,7 +18,8 @@ use Rattle.live_rows.proofs.Doing.{ops_are, still, was_done}
 use Rattle.live_handles.specs.declared.request.Request.{Request}
 use Rattle.live_handles.specs.declared.request.Request.TheVariants as asks
 use Rattle.live_handles.specs.Decoding.{deeds_of}
-use Rattle.live_handles.specs.Live.{HandleWorkerState, HasDone, HasSmallId, IsHandleWorker, IsInRange, IsMade, Keeps, answer_by, commands_of, deed_of, handle_worker, handles, known_slot, makes, place_in, slot_next, slots_of}
+use Rattle.live_handles.specs.Kept.{HasSmallId, Keeps, makes, slot_next}
+use Rattle.live_handles.specs.Live.{HandleWorkerState, HasDone, IsHandleWorker, IsInRange, IsMade, answer_by, commands_of, deed_of, handle_worker, handles, is_known, known_slot, place_in, slots_of}
 use Rattle.live_handles.specs.Makes.{last_by, made_behind, made_by, slot_by, slots_behind}
 use Rattle.live_handles.proofs.Decoded.{answer_told, law}
 use Rattle.live_handles.proofs.Makes.{known_by, made_few, made_more, slots_more}
@@ -74,9 +76,14 @@ module _ (old : WorkerState) (made : ℕ) (slots : List (Option ℕ)) (is : Keep
   w = handle_worker old
 
   -- the slot and the number of the last make of a handle that was made
-  known : (h : ℕ) → ((i : ℕ) × (known_slot w h ≡ Some i))
+  some_of : (o : Option ℕ) → IsTrue (is_known o) → (i : ℕ) × (o ≡ Some i)
+  some_of None made = absurd made
+  some_of (Some i) made = (i, refl)
+
+  known : (h : ℕ) → IsTrue (is_known (known_slot w h))
       → (0 < last_by w.done h) × (place_in (known_slot w h) < slots_of w)
-  known h m =
+  known h made =
+      let m = some_of (known_slot w h) made in
       let k = known_by (slots_of w) old.thread.thread w.done is.worker.inside h m.0 m.1 in
       (k.0, subst (λ (o : Option ℕ). place_in o < slots_of w) (sym m.1) k.1)
 

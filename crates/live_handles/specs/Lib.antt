@@ -1,6 +1,6 @@
 pub mod Makes
 pub mod Decoding
 pub mod Live
-pub mod Behind
+pub mod Kept
 pub mod SoFar
 pub mod Texts

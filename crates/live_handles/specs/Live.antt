@@ -1,12 +1,12 @@
 -- Slots for handles that running threads share, and their workers, as contracts see them.
-use Rattle.std.specs.Prelude.{ℕ, ◌+◌, ◌-◌, ◌*◌, ◌<◌, ◌≤◌, ◌≡◌, ◌^◌, Option, Some, None, List, [], slice_index_or}
+use Rattle.std.specs.Prelude.{ℕ, ◌+◌, ◌-◌, ◌*◌, ◌<◌, ◌≤◌, ◌≡◌, ◌^◌, Bool, true, false, IsTrue, Option, Some, None, List}
 use Rattle.block_store.specs.declared.Config.{Config}
 use Rattle.never_heap.specs.declared.Command.{Command}
 use Rattle.never_heap.specs.declared.Reply.{Reply}
 use Rattle.never_heap.specs.Histories.{HistoryItem}
 use Rattle.operations.specs.Linearizations.{Call}
 use Rattle.shared_heap.specs.Workers.{CanOpen, HeapState, WorkerState}
-use Rattle.handle_table.specs.Handles.{Answer, Matched, Found, Deed, Make, See, Drop, Take, Evict, Slot, Row, answer, slots_after, empty_slots, rows_of, command_at, decides, ends, found_by, handle_config, id, is_yes, AreNumbered}
+use Rattle.handle_table.specs.Handles.{Answer, Matched, Found, Deed, Make, See, Drop, Take, Evict, Slot, Row, answer, slots_after, empty_slots, rows_of, command_at, decides, ends, found_by, handle_config, is_yes, AreNumbered}
 use Rattle.live_rows.specs.Orders as orders
 use Rattle.live_rows.specs.Rows as rows
 use Rattle.live_rows.specs.Rows.{Rows}
@@ -19,7 +19,7 @@ use Rattle.live_handles.specs.declared.faults.OpenFault.TheVariants as faults
 use Rattle.live_handles.specs.declared.request.Request.{Request}
 use Rattle.live_handles.specs.declared.request.Request.TheVariants as asks
 use Rattle.live_handles.specs.Decoding.{deeds_of}
-use Rattle.live_handles.specs.Makes.{last_by, made_by, slot_after, slot_by}
+use Rattle.live_handles.specs.Makes.{last_by, made_by, slot_by}
 
 -- what a thread can do next that has made n handles, and where `last` tells of each h one more than
 -- the number of its last make: a make has the next number, and a see or a drop that of the last make
@@ -88,6 +88,10 @@ opened_config threads slots =
 abbrev pub known_slot : HandleWorkerState → ℕ → Option ℕ
 known_slot w h = slot_by w.done h
 
+abbrev pub is_known : Option ℕ → Bool
+is_known None = false
+is_known (Some i) = true
+
 abbrev pub place_in : Option ℕ → ℕ
 place_in None = 0
 place_in (Some i) = i
@@ -112,8 +116,8 @@ IsInRange slots (asks.Evict i) = i < slots
 
 -- the worker has made the handle that is named
 abbrev pub IsMade : HandleWorkerState → Request → Type 0
-IsMade w (asks.See h) = (i : ℕ) × (known_slot w h ≡ Some i)
-IsMade w (asks.Release h) = (i : ℕ) × (known_slot w h ≡ Some i)
+IsMade w (asks.See h) = IsTrue (is_known (known_slot w h))
+IsMade w (asks.Release h) = IsTrue (is_known (known_slot w h))
 IsMade w _ = Unit {0}
 
 -- the worker's lifetime allows all commands of a deed
@@ -188,32 +192,3 @@ IsOpenFault slots threads faults.NoMemory =
 -- allocation was answered full, and which is that of a run of the machine with so many cycles.
 abbrev pub HaveOneTable : Config → List HandleWorkerState → ℕ → Type 0
 HaveOneTable c ws cycles = orders.HaveOneOrder handles c ws cycles
-
--- ---- within a worker
-
--- how many handles a request makes
-abbrev pub makes : Request → ℕ
-makes (asks.Make h i x) = 1
-makes _ = 0
-
--- the slots of its handles after a request
-abbrev pub slot_next : Request → (ℕ → Option ℕ) → ℕ → Option ℕ
-slot_next (asks.Make h i x) slot = slot_after slot h i
-slot_next _ slot = slot
-
--- A worker keeps how many handles it made, and the slot of the last make of each.
-pub record Keeps (w : WorkerState) (made : ℕ) (slots : List (Option ℕ)) : Type 0 where
-  pub worker : IsHandleWorker w
-  pub made_so : made ≡ made_by (deeds_of w.thread.thread w.thread.trace)
-  pub few : made ≤ 2 ^ 60
-  pub slots_so : (h : ℕ) → h < 8
-      → slice_index_or slots h None ≡ slot_by (deeds_of w.thread.thread w.thread.trace) h
-
--- the id of a make fits in a field
-abbrev pub HasSmallId : Deed → Type 0
-HasSmallId (Make t j h i x) = id t j < 2 ^ 62
-HasSmallId _ = Unit {0}
-
--- a worker that has done nothing
-abbrev pub IsNew : WorkerState → Type 0
-IsNew w = IsHandleWorker w × (deeds_of w.thread.thread w.thread.trace ≡ [])

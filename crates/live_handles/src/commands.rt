@@ -1,11 +1,12 @@
 //! The commands of each request, its range, and what its replies tell.
 
-ghost use Rattle.std.specs.Prelude.{◌≡◌, ◌<◌, ◌≤◌, ◌∷◌, [], ◌^◌, ◌↔◌, IsTrue, Some, None, ℕ, slice_index_or};
-ghost use Rattle.block_store.specs.declared.Width.TheVariants as widths;
+ghost use Rattle.std.specs.Prelude.{◌≡◌, ◌+◌, ◌<◌, ◌≤◌, ◌∷◌, [], ◌^◌, ◌↔◌, IsTrue, Some, None, ℕ, slice_index_or};
 ghost use Rattle.handle_table.specs.Handles.{Make, See, Drop, Take, Evict, found_by};
 ghost use Rattle.handle_table.specs.Handles as handles;
-ghost use Rattle.live_rows.specs.Life.{MakeObjects};
-ghost use Rattle.live_handles.specs.Live.{HandleWorkerState, IsInRange, commands_of, deed_of, makes, slot_next};
+ghost use Rattle.live_handles.specs.Live as live;
+ghost use Rattle.live_handles.specs.Live.{IsInRange, commands_of, place_in};
+ghost use Rattle.live_handles.specs.Kept.{NamesHandle, makes, objects_by, slot_next};
+ghost use Rattle.live_handles.specs.Makes.{slot_after};
 
 use crate::request::Request;
 use block_store::Value;
@@ -133,9 +134,7 @@ pub(crate) fn in_range(request: &Request, slots: u32) -> bool
 
 // How many objects the commands of a request make.
 pub(crate) fn objects_in(request: &Request) -> u64
-    ensures few { result ≤ 2 }
-    ensures made { (w : HandleWorkerState)
-        → MakeObjects widths.Eight result (commands_of (deed_of w request.now ∷ [])) }
+    ensures { result ≡ objects_by request.now }
 {
     match request {
         Request::Make { .. } => 2,
@@ -154,17 +153,48 @@ pub(crate) fn made_next(made: u64, request: &Request) -> u64
     }
 }
 
+// The slots of a worker's handles after it made one in a slot.
+#[tactic(auto, using(crate::proofs::Filled::set_there))]
+fn made_in(slots: [Option<u32>; 8], handle: u8, slot: u32) -> [Option<u32>; 8]
+    requires { handle < 8 }
+    ensures { (h : ℕ) → h < 8 → slice_index_or result h None
+        ≡ slot_after (λ g. slice_index_or slots g None) handle slot h }
+{
+    let mut slots = slots;
+    slots[handle as usize] = Some(slot);
+    slots
+}
+
 // The slots of a worker's handles after a request.
 pub(crate) fn slots_next(slots: [Option<u32>; 8], request: &Request) -> [Option<u32>; 8]
-    requires { (n : ℕ) × IsInRange n request.now }
+    requires { NamesHandle request.now }
     ensures { (h : ℕ) → h < 8 → slice_index_or result h None
         ≡ slot_next request.now (λ g. slice_index_or slots g None) h }
 {
-    let mut slots = slots;
-    if let Request::Make { handle, slot, .. } = *request {
-        slots[handle as usize] = Some(slot);
+    match *request {
+        Request::Make { handle, slot, .. } => made_in(slots, handle, slot),
+        _ => slots,
     }
-    slots
+}
+
+// Whether a slot is known.
+pub(crate) fn is_known(slot: Option<u32>) -> bool
+    ensures { result ≡ live.is_known slot }
+{
+    match slot {
+        Some(_) => true,
+        None => false,
+    }
+}
+
+// The slot that is known, or 0.
+pub(crate) fn place(slot: Option<u32>) -> u32
+    ensures { result ≡ place_in slot }
+{
+    match slot {
+        Some(slot) => slot,
+        None => 0,
+    }
 }
 
 // Whether a reply is `yes`.

@@ -1,28 +1,22 @@
 //! Laws of slots that no single call can state. Each is the contract of a function that does
 //! nothing.
 
-ghost use Rattle.std.specs.Prelude.{ℕ, List};
+ghost use Rattle.std.specs.Prelude.{List};
 ghost use Rattle.atomic_table.specs.Table as table;
-ghost use Rattle.block_store.specs.declared.Config.{Config};
 ghost use Rattle.never_heap.specs.declared.Command.{Command};
 ghost use Rattle.heap_system.specs.Systems.{Whole};
 ghost use Rattle.shared_heap.specs.declared.rules.View.{View};
-ghost use Rattle.shared_heap.specs.Shared.{IsStartOf, SharedKept};
-ghost use Rattle.handle_table.specs.Handles.{Answer, Deed};
-ghost use Rattle.live_handles.specs.Behind.{StandsBehind};
-ghost use Rattle.live_handles.specs.Live.{HasDone, HasSeenAll, HaveOneTable, HandleWorkerState, IsHandleHeap, thread_of};
+ghost use Rattle.shared_heap.specs.Shared.{SharedKept};
+ghost use Rattle.handle_table.specs.Handles.{Deed};
+ghost use Rattle.live_rows.specs.Orders.{StandBehindWhatWasSeen};
+ghost use Rattle.live_handles.specs.Live.{IsHandleHeap, handles};
 ghost use Rattle.live_handles.specs.SoFar.{AllSeats, Execute, FitsOneTable, IsBetween};
 
-/// In the order of closed slots, a deed comes after all deeds that a worker `a` had
-/// done, if what `a` had seen is a prefix of the history at which the deed began
-/// (`did.start`). That is so for the deed's own worker, and for each worker whose note it had
-/// learned.
+/// In the order of closed slots, a deed comes after all deeds that a worker had done, if what that
+/// worker had seen is a prefix of the history at which it began (`did.start`). That is so for its
+/// own worker, and for each worker whose note it had learned.
 pub fn deeds_stand_behind_what_was_seen()
-    ensures { (c : Config) (ws : List HandleWorkerState) (cycles : ℕ)
-        (is : HaveOneTable c ws cycles) (old new a : HandleWorkerState) (op : Deed) (answer : Answer)
-        (did : HasDone old op answer new) → HasSeenAll a → IsStartOf a.worker.seen did.start
-        → IsStartOf new.worker.seen is.history
-        → StandsBehind is.order (thread_of a) a.done (thread_of old) old.done }
+    ensures { StandBehindWhatWasSeen handles }
 {}
 
 /// Suppose that the rule of the heap's table holds, as it does between any two steps of any

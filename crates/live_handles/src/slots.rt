@@ -4,9 +4,10 @@ ghost use Rattle.std.specs.Prelude.{◌≡◌, ◌∷◌, [], ◌↔◌, IsTrue,
 ghost use Rattle.shared_heap.specs.Workers.{CanOpen};
 ghost use Rattle.handle_table.specs.Handles.{Matched, Found};
 ghost use Rattle.live_handles.specs.declared.request.Request.TheVariants as asks;
-ghost use Rattle.live_handles.specs.Live.{AreInOrder, AreFresh, AreEachOnce, CanDo, HasDone, HasSeenAll, HasSmallId, HaveOneTable, IsInRange, IsMade, IsOf, IsOpenFault, IsRefused, IsSameWorker, IsTableInRange, answer_by, commands_of, deed_of, has_learned, opened_config, slots_of};
+ghost use Rattle.live_handles.specs.Kept.{HasSmallId};
+ghost use Rattle.live_handles.specs.Live.{AreInOrder, AreFresh, AreEachOnce, CanDo, HasDone, HasSeenAll, HaveOneTable, IsInRange, IsMade, IsOf, IsOpenFault, IsRefused, IsSameWorker, IsTableInRange, answer_by, commands_of, deed_of, has_learned, opened_config, slots_of};
 
-use crate::commands::{evict_commands, found, id_of, in_range, is_yes, made_next, make_commands, objects_in, release_commands, see_commands, slots_next, take_commands};
+use crate::commands::{evict_commands, found, id_of, in_range, is_known, is_yes, made_next, make_commands, objects_in, place, release_commands, see_commands, slots_next, take_commands};
 use crate::faults::{OpenFault, Refused};
 use crate::note::HandleNote;
 use crate::request::Request;
@@ -44,7 +45,7 @@ fn is_made(who: &HandleWorker, request: &Request) -> bool
     ensures { IsTrue result ↔ IsMade who.now request.now }
 {
     match *request {
-        Request::See { handle } | Request::Release { handle } => who.slot_of(handle).is_some(),
+        Request::See { handle } | Request::Release { handle } => is_known(who.slot_of(handle)),
         _ => true,
     }
 }
@@ -208,7 +209,7 @@ impl LiveHandles {
     {
         let request = Request::See { handle };
         checked(who, &request)?;
-        let slot = who.slot_of(handle).unwrap_or(0);
+        let slot = place(who.slot_of(handle));
         let commands = see_commands(handle, slot);
         let (_, _, last) = done(rt, &self.rows, who, request, &commands)?;
         Ok(is_yes(last))
@@ -236,7 +237,7 @@ impl LiveHandles {
     {
         let request = Request::Release { handle };
         checked(who, &request)?;
-        let slot = who.slot_of(handle).unwrap_or(0);
+        let slot = place(who.slot_of(handle));
         let commands = release_commands(handle, slot);
         let (_, _, last) = done(rt, &self.rows, who, request, &commands)?;
         Ok(is_yes(last))

@@ -21,7 +21,8 @@ pub struct HandleWorker {
 }
 
 impl Model for HandleWorker {
-    ghost use Rattle.live_handles.specs.Live.{HandleWorkerState, Keeps, handle_worker};
+    ghost use Rattle.live_handles.specs.Kept.{Keeps};
+    ghost use Rattle.live_handles.specs.Live.{HandleWorkerState, handle_worker};
 
     ghost Value = { HandleWorkerState };
 
@@ -48,7 +49,8 @@ impl HandleWorker {
 }
 
 impl RowThread for HandleWorker {
-    ghost use Rattle.live_handles.specs.Live.{IsHandleWorker, IsNew, handle_worker};
+    ghost use Rattle.live_handles.specs.Kept.{IsNew};
+    ghost use Rattle.live_handles.specs.Live.{IsHandleWorker, handle_worker};
 
     ghost IsNew = { IsNew };
 

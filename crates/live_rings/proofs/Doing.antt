@@ -4,6 +4,7 @@ use Rattle.std.specs.List.{AllByRecursion}
 use Rattle.std.proofs.lemmas.List.{length-append}
 use Rattle.std.proofs.Math.Nat.{mod-lt}
 use Rattle.block_store.specs.declared.Config.{Config}
+use Rattle.block_store.specs.declared.Width.TheVariants.{Eight}
 use Rattle.never_heap.specs.Bounds.{IsCommandInBounds}
 use Rattle.never_heap.specs.declared.Reply.{Reply}
 use Rattle.never_heap.specs.declared.Reply.TheVariants as answers
@@ -11,7 +12,7 @@ use Rattle.never_heap.proofs.Ranges.{plain_fits}
 use Rattle.operations.proofs.Pairs.{◌▸◌}
 use Rattle.shared_heap.specs.Workers.{HasSeenIts, WorkerState}
 use Rattle.number_rings.specs.Rings.{Operation, Keep, Recall, cell_config}
-use Rattle.live_rows.specs.Life.{HasBegun, HasRoomFor, HasRun, last_three}
+use Rattle.live_rows.specs.Life.{HasBegun, HasRoomFor, HasRun, MakeObjects, last_three}
 use Rattle.live_rows.specs.Rows.{replies}
 use Rattle.live_rows.specs.Workers.{IsNext}
 use Rattle.live_rows.proofs.Doing.{ops_are, still, was_done}
@@ -40,6 +41,16 @@ module _ (n places blocks : ℕ) (few_places : places ≤ 1024) where
       plain_fits refl refl tt (omega (arith, is))
       ▸ plain_fits refl refl tt (omega arith)
       ▸ tt
+
+-- a keep makes one object
+pub made_of : (w : RingWorkerState) (request : Request)
+    → MakeObjects Eight (keeps request) (commands_of (operation_of w request ∷ []))
+made_of w (asks.Keep v) = record { objects = refl; units = λ rate. omega arith }
+made_of w (asks.Recall u k) = record { objects = refl; units = λ rate. omega arith }
+
+pub few_objects : (request : Request) → keeps request ≤ 2
+few_objects (asks.Keep v) = omega arith
+few_objects (asks.Recall u k) = omega arith
 
 -- each keep has a command
 pub kept_few : (n : ℕ) (ops : List Operation) → kept_behind n ops ≤ n + length (commands_of ops)

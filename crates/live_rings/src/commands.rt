@@ -1,10 +1,8 @@
 //! The commands of each request, its range, and what its replies tell.
 
 ghost use Rattle.std.specs.Prelude.{◌≡◌, ◌+◌, ◌<◌, ◌≤◌, ◌∷◌, [], ◌^◌, ◌↔◌, IsTrue};
-ghost use Rattle.block_store.specs.declared.Width.TheVariants as widths;
 ghost use Rattle.number_rings.specs.Rings.{Keep, Recall, number_of, ring_place};
-ghost use Rattle.live_rows.specs.Life.{MakeObjects};
-ghost use Rattle.live_rings.specs.Live.{RingWorkerState, IsInRange, commands_of, keeps, operation_of};
+ghost use Rattle.live_rings.specs.Live.{IsInRange, commands_of, keeps};
 
 use crate::request::Request;
 use block_store::Value;
@@ -63,9 +61,7 @@ pub(crate) fn in_range(request: &Request, threads: u32) -> bool
 
 // How many records the commands of a request make.
 pub(crate) fn objects_in(request: &Request) -> u64
-    ensures few { result ≤ 2 }
-    ensures made { (w : RingWorkerState)
-        → MakeObjects widths.Eight result (commands_of (operation_of w request.now ∷ [])) }
+    ensures { result ≡ keeps request.now }
 {
     match request {
         Request::Keep { .. } => 1,

@@ -1,28 +1,22 @@
 //! Laws of rings that no single call can state. Each is the contract of a function that does
 //! nothing.
 
-ghost use Rattle.std.specs.Prelude.{ℕ, List};
+ghost use Rattle.std.specs.Prelude.{List};
 ghost use Rattle.atomic_table.specs.Table as table;
-ghost use Rattle.block_store.specs.declared.Config.{Config};
 ghost use Rattle.never_heap.specs.declared.Command.{Command};
 ghost use Rattle.heap_system.specs.Systems.{Whole};
 ghost use Rattle.shared_heap.specs.declared.rules.View.{View};
-ghost use Rattle.shared_heap.specs.Shared.{IsStartOf, SharedKept};
-ghost use Rattle.number_rings.specs.Rings.{Cell, Operation};
-ghost use Rattle.live_rings.specs.Behind.{StandsBehind};
-ghost use Rattle.live_rings.specs.Live.{HasDone, HasSeenAll, HaveOneOrder, RingWorkerState, IsRingHeap, thread_of};
+ghost use Rattle.shared_heap.specs.Shared.{SharedKept};
+ghost use Rattle.number_rings.specs.Rings.{Operation};
+ghost use Rattle.live_rows.specs.Orders.{StandBehindWhatWasSeen};
+ghost use Rattle.live_rings.specs.Live.{IsRingHeap, rings};
 ghost use Rattle.live_rings.specs.SoFar.{AllSeats, Execute, FitsOneArray, IsBetween};
 
-/// In the order of closed rings, an operation comes after all operations that a worker `a` had
-/// done, if what `a` had seen is a prefix of the history at which the operation began
-/// (`did.start`). That is so for the operation's own worker, and for each worker whose note it had
-/// learned.
+/// In the order of closed rings, an operation comes after all operations that a worker had done, if what that
+/// worker had seen is a prefix of the history at which it began (`did.start`). That is so for its
+/// own worker, and for each worker whose note it had learned.
 pub fn operations_stand_behind_what_was_seen()
-    ensures { (c : Config) (ws : List RingWorkerState) (cycles : ℕ)
-        (is : HaveOneOrder c ws cycles) (old new a : RingWorkerState) (op : Operation) (answer : Cell)
-        (did : HasDone old op answer new) → HasSeenAll a → IsStartOf a.worker.seen did.start
-        → IsStartOf new.worker.seen is.history
-        → StandsBehind is.order (thread_of a) a.done (thread_of old) old.done }
+    ensures { StandBehindWhatWasSeen rings }
 {}
 
 /// Suppose that the rule of the heap's table holds, as it does between any two steps of any

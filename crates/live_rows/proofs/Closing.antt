@@ -19,10 +19,9 @@ use Rattle.shared_heap.specs.Shared.{IsStartOf}
 use Rattle.shared_heap.specs.Workers.{WorkerState, HaveOneHistory, HasPart, IsOfMachine}
 use Rattle.shared_heap.proofs.Crews.{get_or_map}
 use Rattle.shared_heap.proofs.Orders.{nobody}
-use Rattle.live_rows.specs.Behind.{StandsBehind}
-use Rattle.live_rows.specs.Orders.{HasScript, HaveOneOrder}
+use Rattle.live_rows.specs.Orders.{HasScript, HaveOneOrder, StandBehindWhatWasSeen}
 use Rattle.live_rows.specs.Rows.{Rows, IsRowHeap, answers_of, commands_in, commands_of, replies}
-use Rattle.live_rows.specs.Workers.{HasDone, HasSeenAll, IsRowWorker, RowWorkerState, heap_worker, row_worker, thread_of}
+use Rattle.live_rows.specs.Workers.{IsRowWorker, RowWorkerState, heap_worker, row_worker, thread_of}
 use Rattle.live_rows.proofs.Cuts.{stands}
 use Rattle.live_rows.proofs.Lawful.{Lawful}
 
@@ -189,11 +188,7 @@ module _ {Op Row Answer S : Type 0} (a : Rows Op Row Answer S) (law : Lawful a)
 
 -- What one worker did after all that another had seen comes after what that one had done.
 pub stands_behind : {Op Row Answer S : Type 0} (a : Rows Op Row Answer S) (law : Lawful a)
-    (c : Config) (ws : List (RowWorkerState Op Answer)) (cycles : ℕ)
-    (is : HaveOneOrder a c ws cycles) (old new other : RowWorkerState Op Answer) (op : Op)
-    (answer : Answer) (did : HasDone a old op answer new) → HasSeenAll a other
-    → IsStartOf other.worker.seen did.start → IsStartOf new.worker.seen is.history
-    → StandsBehind is.order (thread_of other) other.done (thread_of old) old.done
+    → StandBehindWhatWasSeen a
 stands_behind a law c ws cycles is old new other op answer did all seen more =
     let begins : IsStartOf did.start is.history = (
       did.on.0 ++ more.0,

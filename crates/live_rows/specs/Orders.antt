@@ -8,9 +8,9 @@ use Rattle.never_heap.specs.Runs.{IsRun}
 use Rattle.operations.specs.Linearizations.{Call, IsLinearization, traces_of}
 use Rattle.shared_heap.specs.Shared.{IsStartOf}
 use Rattle.shared_heap.specs.Workers.{IsOfMachine}
-use Rattle.live_rows.specs.Behind.{answers_in}
+use Rattle.live_rows.specs.Behind.{StandsBehind, answers_in}
 use Rattle.live_rows.specs.Rows.{Rows}
-use Rattle.live_rows.specs.Workers.{RowWorkerState, heap_worker, thread_of}
+use Rattle.live_rows.specs.Workers.{HasDone, HasSeenAll, RowWorkerState, heap_worker, thread_of}
 
 -- This is the worker of thread t. It did the operations of the thread's script, and its answers are
 -- those of the thread's calls in the order. What it has seen is a prefix of the history.
@@ -45,3 +45,14 @@ pub record HaveOneOrder {Op Row Answer S : Type 0} (a : Rows Op Row Answer S) (c
   pub least_units : (cycles - 1) * c.blocks ≤ work_in history
   pub most_units : work_in history ≤ 2 * c.blocks * cycles
   pub machine : IsOfMachine c (map heap_worker ws) history
+
+-- In the order of a closed table, an operation comes after all operations that another worker had
+-- done, if what that one had seen is a prefix of the history at which the operation began.
+module _ {Op Row Answer S : Type 0} (a : Rows Op Row Answer S) where
+  abbrev pub StandBehindWhatWasSeen : Type 0
+  StandBehindWhatWasSeen =
+      (c : Config) (ws : List (RowWorkerState Op Answer)) (cycles : ℕ)
+      (is : HaveOneOrder a c ws cycles) (old new other : RowWorkerState Op Answer) (op : Op)
+      (answer : Answer) (did : HasDone a old op answer new) → HasSeenAll a other
+      → IsStartOf other.worker.seen did.start → IsStartOf new.worker.seen is.history
+      → StandsBehind is.order (thread_of other) other.done (thread_of old) old.done

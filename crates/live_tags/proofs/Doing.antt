@@ -2,6 +2,7 @@
 use Rattle.std.proofs.Common.{◌≡◌, ℕ, ◌≤◌, refl, arith, subst, sym, ap, ◌∙◌, List, [], ◌∷◌}
 use Rattle.std.specs.List.{AllByRecursion}
 use Rattle.block_store.specs.declared.Config.{Config}
+use Rattle.block_store.specs.declared.Width.TheVariants.{Eight}
 use Rattle.never_heap.specs.Bounds.{IsCommandInBounds}
 use Rattle.never_heap.specs.declared.Reply.{Reply}
 use Rattle.never_heap.proofs.Ranges.{plain_fits}
@@ -10,10 +11,10 @@ use Rattle.shared_heap.specs.Workers.{HasSeenIts, WorkerState}
 use Rattle.tag_table.specs.declared.operation.Operation.{Operation}
 use Rattle.tag_table.specs.declared.operation.Operation.TheVariants.{Write, Clear, Read}
 use Rattle.tag_table.specs.Tables.{Tag, pair_of, tag_config, IsOperationInRange}
-use Rattle.live_rows.specs.Life.{HasBegun, HasRun}
+use Rattle.live_rows.specs.Life.{HasBegun, HasRun, MakeObjects}
 use Rattle.live_rows.specs.Rows.{replies}
 use Rattle.live_rows.proofs.Doing.{replies_long, still, was_done}
-use Rattle.live_tags.specs.Live.{HasDone, IsTagHeap, IsTagWorker, commands_of, tag_worker, tags}
+use Rattle.live_tags.specs.Live.{HasDone, IsTagHeap, IsTagWorker, commands_of, objects_by, tag_worker, tags}
 use Rattle.live_tags.proofs.Decoded.{law, told_by_two}
 
 -- the commands of an operation in range are in bounds
@@ -48,6 +49,17 @@ pub fits : (c : Config) (op : Operation) → IsTagHeap c → c.shared ≤ 1024
 fits c op is few range =
     subst (λ (x : Config). AllByRecursion (IsCommandInBounds x) (commands_of (op ∷ []))) (sym is)
     (fits_there c.threads c.shared c.blocks few op range)
+
+-- a write makes one record
+pub made_of : (op : Operation) → MakeObjects Eight (objects_by op) (commands_of (op ∷ []))
+made_of (Write i v q) = record { objects = refl; units = λ rate. omega arith }
+made_of (Clear i) = record { objects = refl; units = λ rate. omega arith }
+made_of (Read i) = record { objects = refl; units = λ rate. omega arith }
+
+pub few_objects : (op : Operation) → objects_by op ≤ 2
+few_objects (Write i v q) = omega arith
+few_objects (Clear i) = omega arith
+few_objects (Read i) = omega arith
 
 -- the outcome
 module _ (old new : WorkerState) (op : Operation) (three : Reply × Reply × Reply)

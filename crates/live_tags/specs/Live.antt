@@ -6,6 +6,7 @@ use Rattle.never_heap.specs.Histories.{HistoryItem}
 use Rattle.operations.specs.Linearizations.{Call}
 use Rattle.shared_heap.specs.Workers.{CanOpen, HeapState, WorkerState}
 use Rattle.tag_table.specs.declared.operation.Operation.{Operation}
+use Rattle.tag_table.specs.declared.operation.Operation.TheVariants.{Write}
 use Rattle.tag_table.specs.Tables.{Tag, Row, rows_of, command_at, decides, ends, answer, table_after, empty_table, tag_config, AreInTable, IsOperationInRange}
 use Rattle.live_rows.specs.Orders as orders
 use Rattle.live_rows.specs.Rows as rows
@@ -152,3 +153,8 @@ HasScript scripts history order t w = orders.HasScript scripts history order t w
 -- of the machine.
 abbrev pub HaveOneTable : Config → List TagWorkerState → ℕ → Type 0
 HaveOneTable c ws cycles = orders.HaveOneOrder tags c ws cycles
+
+-- how many records the commands of an operation make
+abbrev pub objects_by : Operation → ℕ
+objects_by (Write i v q) = 1
+objects_by _ = 0

@@ -1,10 +1,8 @@
 //! The commands of each operation, its range, and its answer.
 
 ghost use Rattle.std.specs.Prelude.{◌≡◌, ◌≤◌, ◌∷◌, [], ◌↔◌, IsTrue};
-ghost use Rattle.block_store.specs.declared.Width.TheVariants as widths;
-ghost use Rattle.live_rows.specs.Life.{MakeObjects};
 ghost use Rattle.tag_table.specs.Tables.{IsOperationInRange, pair_of};
-ghost use Rattle.live_tags.specs.Live.{commands_of};
+ghost use Rattle.live_tags.specs.Live.{commands_of, objects_by};
 
 use block_store::Value;
 use never_heap::{Command, Reply};
@@ -81,8 +79,7 @@ pub(crate) fn in_range(op: &Operation, tags: u32) -> bool
 
 // How many records the commands of an operation make.
 pub(crate) fn objects_in(op: &Operation) -> u64
-    ensures few { result ≤ 1 }
-    ensures made { MakeObjects widths.Eight result (commands_of (op.now ∷ [])) }
+    ensures { result ≡ objects_by op.now }
 {
     match op {
         Operation::Write { .. } => 1,

@@ -1,4 +1,4 @@
-use Rattle.std.proofs.Common.{rules, ◌≡◌, ◌<◌, ◌≤◌, List, [], ◌∷◌, length, subst, sym, ap, ◌∙◌}
+use Rattle.std.proofs.Common.{rules, ℕ, ◌≡◌, ◌<◌, ◌≤◌, List, [], ◌∷◌, length, subst, sym, ap, ◌∙◌}
 use Rattle.std.specs.List.{AllByRecursion}
 use Rattle.block_store.specs.declared.Config.{Config}
 use Rattle.block_store.specs.declared.Width.{Width}
@@ -8,15 +8,21 @@ use Rattle.never_heap.specs.declared.Command.{Command}
 use Rattle.shared_heap.specs.Workers.{WorkerState}
 use Rattle.live_rows.specs.Life.{HasRoomFor, HasRun, MakeObjects}
 use Rattle.live_rows.proofs.Lawful.{some_commands}
-use Rattle.live_handles.specs.Live.{HandleWorkerState, HasDone, HasSmallId, IsInRange, IsMade, answer_by, commands_of, deed_of, handle_worker, handles, slots_of}
+use Rattle.live_handles.specs.Kept.{HasSmallId}
+use Rattle.live_handles.specs.Live.{HandleWorkerState, HasDone, IsInRange, IsMade, answer_by, commands_of, deed_of, handle_worker, handles, slots_of}
 use Rattle.live_handles.proofs.Decoded.{law}
 use Rattle.live_handles.proofs.Doing.{deed_done, fits, keeps_on}
+use Rattle.live_handles.proofs.Filled.{few_objects, made_of, names_of}
 use Rattle.live_handles.proofs.slots.done.Goals as goal
 
 pub has_life-requires-clause-some : goal.has_life-requires-clause-some
 has_life-requires-clause-some g c =
     subst (λ (ks : List Command). 0 < length ks) (sym c.requires.commands)
     (some_commands handles law _)
+
+pub has_life-requires-clause-objects : goal.has_life-requires-clause-objects
+has_life-requires-clause-objects g c =
+    subst (λ (n : ℕ). n ≤ 2) (sym c.objects_in.ensures) (few_objects c.args.request)
 
 pub has_life-requires-clause-make : goal.has_life-requires-clause-make
 has_life-requires-clause-make g c =
@@ -28,7 +34,8 @@ has_life-requires-clause-make g c =
     subst (λ (x : Width). MakeObjects x c.objects_in.result c.args.commands.now)
     (sym (ap (λ (k : Config). k.width) c.who.invariant.worker.heap))
     (subst (λ (ks : List Command). MakeObjects Eight c.objects_in.result ks) (sym is)
-    (c.objects_in.ensures.made w))
+    (subst (λ (n : ℕ). MakeObjects Eight n (commands_of (deed_of w c.args.request ∷ [])))
+    (sym c.objects_in.ensures) (made_of w c.args.request)))
 
 pub run-requires-clause-bounds : goal.run-requires-clause-bounds
 run-requires-clause-bounds g c =
@@ -52,6 +59,9 @@ run-requires-clause-bounds g c =
     subst (λ (ks : List Command). AllByRecursion (IsCommandInBounds old.thread.config) ks) (sym is)
     (fits old c.who.inside.made c.who.inside.slots c.who.invariant c.args.request range can c.args.rows.now.config same
     c.has_life.ensures.config.shared small)
+
+pub slots_next-requires : goal.slots_next-requires
+slots_next-requires g c = names_of _ c.args.request c.requires.checked.0
 
 pub invariant_of-who : goal.invariant_of-who
 invariant_of-who g c =

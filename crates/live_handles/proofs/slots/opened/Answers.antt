@@ -4,7 +4,8 @@ use Rattle.shared_heap.specs.Workers as heaps
 use Rattle.shared_heap.specs.Workers.{CanOpen}
 use Rattle.live_rows.proofs.Opening.{all_fresh, all_of, in_order, row_of}
 use Rattle.live_handles.specs.Decoding.{deeds_of}
-use Rattle.live_handles.specs.Live.{AreFresh, AreInOrder, IsNew, opened_config, handles}
+use Rattle.live_handles.specs.Kept.{IsNew}
+use Rattle.live_handles.specs.Live.{AreFresh, AreInOrder, opened_config, handles}
 use Rattle.live_handles.proofs.Crews.{in_order_each}
 use Rattle.live_handles.proofs.Decoded.{law}
 use Rattle.live_handles.proofs.slots.opened.Goals as goal

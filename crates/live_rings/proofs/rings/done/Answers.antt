@@ -1,4 +1,4 @@
-use Rattle.std.proofs.Common.{rules, ◌≡◌, ◌<◌, ◌≤◌, List, [], ◌∷◌, length, subst, sym, ap, ◌∙◌}
+use Rattle.std.proofs.Common.{rules, ℕ, ◌≡◌, ◌<◌, ◌≤◌, List, [], ◌∷◌, length, subst, sym, ap, ◌∙◌}
 use Rattle.std.specs.List.{AllByRecursion}
 use Rattle.block_store.specs.declared.Config.{Config}
 use Rattle.block_store.specs.declared.Width.{Width}
@@ -10,13 +10,17 @@ use Rattle.live_rows.specs.Life.{HasRoomFor, HasRun, MakeObjects}
 use Rattle.live_rows.proofs.Lawful.{some_commands}
 use Rattle.live_rings.specs.Live.{RingWorkerState, HasDone, IsInRange, answer_by, commands_of, operation_of, ring_worker, rings, threads_of}
 use Rattle.live_rings.proofs.Decoded.{law}
-use Rattle.live_rings.proofs.Doing.{fits, knows_on, request_done}
+use Rattle.live_rings.proofs.Doing.{few_objects, fits, knows_on, made_of, request_done}
 use Rattle.live_rings.proofs.rings.done.Goals as goal
 
 pub has_life-requires-clause-some : goal.has_life-requires-clause-some
 has_life-requires-clause-some g c =
     subst (λ (ks : List Command). 0 < length ks) (sym c.requires.commands)
     (some_commands rings law _)
+
+pub has_life-requires-clause-objects : goal.has_life-requires-clause-objects
+has_life-requires-clause-objects g c =
+    subst (λ (n : ℕ). n ≤ 2) (sym c.objects_in.ensures) (few_objects c.args.request)
 
 pub has_life-requires-clause-make : goal.has_life-requires-clause-make
 has_life-requires-clause-make g c =
@@ -28,7 +32,8 @@ has_life-requires-clause-make g c =
     subst (λ (x : Width). MakeObjects x c.objects_in.result c.args.commands.now)
     (sym (ap (λ (k : Config). k.width) c.who.invariant.worker.heap))
     (subst (λ (ks : List Command). MakeObjects Eight c.objects_in.result ks) (sym is)
-    (c.objects_in.ensures.made w))
+    (subst (λ (n : ℕ). MakeObjects Eight n (commands_of (operation_of w c.args.request ∷ [])))
+    (sym c.objects_in.ensures) (made_of w c.args.request)))
 
 pub run-requires-clause-bounds : goal.run-requires-clause-bounds
 run-requires-clause-bounds g c =

@@ -1,4 +1,4 @@
-use Rattle.std.proofs.Common.{rules, ◌≡◌, ◌<◌, ◌≤◌, List, [], ◌∷◌, length, subst, sym, ap}
+use Rattle.std.proofs.Common.{rules, ℕ, ◌≡◌, ◌<◌, ◌≤◌, List, [], ◌∷◌, length, subst, sym, ap}
 use Rattle.std.specs.List.{AllByRecursion}
 use Rattle.block_store.specs.declared.Config.{Config}
 use Rattle.block_store.specs.declared.Width.{Width}
@@ -11,7 +11,7 @@ use Rattle.live_rows.specs.Life.{HasRun, MakeObjects}
 use Rattle.live_rows.proofs.Lawful.{some_commands}
 use Rattle.live_tags.specs.Live.{HasDone, TagWorkerState, commands_of, tag_worker, tags}
 use Rattle.live_tags.proofs.Decoded.{law}
-use Rattle.live_tags.proofs.Doing.{fits, still_tags, tag_done}
+use Rattle.live_tags.proofs.Doing.{few_objects, fits, made_of, still_tags, tag_done}
 use Rattle.live_tags.proofs.table.done.Goals as goal
 
 pub has_life-requires-clause-some : goal.has_life-requires-clause-some
@@ -19,12 +19,17 @@ has_life-requires-clause-some g c =
     subst (λ (ks : List Command). 0 < length ks) (sym c.requires.commands)
     (some_commands tags law c.args.op)
 
+pub has_life-requires-clause-objects : goal.has_life-requires-clause-objects
+has_life-requires-clause-objects g c =
+    subst (λ (n : ℕ). n ≤ 2) (sym c.objects_in.ensures) (few_objects c.args.op)
+
 pub has_life-requires-clause-make : goal.has_life-requires-clause-make
 has_life-requires-clause-make g c =
     subst (λ (x : Width). MakeObjects x c.objects_in.result c.args.commands.now)
     (sym (ap (λ (k : Config). k.width) c.who.invariant.heap))
     (subst (λ (ks : List Command). MakeObjects Eight c.objects_in.result ks) (sym c.requires.commands)
-    c.objects_in.ensures.made)
+    (subst (λ (n : ℕ). MakeObjects Eight n (commands_of (c.args.op ∷ []))) (sym c.objects_in.ensures)
+    (made_of c.args.op)))
 
 pub run-requires-clause-bounds : goal.run-requires-clause-bounds
 run-requires-clause-bounds g c =
