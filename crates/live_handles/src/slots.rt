@@ -1,6 +1,7 @@
 //! Slots for handles: how they are opened, used and closed.
 
 ghost use Rattle.std.specs.Prelude.{◌≡◌, ◌∷◌, [], ◌↔◌, IsTrue, IfOk, IfErr, OnOk, OnErr, IfSome};
+ghost use Rattle.shared_heap.specs.Workers as heaps;
 ghost use Rattle.shared_heap.specs.Workers.{CanOpen};
 ghost use Rattle.handle_table.specs.Handles.{Matched, Found};
 ghost use Rattle.live_handles.specs.declared.request.Request.TheVariants as asks;
@@ -16,6 +17,7 @@ use array_trees::blocks_of_array;
 use block_store::{Config, Width};
 use live_rows::{RowHeap, wrapped};
 use never_heap::{Command, Reply};
+use shared_heap::Worker;
 use std::alloc::Global;
 use std::marker::Model;
 use std::sync::Wait;
@@ -88,8 +90,10 @@ fn done<R: Wait>(
         return Err(Refused::NoLifeLeft);
     }
     let replies = rows.run(rt, &mut who.worker, commands);
-    who.made = made_next(who.made, &request);
-    who.slots = slots_next(who.slots, &request);
+    let made = made_next(who.made, &request);
+    let slots = slots_next(who.slots, &request);
+    who.made = made;
+    who.slots = slots;
     Ok(replies)
 }
 
@@ -109,6 +113,24 @@ fn config_of(slots: u32, threads: u32) -> Config
     }
 }
 
+// The heap of slots in range can be opened.
+fn can_be_opened(slots: u32, threads: u32)
+    requires { IsTableInRange slots threads }
+    ensures { CanOpen (opened_config threads slots) }
+{}
+
+// Opens the heap of slots, with its workers. `None` if an allocation failed.
+fn opened_heap(alloc: Global, slots: u32, threads: u32) -> Option<(RowHeap, Vec<Worker>)>
+    requires { IsTableInRange slots threads }
+    ensures can { CanOpen (opened_config threads slots) }
+    ensures config { IfSome result (λ r. r.0.config ≡ opened_config threads slots) }
+    ensures workers { IfSome result (λ r. heaps.AreInOrder r.0 r.1.items) }
+    ensures fresh { IfSome result (λ r. heaps.AreFresh (opened_config threads slots) r.1.items) }
+{
+    can_be_opened(slots, threads);
+    RowHeap::open(alloc, config_of(slots, threads))
+}
+
 // Opens slots, with their workers. `None` if an allocation failed.
 fn opened(alloc: Global, slots: u32, threads: u32) -> Option<(LiveHandles, Vec<HandleWorker>)>
     requires { IsTableInRange slots threads }
@@ -118,7 +140,7 @@ fn opened(alloc: Global, slots: u32, threads: u32) -> Option<(LiveHandles, Vec<H
     ensures each { IfSome result (λ r. AreEachOnce r.0 r.1.items) }
     ensures fresh { IfSome result (λ r. AreFresh r.1.items) }
 {
-    let (rows, workers) = RowHeap::open(alloc, config_of(slots, threads))?;
+    let (rows, workers) = opened_heap(alloc, slots, threads)?;
     let crew = wrapped(alloc, workers)?;
     Some((LiveHandles { rows }, crew))
 }

@@ -1,6 +1,7 @@
 //! Rings of numbers: how they are opened, used and closed.
 
 ghost use Rattle.std.specs.Prelude.{◌≡◌, ◌∷◌, [], None, IfOk, IfErr, OnOk, OnErr, IfSome};
+ghost use Rattle.shared_heap.specs.Workers as heaps;
 ghost use Rattle.shared_heap.specs.Workers.{CanOpen};
 ghost use Rattle.number_rings.specs.Rings.{ring_config};
 ghost use Rattle.live_rings.specs.declared.request.Request.TheVariants as asks;
@@ -14,6 +15,7 @@ use crate::worker::RingWorker;
 use live_rows::{RowHeap, wrapped};
 use never_heap::{Command, Reply};
 use number_rings::config_of_rings;
+use shared_heap::Worker;
 use std::alloc::Global;
 use std::marker::Model;
 use std::sync::Wait;
@@ -69,9 +71,28 @@ fn done<R: Wait>(
     if !rows.has_life(&who.worker, objects_in(&request), commands) {
         return Err(Refused::NoLifeLeft);
     }
-    let (_, _, last) = rows.run(rt, &mut who.worker, commands);
-    who.kept = kept_next(who.kept, &request);
-    Ok(last)
+    let replies = rows.run(rt, &mut who.worker, commands);
+    let kept = kept_next(who.kept, &request);
+    who.kept = kept;
+    Ok(replies.2)
+}
+
+// The heap of rings in range can be opened.
+fn can_be_opened(threads: u32)
+    requires { AreRingsInRange threads }
+    ensures { CanOpen (ring_config threads) }
+{}
+
+// Opens the heap of rings, with its workers. `None` if an allocation failed.
+fn opened_heap(alloc: Global, threads: u32) -> Option<(RowHeap, Vec<Worker>)>
+    requires { AreRingsInRange threads }
+    ensures can { CanOpen (ring_config threads) }
+    ensures config { IfSome result (λ r. r.0.config ≡ ring_config threads) }
+    ensures workers { IfSome result (λ r. heaps.AreInOrder r.0 r.1.items) }
+    ensures fresh { IfSome result (λ r. heaps.AreFresh (ring_config threads) r.1.items) }
+{
+    can_be_opened(threads);
+    RowHeap::open(alloc, config_of_rings(threads))
 }
 
 // Opens rings, with their workers. `None` if an allocation failed.
@@ -83,7 +104,7 @@ fn opened(alloc: Global, threads: u32) -> Option<(LiveRings, Vec<RingWorker>)>
     ensures each { IfSome result (λ r. AreEachOnce r.0 r.1.items) }
     ensures fresh { IfSome result (λ r. AreFresh r.1.items) }
 {
-    let (rows, workers) = RowHeap::open(alloc, config_of_rings(threads))?;
+    let (rows, workers) = opened_heap(alloc, threads)?;
     let crew = wrapped(alloc, workers)?;
     Some((LiveRings { rows }, crew))
 }

@@ -1,6 +1,7 @@
 //! A table of tags: how it is opened, used and closed.
 
 ghost use Rattle.std.specs.Prelude.{◌≡◌, ◌∷◌, [], IfOk, IfErr, OnOk, OnErr, IfSome};
+ghost use Rattle.shared_heap.specs.Workers as heaps;
 ghost use Rattle.shared_heap.specs.Workers.{CanOpen};
 ghost use Rattle.live_tags.specs.Live.{AreInOrder, AreFresh, AreEachOnce, CanDo, HasDone, HasSeenAll, HaveOneTable, IsOf, IsOpenFault, IsRefused, IsSameWorker, IsTableInRange, commands_of, has_learned, opened_config};
 
@@ -11,6 +12,7 @@ use array_trees::blocks_of_array;
 use block_store::{Config, Width};
 use live_rows::{RowHeap, wrapped};
 use never_heap::Command;
+use shared_heap::Worker;
 use std::alloc::Global;
 use std::marker::Model;
 use std::sync::Wait;
@@ -74,8 +76,8 @@ fn done<R: Wait>(
     if !rows.has_life(&who.worker, objects_in(&op), commands) {
         return Err(Refused::NoLifeLeft);
     }
-    let (_, value, quality) = rows.run(rt, &mut who.worker, commands);
-    Ok(pair(value, quality))
+    let replies = rows.run(rt, &mut who.worker, commands);
+    Ok(pair(replies.1, replies.2))
 }
 
 // The configuration of a table's heap. It has four times as many blocks as may be live.
@@ -94,6 +96,24 @@ fn config_of(tags: u32, threads: u32) -> Config
     }
 }
 
+// The heap of a table in range can be opened.
+fn can_be_opened(tags: u32, threads: u32)
+    requires { IsTableInRange tags threads }
+    ensures { CanOpen (opened_config threads tags) }
+{}
+
+// Opens the heap of a table, with its workers. `None` if an allocation failed.
+fn opened_heap(alloc: Global, tags: u32, threads: u32) -> Option<(RowHeap, Vec<Worker>)>
+    requires { IsTableInRange tags threads }
+    ensures can { CanOpen (opened_config threads tags) }
+    ensures config { IfSome result (λ r. r.0.config ≡ opened_config threads tags) }
+    ensures workers { IfSome result (λ r. heaps.AreInOrder r.0 r.1.items) }
+    ensures fresh { IfSome result (λ r. heaps.AreFresh (opened_config threads tags) r.1.items) }
+{
+    can_be_opened(tags, threads);
+    RowHeap::open(alloc, config_of(tags, threads))
+}
+
 // Opens a table, with its workers. `None` if an allocation failed.
 fn opened(alloc: Global, tags: u32, threads: u32) -> Option<(LiveTags, Vec<TagWorker>)>
     requires { IsTableInRange tags threads }
@@ -103,7 +123,7 @@ fn opened(alloc: Global, tags: u32, threads: u32) -> Option<(LiveTags, Vec<TagWo
     ensures each { IfSome result (λ r. AreEachOnce r.0 r.1.items) }
     ensures fresh { IfSome result (λ r. AreFresh r.1.items) }
 {
-    let (rows, workers) = RowHeap::open(alloc, config_of(tags, threads))?;
+    let (rows, workers) = opened_heap(alloc, tags, threads)?;
     let crew = wrapped(alloc, workers)?;
     Some((LiveTags { rows }, crew))
 }

@@ -37,8 +37,8 @@ has_life-requires-clause-make g c =
     (subst (λ (n : ℕ). MakeObjects Eight n (commands_of (deed_of w c.args.request ∷ [])))
     (sym c.objects_in.ensures) (made_of w c.args.request)))
 
-pub run-requires-clause-bounds : goal.run-requires-clause-bounds
-run-requires-clause-bounds g c =
+pub run-replies-requires-clause-bounds : goal.run-replies-requires-clause-bounds
+run-replies-requires-clause-bounds g c =
     let old : WorkerState = c.who.inside.worker in
     let w : HandleWorkerState = handle_worker old in
     let is : c.args.commands.now ≡ commands_of (deed_of w c.args.request ∷ []) =
@@ -60,8 +60,8 @@ run-requires-clause-bounds g c =
     (fits old c.who.inside.made c.who.inside.slots c.who.invariant c.args.request range can c.args.rows.now.config same
     c.has_life.ensures.config.shared small)
 
-pub slots_next-requires : goal.slots_next-requires
-slots_next-requires g c = names_of _ c.args.request c.requires.checked.0
+pub slots_next-slots-requires : goal.slots_next-slots-requires
+slots_next-slots-requires g c = names_of _ c.args.request c.requires.checked.0
 
 pub invariant_of-who : goal.invariant_of-who
 invariant_of-who g c =
@@ -84,8 +84,8 @@ invariant_of-who g c =
     let room : HasRoomFor old.thread (commands_of (deed_of w c.args.request ∷ [])) =
     subst (λ (ks : List Command). HasRoomFor old.thread ks) is room_now in
     keeps_on old c.who.inside.made c.who.inside.slots c.who.invariant c.args.request range can new
-    c.run-replies.result run room c.made_next.result c.made_next.ensures c.slots_next.result
-    c.slots_next.ensures
+    c.run-replies.result run room c.made_next-made.result c.made_next-made.ensures c.slots_next-slots.result
+    c.slots_next-slots.ensures
 
 pub returns-clause-did : goal.returns-clause-did
 returns-clause-did g c =

@@ -15,8 +15,7 @@ wrapped-requires c =
     let config : Config = opened_config c.args.threads c.args.slots in
     all_of IsNew config c.in_ok-rows.workers.items
     (λ w f. (row_of handles law config w refl f, ap (deeds_of w.thread.thread) f.asked))
-    (subst (λ (k : Config). heaps.AreFresh k c.in_ok-rows.workers.items) c.config_of.ensures
-    c.in_ok-rows.ensures.fresh)
+    c.in_ok-rows.ensures.fresh
 
 pub returns-clause-workers : goal.returns-clause-workers
 returns-clause-workers c =
@@ -34,4 +33,4 @@ returns-clause-each c =
 pub returns-clause-fresh : goal.returns-clause-fresh
 returns-clause-fresh c =
     subst (λ ws. AreFresh ws) (sym c.in_ok-crew.ensures)
-    (all_fresh handles law c.config_of.result c.in_ok-rows.workers.items c.in_ok-rows.ensures.fresh)
+    (all_fresh handles law (opened_config c.args.threads c.args.slots) c.in_ok-rows.workers.items c.in_ok-rows.ensures.fresh)

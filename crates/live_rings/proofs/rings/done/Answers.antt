@@ -35,8 +35,8 @@ has_life-requires-clause-make g c =
     (subst (λ (n : ℕ). MakeObjects Eight n (commands_of (operation_of w c.args.request ∷ [])))
     (sym c.objects_in.ensures) (made_of w c.args.request)))
 
-pub run-requires-clause-bounds : goal.run-requires-clause-bounds
-run-requires-clause-bounds g c =
+pub run-replies-requires-clause-bounds : goal.run-replies-requires-clause-bounds
+run-replies-requires-clause-bounds g c =
     let old : WorkerState = c.who.inside.worker in
     let w : RingWorkerState = ring_worker old in
     let is : c.args.commands.now ≡ commands_of (operation_of w c.args.request ∷ []) =
@@ -56,38 +56,38 @@ pub invariant_of-who : goal.invariant_of-who
 invariant_of-who g c =
     let old : WorkerState = c.who.inside.worker in
     let w : RingWorkerState = ring_worker old in
-    let new : WorkerState = c.run.new.who in
+    let new : WorkerState = c.run-replies.new.who in
     let is : c.args.commands.now ≡ commands_of (operation_of w c.args.request ∷ []) =
     subst (λ (v : RingWorkerState). c.args.commands.now ≡ commands_of (operation_of v c.args.request ∷ []))
     (sym c.who.view_is) c.requires.commands in
-    let run : HasRun old (commands_of (operation_of w c.args.request ∷ [])) c.run.result new =
-    subst (λ (ks : List Command). HasRun old ks c.run.result new) is
-    c.run.ensures.run in
+    let run : HasRun old (commands_of (operation_of w c.args.request ∷ [])) c.run-replies.result new =
+    subst (λ (ks : List Command). HasRun old ks c.run-replies.result new) is
+    c.run-replies.ensures.run in
     let range : IsInRange (threads_of w) c.args.request =
     subst (λ (v : RingWorkerState). IsInRange (threads_of v) c.args.request) (sym c.who.view_is)
     c.requires.checked in
     let room_now : HasRoomFor old.thread c.args.commands.now = search rules in
     let room : HasRoomFor old.thread (commands_of (operation_of w c.args.request ∷ [])) =
     subst (λ (ks : List Command). HasRoomFor old.thread ks) is room_now in
-    knows_on old c.who.inside.kept c.who.invariant c.args.request range new c.run.result run room
-    c.kept_next.result c.kept_next.ensures
+    knows_on old c.who.inside.kept c.who.invariant c.args.request range new c.run-replies.result run room
+    c.kept_next-kept.result c.kept_next-kept.ensures
 
 pub returns-clause-did : goal.returns-clause-did
 returns-clause-did g c =
     let old : WorkerState = c.who.inside.worker in
     let w : RingWorkerState = ring_worker old in
-    let new : WorkerState = c.run.new.who in
+    let new : WorkerState = c.run-replies.new.who in
     let is : c.args.commands.now ≡ commands_of (operation_of w c.args.request ∷ []) =
     subst (λ (v : RingWorkerState). c.args.commands.now ≡ commands_of (operation_of v c.args.request ∷ []))
     (sym c.who.view_is) c.requires.commands in
-    let run : HasRun old (commands_of (operation_of w c.args.request ∷ [])) c.run.result new =
-    subst (λ (ks : List Command). HasRun old ks c.run.result new) is
-    c.run.ensures.run in
+    let run : HasRun old (commands_of (operation_of w c.args.request ∷ [])) c.run-replies.result new =
+    subst (λ (ks : List Command). HasRun old ks c.run-replies.result new) is
+    c.run-replies.ensures.run in
     let range : IsInRange (threads_of w) c.args.request =
     subst (λ (v : RingWorkerState). IsInRange (threads_of v) c.args.request) (sym c.who.view_is)
     c.requires.checked in
     subst (λ (v : RingWorkerState). HasDone v (operation_of v c.args.request)
-    (answer_by c.args.request c.run.result.2) (ring_worker new)) c.who.view_is
-    (request_done old c.who.inside.kept c.who.invariant c.args.request range new c.run.result run c.has_life.ensures.sound
-    (c.run.ensures.begun (subst (λ (ks : List Command). 0 < length ks)
+    (answer_by c.args.request c.run-replies.result.2) (ring_worker new)) c.who.view_is
+    (request_done old c.who.inside.kept c.who.invariant c.args.request range new c.run-replies.result run c.has_life.ensures.sound
+    (c.run-replies.ensures.begun (subst (λ (ks : List Command). 0 < length ks)
     (sym c.requires.commands) (some_commands rings law _))))

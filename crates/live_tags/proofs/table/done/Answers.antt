@@ -31,8 +31,8 @@ has_life-requires-clause-make g c =
     (subst (λ (n : ℕ). MakeObjects Eight n (commands_of (c.args.op ∷ []))) (sym c.objects_in.ensures)
     (made_of c.args.op)))
 
-pub run-requires-clause-bounds : goal.run-requires-clause-bounds
-run-requires-clause-bounds g c =
+pub run-replies-requires-clause-bounds : goal.run-replies-requires-clause-bounds
+run-replies-requires-clause-bounds g c =
     let old : WorkerState = c.who.inside.worker in
     let same : old.thread.config ≡ c.args.rows.now.config =
     subst (λ (v : TagWorkerState). v.worker.thread.config ≡ c.args.rows.now.config) (sym c.who.view_is)
@@ -46,23 +46,23 @@ run-requires-clause-bounds g c =
 pub invariant_of-who : goal.invariant_of-who
 invariant_of-who g c =
     let old : WorkerState = c.who.inside.worker in
-    let new : WorkerState = c.run.new.who in
-    let run : HasRun old (commands_of (c.args.op ∷ [])) c.run.result new =
-    subst (λ (ks : List Command). HasRun old ks c.run.result new) c.requires.commands
-    c.run.ensures.run in
+    let new : WorkerState = c.run-replies.new.who in
+    let run : HasRun old (commands_of (c.args.op ∷ [])) c.run-replies.result new =
+    subst (λ (ks : List Command). HasRun old ks c.run-replies.result new) c.requires.commands
+    c.run-replies.ensures.run in
     let range : IsOperationInRange old.thread.config.shared c.args.op = search rules in
-    still_tags old new c.args.op c.run.result c.who.invariant range run
+    still_tags old new c.args.op c.run-replies.result c.who.invariant range run
 
 pub returns-clause-did : goal.returns-clause-did
 returns-clause-did g c =
     let old : WorkerState = c.who.inside.worker in
-    let new : WorkerState = c.run.new.who in
-    let run : HasRun old (commands_of (c.args.op ∷ [])) c.run.result new =
-    subst (λ (ks : List Command). HasRun old ks c.run.result new) c.requires.commands
-    c.run.ensures.run in
+    let new : WorkerState = c.run-replies.new.who in
+    let run : HasRun old (commands_of (c.args.op ∷ [])) c.run-replies.result new =
+    subst (λ (ks : List Command). HasRun old ks c.run-replies.result new) c.requires.commands
+    c.run-replies.ensures.run in
     let range : IsOperationInRange old.thread.config.shared c.args.op = search rules in
     subst (λ (w : TagWorkerState). HasDone w c.args.op c.pair.result (tag_worker new)) c.who.view_is
-    (tag_done old new c.args.op c.run.result c.who.invariant range run c.pair.result
+    (tag_done old new c.args.op c.run-replies.result c.who.invariant range run c.pair.result
     c.pair.ensures c.has_life.ensures.sound
-    (c.run.ensures.begun (subst (λ (ks : List Command). 0 < length ks)
+    (c.run-replies.ensures.begun (subst (λ (ks : List Command). 0 < length ks)
     (sym c.requires.commands) (some_commands tags law c.args.op))))

@@ -11,8 +11,7 @@ pub wrapped-requires : goal.wrapped-requires
 wrapped-requires c =
     let config : Config = opened_config c.args.threads c.args.tags in
     all_of IsTagWorker config c.in_ok-rows.workers.items (λ w f. row_of tags law config w refl f)
-    (subst (λ (k : Config). heaps.AreFresh k c.in_ok-rows.workers.items) c.config_of.ensures
-    c.in_ok-rows.ensures.fresh)
+    c.in_ok-rows.ensures.fresh
 
 pub returns-clause-workers : goal.returns-clause-workers
 returns-clause-workers c =
@@ -30,4 +29,4 @@ returns-clause-each c =
 pub returns-clause-fresh : goal.returns-clause-fresh
 returns-clause-fresh c =
     subst (λ ws. AreFresh ws) (sym c.in_ok-crew.ensures)
-    (all_fresh tags law c.config_of.result c.in_ok-rows.workers.items c.in_ok-rows.ensures.fresh)
+    (all_fresh tags law (opened_config c.args.threads c.args.tags) c.in_ok-rows.workers.items c.in_ok-rows.ensures.fresh)
