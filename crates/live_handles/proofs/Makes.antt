@@ -68,7 +68,7 @@ known_made slots n g i slot last low known h k e = elim (cases_eq g h) [
   | inl y ↦ (
     subst (λ b. 0 < cond b (n + 1) (last h)) (sym (eq-eqb g h y)) (omega arith),
     (let same : i ≡ k = ap or_zero (sym (ap (λ b. cond b (Some i) (slot h)) (eq-eqb g h y)) ∙ e) in
-    omega (arith, same, low)),
+        omega (arith, same, low)),
   )
   | inr ne ↦
       let old = known h k (sym (ap (λ b. cond b (Some i) (slot h)) (ne_eqb g h ne)) ∙ e) in

@@ -8,7 +8,10 @@ ghost use Rattle.live_handles.specs.declared.request.Request.TheVariants as asks
 ghost use Rattle.live_handles.specs.Kept.{HasSmallId};
 ghost use Rattle.live_handles.specs.Live.{AreInOrder, AreFresh, AreEachOnce, CanDo, HasDone, HasSeenAll, HaveOneTable, IsInRange, IsMade, IsOf, IsOpenFault, IsRefused, IsSameWorker, IsTableInRange, answer_by, commands_of, deed_of, has_learned, opened_config, slots_of};
 
-use crate::commands::{evict_commands, found, id_of, in_range, is_known, is_yes, made_next, make_commands, objects_in, place, release_commands, see_commands, slots_next, take_commands};
+use crate::commands::{
+    evict_commands, found, id_of, in_range, is_known, is_yes, made_next, make_commands, objects_in,
+    place, release_commands, see_commands, slots_next, take_commands,
+};
 use crate::faults::{OpenFault, Refused};
 use crate::note::HandleNote;
 use crate::request::Request;

@@ -7,7 +7,9 @@ ghost use Rattle.number_rings.specs.Rings.{ring_config};
 ghost use Rattle.live_rings.specs.declared.request.Request.TheVariants as asks;
 ghost use Rattle.live_rings.specs.Live.{AreInOrder, AreFresh, AreEachOnce, AreRingsInRange, CanDo, HasDone, HasSeenAll, HaveOneOrder, IsInRange, IsOf, IsOpenFault, IsRefused, IsSameWorker, answer_by, commands_of, has_learned, operation_of, threads_of};
 
-use crate::commands::{in_range, keep_commands, kept_next, next_place, number, objects_in, recall_commands};
+use crate::commands::{
+    in_range, keep_commands, kept_next, next_place, number, objects_in, recall_commands,
+};
 use crate::faults::{OpenFault, Refused};
 use crate::note::RingNote;
 use crate::request::Request;
@@ -141,12 +143,7 @@ impl LiveRings {
     ///
     /// `OutOfRange` exactly if the number is 2^62 or more, and `NoLifeLeft` exactly if the request
     /// is in range and exceeds the worker's lifetime. The worker is then unchanged.
-    pub fn keep<R: Wait>(
-        &self,
-        rt: &R,
-        who: &mut RingWorker,
-        number: u64,
-    ) -> Result<(), Refused>
+    pub fn keep<R: Wait>(&self, rt: &R, who: &mut RingWorker, number: u64) -> Result<(), Refused>
         requires { IsOf self.now who.old }
         ensures same { IsSameWorker who.old who.new }
         ensures can { OnOk result (CanDo who.old (asks.Keep number)) }

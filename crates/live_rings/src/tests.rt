@@ -144,7 +144,10 @@ fn one_thread_keeps_eight(rt: HostRuntime) {
         assert_eq!(rt; rings.recall(&rt, &mut who, 0, 1), Ok(Some(51)));
         assert_eq!(rt; rings.recall(&rt, &mut who, 0, 8), Err(Refused::OutOfRange));
         assert_eq!(rt; rings.recall(&rt, &mut who, 1, 0), Err(Refused::OutOfRange));
-        assert_eq!(rt; rings.keep(&rt, &mut who, 1 << 62), Err(Refused::OutOfRange));
+        assert_eq!(rt;
+            rings.keep(&rt, &mut who, 1 << 62),
+            Err(Refused::OutOfRange)
+        );
         assert_eq!(rt; rings.recall(&rt, &mut who, 0, 1), Ok(Some(51)));
     }
 }
