@@ -77,7 +77,10 @@ module _ (old : WorkerState) (made : ℕ) (slots : List (Option ℕ)) (is : Keep
 
   -- the slot and the number of the last make of a handle that was made
   some_of : (o : Option ℕ) → IsTrue (is_known o) → (i : ℕ) × (o ≡ Some i)
-  some_of None made = absurd made
+  some_of None made = absurd (none_known made)
+    where
+      none_known : IsTrue (is_known None) → ⊥
+      none_known e = cc
   some_of (Some i) made = (i, refl)
 
   known : (h : ℕ) → IsTrue (is_known (known_slot w h))
