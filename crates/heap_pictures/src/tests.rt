@@ -1,12 +1,16 @@
 //! Drawn pictures, saved and read again, and bytes that are refused.
 
+ghost use Rattle.std.specs.Prelude.{◌<◌};
+
 use crate::{Item, Kind, Picture, ReadError, SaveFault, decode, encode};
 use block_store::{Name, Value};
 use std::process::Abort;
 use std::test::Fail;
 
 // The next drawn number.
-fn draw(state: &mut u64, below: u64) -> u64 {
+fn draw(state: &mut u64, below: u64) -> u64
+    requires { 0 < below }
+{
     *state = state
         .wrapping_mul(6364136223846793005)
         .wrapping_add(1442695040888963407);
@@ -17,11 +21,10 @@ fn drawn_value(state: &mut u64, count: u64) -> Value {
     match draw(state, 4) {
         0 => Value::Nil,
         1 => Value::Int(draw(state, 1000)),
-        _ if count > 0 => Value::Ref(Name {
+        _ => Value::Ref(Name {
             thread: 0,
-            serial: 1 + draw(state, count),
+            serial: draw(state, count.max(1)).saturating_add(1),
         }),
-        _ => Value::Nil,
     }
 }
 
@@ -34,7 +37,7 @@ fn drawn_values(rt: &HostRuntime, state: &mut u64, n: u64, count: u64) -> Result
 }
 
 fn drawn_picture(rt: &HostRuntime, state: &mut u64) -> Result<Picture, Fail> {
-    let count = draw(state, 9);
+    let count = draw(state, 9).saturating_add(1);
     let mut objects = Vec::new(rt.alloc());
     for _object in 0..count {
         let kind = if draw(state, 2) == 0 {
@@ -72,11 +75,32 @@ fn fault_of(rt: &HostRuntime, bytes: &[u8]) -> Option<SaveFault> {
     }
 }
 
+// The bytes with another byte in place i.
+fn changed(rt: &HostRuntime, bytes: &[u8], i: usize, change: u8) -> Result<Vec<u8>, Fail> {
+    let mut out = Vec::new(rt.alloc());
+    for (k, byte) in bytes.iter().enumerate() {
+        out.push(if k == i { *byte ^ change } else { *byte })?;
+    }
+    Ok(out)
+}
+
+// Whether a byte that was changed in place i has the fault of that place.
+fn is_right(fault: Option<SaveFault>, i: usize) -> bool {
+    match fault {
+        Some(SaveFault::NotASave) => i < 8,
+        Some(SaveFault::Version(_)) => 8 <= i && i < 16,
+        Some(SaveFault::Torn) => 16 <= i && i < 24,
+        Some(SaveFault::Checksum) => 24 <= i,
+        Some(SaveFault::Malformed) | None => false,
+    }
+}
+
 #[test]
 fn each_changed_byte_and_each_front_is_refused(rt: HostRuntime) -> Result<(), Fail> {
     let mut state = 7;
     let picture = drawn_picture(&rt, &mut state)?;
-    let mut bytes = encode(rt.alloc(), &picture)?;
+    let bytes = encode(rt.alloc(), &picture)?;
+    let bytes = bytes.as_slice();
     for i in 0..bytes.len() {
         let wanted = if i < 8 {
             SaveFault::NotASave
@@ -84,21 +108,9 @@ fn each_changed_byte_and_each_front_is_refused(rt: HostRuntime) -> Result<(), Fa
             SaveFault::Torn
         };
         assert_eq!(rt; fault_of(&rt, &bytes[..i]), Some(wanted));
-    }
-    for i in 0..bytes.len() {
         for change in [1, 16, 128, 255] {
-            let old = bytes[i];
-            bytes[i] = old ^ change;
-            let fault = fault_of(&rt, &bytes);
-            bytes[i] = old;
-            let right = match fault {
-                Some(SaveFault::NotASave) => i < 8,
-                Some(SaveFault::Version(_)) => 8 <= i && i < 16,
-                Some(SaveFault::Torn) => 16 <= i && i < 24,
-                Some(SaveFault::Checksum) => 24 <= i,
-                Some(SaveFault::Malformed) | None => false,
-            };
-            assert!(rt; right);
+            let other = changed(&rt, bytes, i, change)?;
+            assert!(rt; is_right(fault_of(&rt, &other), i));
         }
     }
     Ok(())
