@@ -1,0 +1,18 @@
+//! What the registers of a heap reach, as a plain value: its bytes, and the commands that build it.
+#![tactic(auto)]
+
+mod faults;
+mod laws;
+mod picture;
+mod plans;
+mod reading;
+#[cfg(test)]
+mod tests;
+mod writing;
+
+pub use faults::{ReadError, SaveFault};
+pub use laws::{names_follow_one_another, pictures_are_built};
+pub use picture::{Item, Kind, Picture};
+pub use plans::plan;
+pub use reading::decode;
+pub use writing::encode;
