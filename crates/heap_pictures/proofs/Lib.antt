@@ -6,3 +6,6 @@ pub mod Loop
 pub mod LoopsOf
 pub mod Planning
 pub mod Tested
+pub mod RenamedGraphs
+pub mod Following
+pub mod LiveUpToNames

@@ -4,3 +4,4 @@ pub mod Spelling
 pub mod Reading
 pub mod Plans
 pub mod Faults
+pub mod Following
