@@ -1,6 +1,8 @@
 //! Structures for programs on a `ControlHeap`: each shows a plain list of values.
 #![tactic(auto)]
 
+#[cfg(test)]
+mod alarm_tests;
 mod alarms;
 mod cells;
 mod laws;
