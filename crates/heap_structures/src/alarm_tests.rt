@@ -83,7 +83,8 @@ fn is_answered_alike(
 #[test]
 fn a_list_keeps_its_alarms_in_order(rt: HostRuntime) -> Result<(), Fail> {
     // The registers and the shared array take four blocks.
-    let mut heap = least_heap(&rt, 4 + blocks_of(Width::Eight, SIZE))?;
+    let live = blocks_of(Width::Eight, SIZE).saturating_add(4);
+    let mut heap = least_heap(&rt, live)?;
     let mut list = AlarmList::new(&mut heap, 1, 2, SIZE).ok().ok_or("list")?;
     let mut plain = Vec::new(rt.alloc());
     let mut state = 3;
