@@ -22,6 +22,9 @@ OTHERS = {
 }
 STREAMS = ["StdSource::new", "BufReader::new", "BufWriter::new", "StdSink::new", ".flush("]
 
+# What the mains of some programs share.
+SHARED_MAIN = TOP / "crates/program_main/src/lib.rt"
+
 
 # ---- the kept list of the kit
 
@@ -116,9 +119,9 @@ def code_lines(file):
     return sum(file.is_code(n) for n in range(len(file.text)))
 
 
-def program_row(crate):
+def program_row(crate, path):
     """A program: its main file, the calls that it makes of this repository, and its streams."""
-    file = rust_file(main_of(crate))
+    file = rust_file(path)
     calls = sorted(calls_of(file))
     streams = []
     for word in STREAMS:
@@ -186,8 +189,9 @@ program is linked with, and `docs/believed --kit LOG` compares it with the log o
 
 {axioms}
 
-**Programs.** A `main` has no contract. The kit proves that it is safe; what it passes to the call,
-and what it does with the answer, is read off its text.
+**Programs.** A `main` has no contract, nor has `run` of `program_main`, which some of them are. The
+kit proves that they are safe; what they pass to the call, and what they do with the answer, is read
+off their text.
 
 {programs}
 
@@ -218,7 +222,9 @@ def trusted():
         kit=kit, libraries=libraries, lemmas=lemmas_text(),
         axioms=table_text(["Programs", "Functions outside of Rattle"], axioms),
         programs=table_text(["Program", "Lines", "Streams and buffers, by lines", "Calls"],
-                            [program_row(name) for name in linked() if main_of(name).exists()]),
+                            [program_row(SHARED_MAIN.parts[-3], SHARED_MAIN),
+                             *(program_row(name, main_of(name)) for name in linked()
+                               if main_of(name).exists())]),
         streams=table_text(["Stream", "File", "Lines of the file"], stream_rows()),
         scripts=table_text(["File", "Lines", "Purpose"], script_rows()))
     return [line if line[:1] == "|" else wrapped(line) for line in joined(text)]

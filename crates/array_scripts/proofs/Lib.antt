@@ -5,6 +5,7 @@ pub mod Threads
 pub mod Ranges
 pub mod Apart
 pub mod Items
+pub mod EachThread
 pub mod AnswersInOrder
 pub mod WrittenAnswers
 pub mod CarriedOut

@@ -2,27 +2,20 @@
 use Rattle.std.proofs.Common.{ℕ, zero, suc, ◌<◌, List, [], ◌∷◌, ◌++◌, slice_index_or, arith}
 use Rattle.std.specs.List.{AllByRecursion}
 use Rattle.array_scripts.specs.declared.header.Header.{Header}
-use Rattle.array_scripts.specs.Kinds.{Tokens}
-use Rattle.array_scripts.proofs.Ranges.{FitBehind, few_ops, each_thread}
+use Rattle.array_scripts.specs.Kinds.{Tokens, FitBehind}
+use Rattle.array_scripts.proofs.Ranges.{few_ops, each_thread, fit_at}
 use Rattle.handle_table.specs.declared.operation.Operation.{Operation}
 use Rattle.handle_table.specs.declared.operation.Operation.TheVariants.{Make, See, Drop, Take, Evict}
 use Rattle.handle_table.specs.Handles.{AreInTurn, AreNamed, CanStand, handle_of, IsScriptInRange}
 use Rattle.rt_handles.specs.Lines.{handle_kind, IsHandleScript}
 
-each_stands : (h : Header) (before ops : List Operation) → FitBehind handle_kind h before ops
+pub each_stands : (h : Header) (before ops : List Operation) → FitBehind handle_kind h before ops
     → AreInTurn h.places before ops
 each_stands h before [] f = tt
 each_stands h before (op ∷ ops) f = (f.0.1, each_stands h (before ++ op ∷ []) ops f.1)
 
-each_in_range : (slots : ℕ) (scripts : List (List Operation))
-    → AllByRecursion (IsScriptInRange slots) scripts → (t : ℕ)
-    → IsScriptInRange slots (slice_index_or scripts t [])
-each_in_range slots [] a t = record { few = omega arith; each = tt }
-each_in_range slots (ops ∷ scripts) a zero = a.0
-each_in_range slots (ops ∷ scripts) a (suc t) = each_in_range slots scripts a.1 t
-
 -- each handle is one of eight
-named : (slots : ℕ) (before ops : List Operation) → AreInTurn slots before ops → AreNamed ops
+pub named : (slots : ℕ) (before ops : List Operation) → AreInTurn slots before ops → AreNamed ops
 named slots before [] a k d low = absurd (omega arith)
 named slots before (op ∷ ops) a zero d low = one op a.0
   where
@@ -35,11 +28,6 @@ named slots before (op ∷ ops) a zero d low = one op a.0
 named slots before (op ∷ ops) a (suc k) d low =
     named slots (before ++ op ∷ []) ops a.1 k d (omega (arith, low))
 
-pub all_named : (slots : ℕ) (scripts : List (List Operation))
-    → AllByRecursion (IsScriptInRange slots) scripts → AllByRecursion AreNamed scripts
-all_named slots [] a = tt
-all_named slots (ops ∷ scripts) a = (named slots [] ops a.0.each, all_named slots scripts a.1)
-
 module _ (lines : List Tokens) (h : Header) (scripts : List (List Operation))
     (is : IsHandleScript lines h scripts) where
   pub in_range : AllByRecursion (IsScriptInRange h.places) scripts
@@ -47,7 +35,6 @@ module _ (lines : List Tokens) (h : Header) (scripts : List (List Operation))
       (λ ops f. record { few = few_ops handle_kind h ops f; each = each_stands h [] ops f })
 
   pub each_range : (t : ℕ) → IsScriptInRange h.places (slice_index_or scripts t [])
-  each_range = each_in_range h.places scripts in_range
-
-  pub are_named : AllByRecursion AreNamed scripts
-  are_named = all_named h.places scripts in_range
+  each_range t =
+      let fit = fit_at handle_kind h lines scripts is t in
+      record { few = few_ops handle_kind h _ fit; each = each_stands h [] _ fit }

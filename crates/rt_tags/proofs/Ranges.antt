@@ -1,9 +1,9 @@
 -- What a script of tags holds: as many threads as its header says, and operations in their ranges.
-use Rattle.std.proofs.Common.{ℕ, zero, suc, List, [], ◌∷◌, ◌++◌, slice_index_or}
+use Rattle.std.proofs.Common.{ℕ, List, [], ◌∷◌, ◌++◌, slice_index_or}
 use Rattle.std.specs.List.{AllByRecursion}
 use Rattle.array_scripts.specs.declared.header.Header.{Header}
-use Rattle.array_scripts.specs.Kinds.{Tokens}
-use Rattle.array_scripts.proofs.Ranges.{FitBehind, few_ops, each_thread}
+use Rattle.array_scripts.specs.Kinds.{Tokens, FitBehind}
+use Rattle.array_scripts.proofs.Ranges.{few_ops, each_thread, fit_at}
 use Rattle.tag_table.specs.declared.operation.Operation.{Operation}
 use Rattle.tag_table.specs.declared.operation.Operation.TheVariants.{Write, Clear, Read}
 use Rattle.tag_table.specs.Tables.{AreInTable, IsOperationInRange, IsScriptInRange}
@@ -21,13 +21,6 @@ in_table tags (Write i v q ∷ ops) a = (a.0.0, in_table tags ops a.1)
 in_table tags (Clear i ∷ ops) a = (a.0, in_table tags ops a.1)
 in_table tags (Read i ∷ ops) a = (a.0, in_table tags ops a.1)
 
-each_in_table : (tags : ℕ) (scripts : List (List Operation))
-    → AllByRecursion (IsScriptInRange tags) scripts → (t : ℕ)
-    → AreInTable tags (slice_index_or scripts t [])
-each_in_table tags [] a t = tt
-each_in_table tags (ops ∷ scripts) a zero = in_table tags ops a.0.each
-each_in_table tags (ops ∷ scripts) a (suc t) = each_in_table tags scripts a.1 t
-
 module _ (lines : List Tokens) (h : Header) (scripts : List (List Operation))
     (is : IsTagScript lines h scripts) where
   pub in_range : AllByRecursion (IsScriptInRange h.places) scripts
@@ -37,4 +30,5 @@ module _ (lines : List Tokens) (h : Header) (scripts : List (List Operation))
   })
 
   pub places : (t : ℕ) → AreInTable h.places (slice_index_or scripts t [])
-  places = each_in_table h.places scripts in_range
+  places t =
+      in_table h.places _ (each_fits h [] _ (fit_at tag_kind h lines scripts is t))

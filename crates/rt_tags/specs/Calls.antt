@@ -37,11 +37,6 @@ pub record Headline (source sink : Sides) (status : ℕ) (run : ClosedState) : T
   pub text : IsWritten sink status
       (lines_from tag_text 0 (answers_from table.header.threads table.order))
 
--- a table was kept, and this is what its operations answered
-abbrev pub HasAnswers : Sides → ClosedState → List (List Tag) → Type 0
-HasAnswers source run told =
-    (table : HasTable source run) × (told ≡ answers_from table.header.threads table.order)
-
 -- a call did what it is to do, whatever it was given: a run that is shown kept the script's table
 abbrev pub IsCarriedOut : List (List ℕ) → Sides → Sides → TagExit → Type 0
 IsCarriedOut words source sink x =
