@@ -20,8 +20,11 @@ ghost use Rattle.control_heap.specs.Gauges.{live_or_made, most_operations};
 ghost use Rattle.control_heap.specs.Refusals.{IsOpenFault, IsRefused};
 
 mod reads;
+mod seen;
 mod shown;
 mod watch;
+
+pub use seen::Seen;
 
 use crate::Store;
 use crate::gauges::{allocation_operations, cycle_in, free_in, other_operations};

@@ -1,0 +1,4 @@
+pub mod Walking
+pub mod Pictured
+pub mod Copied
+pub mod Followed

@@ -1,0 +1,4 @@
+pub mod Walks
+pub mod Renewals
+pub mod Follows
+pub mod Faults
