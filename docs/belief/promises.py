@@ -79,6 +79,22 @@ an operation comes after all that its worker had learned of by notes.""",
              "live_tags::LiveTags::clear", "live_tags::LiveTags::read",
              "live_tags::LiveTags::note", "live_tags::LiveTags::learn",
              "live_tags::LiveTags::close", "live_tags::laws"]),
+    Promise("live_handles", "Handles in slots, as a library", """
+Every request is answered as on a plain list of slots, in one order. It keeps each worker's own
+order, and a request comes after all that its worker had learned of by notes.""",
+            ["live_handles::LiveHandles::open", "live_handles::LiveHandles::make",
+             "live_handles::LiveHandles::see", "live_handles::LiveHandles::release",
+             "live_handles::LiveHandles::take", "live_handles::LiveHandles::evict",
+             "live_handles::LiveHandles::note", "live_handles::LiveHandles::learn",
+             "live_handles::LiveHandles::close", "live_handles::laws"]),
+    Promise("live_rings", "Rings of numbers, as a library", """
+Every keep and every recall is answered as on a plain array of places, in one order. It keeps each
+worker's own order, each keep is at the next place of its thread's own ring, and an operation comes
+after all that its worker had learned of by notes.""",
+            ["live_rings::LiveRings::open", "live_rings::LiveRings::keep",
+             "live_rings::LiveRings::recall", "live_rings::LiveRings::note",
+             "live_rings::LiveRings::learn", "live_rings::LiveRings::close",
+             "live_rings::laws"]),
     Promise("from_c", "Calls from C", """
 Each command is answered as by `ControlHeap::ask`, with a number of its own for each status and each
 reply; a call with another status than 0 changes neither heap nor reply. What C owes in return is in

@@ -1,5 +1,5 @@
 -- What is read of registers and objects is what the graph has.
-use Rattle.std.proofs.Common.{◌≡◌, ℕ, zero, suc, ◌+◌, ◌<◌, ◌≤◌, Bool, true, false, Some, List, ◌∷◌, ◌++◌, [], length, take, refl, sym, ap, ◌∙◌, subst, arith}
+use Rattle.std.proofs.Common.{◌≡◌, ℕ, zero, suc, ◌+◌, ◌<◌, ◌≤◌, Bool, true, false, List, ◌∷◌, ◌++◌, [], length, take, refl, sym, ap, ◌∙◌, subst, arith}
 use Rattle.std.proofs.Math.Seq.{take-length, take-suc}
 use Rattle.block_store.specs.declared.Config.{Config}
 use Rattle.block_store.specs.declared.Name.{Name}
@@ -24,12 +24,12 @@ use Rattle.shown_graph.specs.Shown.{IsValueOf, Shows, heads}
 use Rattle.shown_graph.specs.Words.{block_words, part_word, value_word}
 use Rattle.shown_graph.proofs.ObjectLayouts.{object_layout}
 use Rattle.shown_graph.proofs.WordReads.{length_read, owner_read, register_read, value_read as word_read}
-use Rattle.barrier_steps.specs.Rows.{object_in, object_or_nil, shape_in, shape_or_empty}
+use Rattle.barrier_steps.specs.Rows.{object_or_nil, shape_in, shape_or_empty}
 use Rattle.barrier_steps.specs.Walks.{field_at, link_at, links_to, ordinal_at, shape_length}
 use Rattle.barrier_steps.proofs.Decisions.{kind_length}
 use Rattle.barrier_steps.proofs.FieldRows.{field_low, link_low, way_is}
 use Rattle.heap_system.specs.Locals.{is_rest, task}
-use Rattle.heap_system.specs.Machines.{Run, heap_in, local_in}
+use Rattle.heap_system.specs.Machines.{Run, local_in}
 use Rattle.heap_system.specs.Pictures.{tasks_in}
 use Rattle.heap_system.proofs.Kept.{Kept}
 use Rattle.heap_system.proofs.TurnFacts.{rest_is}
@@ -53,10 +53,10 @@ module _ (c : Config) (few : c.blocks ≤ 65535) (K : Name → Type 0) (g : Grap
       ∙ ap object_or_nil (owner_read c.width c.threads c.blocks K g at (block_words h) pending shows a 0 kept (object_layout c.width (object_of g a)).first)
 
   module _ (a : Name) (kept : K a) where
-    abbrev object : Object
+    abbrev pub object : Object
     object = object_of g a
 
-    abbrev shape : Shape
+    abbrev pub shape : Shape
     shape = kind_shape object.kind (length object.fields)
 
     -- the shape word of its first block
@@ -113,11 +113,13 @@ module _ (c : Config) (few : c.blocks ≤ 65535) (K : Name → Type 0) (g : Grap
           ∙ refers (ordinal_at (extent c) shape i (l + 1)) ordinals.1
           ∙ ap (λ m. at a (ordinal_at (extent c) shape i m)) more
 
+      pub field_word_is : field_read (extent c) h shape i (at a 0) ≡ value_word (heads at) (field_of object i)
+      field_word_is =
+          ap (λ x. h (PayloadOf x (field_at (extent c) shape i))) (walk_is steps (omega arith))
+          ∙ stands (ordinal_at (extent c) shape i steps) (field_at (extent c) shape i) (Field i) last (field_low c shape i) way.ends
+
       pub field_is : value_read h (field_read (extent c) h shape i (at a 0)) ≡ field_of object i
-      field_is =
-          ap (λ x. value_read h (h (PayloadOf x (field_at (extent c) shape i)))) (walk_is steps (omega arith))
-          ∙ ap (value_read h) (stands (ordinal_at (extent c) shape i steps) (field_at (extent c) shape i) (Field i) last (field_low c shape i) way.ends)
-          ∙ value_is (field_of object i) (shows.closed.fields a i kept)
+      field_is = ap (value_read h) field_word_is ∙ value_is (field_of object i) (shows.closed.fields a i kept)
 
     -- the first n fields
     some_are : (n : ℕ) → n ≤ length object.fields → fields_read (extent c) h shape (at a 0) n ≡ take n object.fields
@@ -158,20 +160,20 @@ abbrev pub register_at : {M : Type 0} → ControlOf M → ℕ → ℕ
 register_at h q = heap_of (extent h.config) h.words (PayloadOf (register_block h.config.width 0 q) (register_slot h.config.width q))
 
 module _ {M : Type 0} (s : ControlOf M) (r : Run) (st : Stands s r) where
-  abbrev heap : Heap
+  abbrev pub heap : Heap
   heap = heap_of (extent s.config) s.words
 
-  abbrev graph : Graph
+  abbrev pub graph : Graph
   graph = replay s.config r.order
 
   kept : Kept s.config st.run.after.traces r
   kept = kept_of s.config st.single r st.run.after
 
-  shows : Shows s.config.width s.config.threads s.config.blocks (λ a. r.names.kept a ≡ true) graph r.names.at (block_words heap) (pending_registers (λ t. (tasks_in s.config r.state t).loading))
+  pub shows : Shows s.config.width s.config.threads s.config.blocks (λ a. r.names.kept a ≡ true) graph r.names.at (block_words heap) (pending_registers (λ t. (tasks_in s.config r.state t).loading))
   shows = subst (λ ws. Shows s.config.width s.config.threads s.config.blocks (λ a. r.names.kept a ≡ true) graph r.names.at (block_words (heap_of (extent s.config) ws)) (pending_registers (λ t. (tasks_in s.config r.state t).loading)))
       st.words kept.names.follows.shows
 
-  few_blocks : s.config.blocks ≤ 65535
+  pub few_blocks : s.config.blocks ≤ 65535
   few_blocks = st.run.after.job.bounds.config.blocks
 
   prompt : (q : ℕ) → pending_registers (λ t. (tasks_in s.config r.state t).loading) 0 q ≡ false
@@ -179,7 +181,7 @@ module _ {M : Type 0} (s : ControlOf M) (r : Run) (st : Stands s r) where
       let rest : is_rest (local_in s.config r 0).part ≡ true = ap (λ l. is_rest l.part) st.thread ∙ rests s r st in
       ap (λ p. is_pending (task s.config p).loading.value q) (rest_is (local_in s.config r 0).part rest)
 
-  word_is : (q : ℕ) → q < REGISTERS → register_at s q ≡ value_word (heads r.names.at) (register_of graph 0 q)
+  pub word_is : (q : ℕ) → q < REGISTERS → register_at s q ≡ value_word (heads r.names.at) (register_of graph 0 q)
   word_is q ql = register_read s.config.width s.config.threads s.config.blocks _ graph r.names.at (block_words heap) _ shows 0 q (low s.config st.single) ql (prompt q)
 
   pub register_told : (q : ℕ) → q < REGISTERS → value_read heap (register_at s q) ≡ register_of graph 0 q
@@ -187,7 +189,7 @@ module _ {M : Type 0} (s : ControlOf M) (r : Run) (st : Stands s r) where
       ap (value_read heap) (word_is q ql)
       ∙ value_is s.config few_blocks _ graph r.names.at heap _ shows (register_of graph 0 q) (shows.closed.registers 0 q (low s.config st.single) ql)
 
-  kept_value : (q : ℕ) → q < REGISTERS → IsValueOf (λ a. r.names.kept a ≡ true) (register_of graph 0 q)
+  pub kept_value : (q : ℕ) → q < REGISTERS → IsValueOf (λ a. r.names.kept a ≡ true) (register_of graph 0 q)
   kept_value q ql = shows.closed.registers 0 q (low s.config st.single) ql
 
   pub none_told : (q : ℕ) → q < REGISTERS → block_read (register_at s q) ≡ 0 → HasNoObject graph q

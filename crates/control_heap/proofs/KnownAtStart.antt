@@ -1,6 +1,5 @@
 -- What was reachable at the last start is known since.
-use Rattle.std.proofs.Common.{◌≡◌, ℕ, ◌+◌, ◌≤◌, Bool, true, false, cond, ◌||◌, List, [], ◌∷◌, ◌++◌, append-nil, refl, sym, ap, ◌∙◌, subst, arith, inl, inr}
-use Rattle.std.proofs.lemmas.Bool.{cases_Bool}
+use Rattle.std.proofs.Common.{◌≡◌, ℕ, ◌≤◌, Bool, true, false, cond, ◌||◌, List, [], ◌∷◌, ◌++◌, append-nil, refl, sym, ap, ◌∙◌, subst, arith}
 use Rattle.block_store.specs.declared.Config.{Config}
 use Rattle.block_store.specs.declared.Name.{Name}
 use Rattle.block_store.specs.Heaps.{Heap}
@@ -16,7 +15,7 @@ use Rattle.cycle_tally.specs.InUse.{graph_then}
 use Rattle.build_steps.specs.Ends.{is_publishing}
 use Rattle.heap_system.specs.Parts.{Part, Rest, Enter, Serve, Mark, Sweep, Build, Again, Idle, TurnOver, Leave}
 use Rattle.heap_system.specs.Locals.{Effect, Verdict, Open, AsStep, Refused, command_of, effect}
-use Rattle.heap_system.specs.Machines.{Run, IsAfterTurns, IsJob, State, after_turns, entries_by, has_event, heap_in, items_by, local_at, next, next_effect, opened, starts_by, turned}
+use Rattle.heap_system.specs.Machines.{Run, IsAfterTurns, IsJob, after_turns, entries_by, has_event, heap_in, items_by, local_at, next, next_effect, opened, starts_by}
 use Rattle.heap_system.specs.Naming.{Naming, Same, Lost, Begun, Shaded, Made, renamed}
 use Rattle.heap_system.proofs.Always.{opening_kept, turn_kept}
 use Rattle.heap_system.proofs.Kept.{Kept}

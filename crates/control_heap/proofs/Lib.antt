@@ -16,3 +16,4 @@ pub mod WayBacks
 pub mod GrownJobs
 pub mod ServeLoop
 pub mod Counts
+pub mod SeenRead

@@ -6,3 +6,4 @@ pub mod Growth
 pub mod Readings
 pub mod Refusals
 pub mod WayBack
+pub mod Seen

@@ -20,6 +20,7 @@ ghost use Rattle.control_heap.specs.Gauges.{live_or_made, most_operations};
 ghost use Rattle.control_heap.specs.Refusals.{IsOpenFault, IsRefused};
 
 mod reads;
+mod seen;
 mod shown;
 mod watch;
 
@@ -30,6 +31,7 @@ use heap_machine::Words;
 use heap_system::{Local, opening};
 use never_heap::{Command, Reply};
 use rate_plan::{PlanFault, plan};
+pub use seen::Seen;
 use std::alloc::Global;
 use std::marker::Model;
 

@@ -16,7 +16,7 @@ use Rattle.handle_table.proofs.NumberedDeeds.{deeds_count, deeds_of_thread, all_
 use Rattle.handle_table.proofs.SlotRows.{nil_rests, goes, tells}
 use Rattle.handle_table.proofs.SlotTable.{kept, weights}
 
-whole : (op : Deed) (rows : List Row)
+pub whole : (op : Deed) (rows : List Row)
     → ops_in decides (rows_of op ++ rows) ≡ op ∷ ops_in decides rows
 whole (Make t j q i x) rows = refl
 whole (See t j q i) rows = refl
@@ -53,7 +53,7 @@ proper s t n last (Evict i ∷ ops) low =
     (tt, λ c. refl) ▸ (low.0, λ c. refl) ▸ (tt, λ c. refl) ▸ (tt, λ c. refl) ▸ (tt, at_first s ops)
     ▸ proper s t n last ops low.1
 
-slots_owe : (n slots blocks : ℕ) (scripts : List (List Deed)) → length scripts ≡ n
+pub slots_owe : (n slots blocks : ℕ) (scripts : List (List Deed)) → length scripts ≡ n
     → ((t : ℕ) → AreNumbered slots t 0 (λ h. 0) (slice_index_or scripts t []))
     → Owes (kept slots) (handle_config n slots blocks) rows_of scripts
 slots_owe n slots blocks scripts count numbered = record {

@@ -6,3 +6,12 @@ pub mod Answered
 pub mod Chained
 pub mod Opening
 pub mod Rounds
+pub mod Closing
+pub mod AlarmLists
+pub mod AlarmMoves
+pub mod AlarmCalls
+pub mod PairLists
+pub mod PairPlaces
+pub mod TableCalls
+pub mod TableChains
+pub mod MapCalls

@@ -1,7 +1,8 @@
 -- A heap seen as a graph: what a call takes of the heap's life, and what it leaves in its graph.
-use Rattle.std.specs.Prelude.{ℕ, ◌+◌, ◌≤◌, ◌≡◌, false, List}
+use Rattle.std.specs.Prelude.{ℕ, ◌+◌, ◌≤◌, ◌≡◌, false, MatchResult, Result, List, [], ◌∷◌, slice_index_or, slice_set}
 use Rattle.block_store.specs.declared.Name.{Name}
 use Rattle.block_store.specs.declared.Value.{Value}
+use Rattle.block_store.specs.declared.Value.TheVariants.{Nil}
 use Rattle.rate_plan.specs.Rates.{IsRate}
 use Rattle.never_heap.specs.declared.Command.{Command}
 use Rattle.never_heap.specs.Graphs.{Graph}
@@ -12,7 +13,7 @@ use Rattle.control_heap.specs.Controls.{Control, asked, units}
 use Rattle.control_heap.specs.declared.faults.Fault.{Fault}
 use Rattle.control_heap.specs.declared.faults.Fault.TheVariants as faults
 use Rattle.asked_graph.specs.Shown.{HasMetNoFull, Leaves, Shows}
-use Rattle.heap_structures.specs.Cells.{IsCells, Spares}
+use Rattle.heap_structures.specs.Cells.{IsCells, Spares, held}
 use Rattle.heap_structures.specs.declared.cells.Cells.{Cells}
 
 -- How well a heap's graph is known: whatever was answered `Full`; with two cycles that began with
@@ -67,3 +68,19 @@ abbrev pub Stops : ℕ → Type 0 → Control → Control → Fault → Type 0
 Stops n Bad h z faults.OutOfBounds = Bad × (z ≡ h)
 Stops n Bad h z faults.NoLifeLeft = ¬ HasRoom n h × (z ≡ h)
 Stops n Bad h z _ = ⊥
+
+-- A call does at most so many commands with this outcome, or it stops and nothing is changed.
+abbrev pub DoesOrStops : {T : Type 0} → Sight → ℕ → Control → Control → List ℕ → Cells → Graph
+    → (T → Graph → Type 0) → Type 0 → Type 0 → Result T Fault → Type 0
+DoesOrStops s n h z rs c g Q Bad Same x =
+    MatchResult x (λ v. Does s n h z rs c.array g (Q v)) (λ f. Stops n Bad h z f × Same)
+
+-- a value went by the spare register, and the array has these
+abbrev pub Fills : Sight → ℕ → Control → Control → Cells → Graph → List Value → Type 0
+Fills s n h z c g ws = Does s n h z (c.spare ∷ []) c.array g (λ k. IsCells k c ws)
+
+-- value i is in a register, and nil in the array
+abbrev pub Takes : Sight → Control → Control → Cells → Graph → List Value → ℕ → ℕ → Type 0
+Takes s h z c g vs i d =
+    Does s 3 h z (d ∷ c.spare ∷ []) c.array g
+    (λ k. IsCells k c (slice_set vs i Nil) × (held k d ≡ slice_index_or vs i Nil))

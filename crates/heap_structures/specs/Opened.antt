@@ -1,6 +1,8 @@
 -- A new array on a heap.
-use Rattle.std.specs.Prelude.{ℕ, ◌+◌, ◌*◌, ◌≤◌, ◌≡◌, ◌⊎◌, false, [], ◌∷◌}
+use Rattle.std.specs.Prelude.{ℕ, ◌+◌, ◌*◌, ◌≤◌, ◌≡◌, ◌⊎◌, false, [], ◌∷◌, replicate}
 use Rattle.block_store.specs.declared.Config.{Config}
+use Rattle.block_store.specs.declared.Name.{Name}
+use Rattle.block_store.specs.declared.Value.TheVariants.{Nil}
 use Rattle.rate_plan.specs.Rates.{IsRate}
 use Rattle.array_trees.specs.Trees.{array_blocks}
 use Rattle.never_heap.specs.declared.Command.TheVariants.{Arr}
@@ -11,7 +13,7 @@ use Rattle.control_heap.specs.Controls.{Control, HasLeft, asked, units}
 use Rattle.control_heap.specs.declared.faults.Fault.{Fault}
 use Rattle.control_heap.specs.declared.faults.Fault.TheVariants as faults
 use Rattle.heap_structures.specs.declared.cells.Cells.{Cells}
-use Rattle.heap_structures.specs.Cells.{Spares}
+use Rattle.heap_structures.specs.Cells.{IsCells, IsPlaced, Spares}
 use Rattle.heap_structures.specs.Heaps.{Any, Has, Sight}
 
 -- There is room for the blocks of n values. Where any `Full` may have been answered, nothing is
@@ -34,6 +36,12 @@ pub record Opens (s : Sight) (h z : Control) (c : Cells) (g : Graph) (Q : Graph 
   pub objects : z.objects ≡ h.objects + 1
   pub units : (rate : ℕ) → IsRate h.config rate
       → units z ≡ units h + rate * array_blocks h.config.width c.size
+
+-- the new array has this name and so many nils, whichever other register it is given
+abbrev pub OpensNils : Sight → Control → Control → Graph → ℕ → ℕ → Name → Type 0
+OpensNils s h z g base n a =
+    (c : Cells) → c.array ≡ a → c.base ≡ base → c.size ≡ n → IsPlaced c
+    → Opens s h z c g (λ k. IsCells k c (replicate n Nil))
 
 -- only where any `Full` may have been answered is one answered now, and the graph stays
 abbrev pub FullOf : Sight → Control → Graph → Type 0

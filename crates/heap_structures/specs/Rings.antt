@@ -1,5 +1,5 @@
 -- Rings and queues: the array that each has on the heap, and the values that it shows.
-use Rattle.std.specs.Prelude.{ℕ, ◌<◌, ◌≤◌, ◌≡◌, ◌⊎◌, Bool, true, false, Option, Some, None, List, [], ◌∷◌, ◌++◌, length}
+use Rattle.std.specs.Prelude.{ℕ, ◌<◌, ◌≤◌, ◌≡◌, ◌⊎◌, Bool, true, false, Option, Some, None, List, [], ◌∷◌, ◌++◌, drop, length}
 use Rattle.block_store.specs.declared.Value.{Value}
 use Rattle.never_heap.specs.Graphs.{Graph}
 use Rattle.heap_structures.specs.declared.cells.Cells.{Cells}
@@ -43,3 +43,7 @@ abbrev pub Gives : Graph → ℕ → List Value → Option Value → Type 0
 Gives g d (x ∷ xs) (Some v) = (v ≡ x) × (held g d ≡ x)
 Gives g d [] None = Unit {0}
 Gives g d xs v = ⊥
+
+-- the first of a queue's values, if there is one, has left to a register
+abbrev pub Pops : Graph → Queue → ℕ → List Value → Option Value → Type 0
+Pops g q d xs v = IsQueue g q (drop 1 xs) × Gives g d xs v

@@ -5,9 +5,9 @@ ghost use Rattle.block_store.specs.declared.Value.{Value};
 ghost use Rattle.block_store.specs.declared.Value.TheVariants.{Int, Nil};
 ghost use Rattle.never_heap.specs.Graphs.{Graph};
 ghost use Rattle.heap_structures.specs.declared.cells.Cells.{Cells};
-ghost use Rattle.heap_structures.specs.Cells.{HasPlace, IsCells, IsPlaced, held};
-ghost use Rattle.heap_structures.specs.Heaps.{Does, Has, Ready, Sight};
-ghost use Rattle.heap_structures.specs.Opened.{MayOpen, NotOpened, Opens};
+ghost use Rattle.heap_structures.specs.Cells.{HasPlace, IsCells, held};
+ghost use Rattle.heap_structures.specs.Heaps.{Does, Fills, Has, Ready, Sight, Takes};
+ghost use Rattle.heap_structures.specs.Opened.{MayOpen, NotOpened, Opens, OpensNils};
 ghost use Rattle.heap_structures.specs.Rings.{IsNoTarget};
 
 use crate::laws::quiet_commands_keep_graphs;
@@ -113,8 +113,7 @@ impl Cells {
     pub(crate) fn clear(&self, heap: &mut ControlHeap, i: u64) -> Result<(), Fault>
         ensures { (s : Sight) (g : Graph) (vs : List Value)
             → Ready s 2 heap.old self.now g vs → i < length vs
-            → IsOkAnd result (λ _. Does s 2 heap.old heap.new (self.now.spare ∷ []) self.now.array g
-            (λ z. IsCells z self.now (slice_set vs i Nil))) }
+            → IsOkAnd result (λ _. Fills s 2 heap.old heap.new self.now g (slice_set vs i Nil)) }
     {
         self.blank(heap)?;
         self.put(heap, i, self.spare)
@@ -124,8 +123,8 @@ impl Cells {
     pub(crate) fn write(&self, heap: &mut ControlHeap, i: u64, number: u64) -> Result<(), Fault>
         ensures { (s : Sight) (g : Graph) (vs : List Value)
             → Ready s 2 heap.old self.now g vs → i < length vs → number < 2 ^ 62
-            → IsOkAnd result (λ _. Does s 2 heap.old heap.new (self.now.spare ∷ []) self.now.array g
-            (λ z. IsCells z self.now (slice_set vs i (Int number)))) }
+            → IsOkAnd result (λ _. Fills s 2 heap.old heap.new self.now g
+            (slice_set vs i (Int number))) }
     {
         self.count_in(heap, number)?;
         self.put(heap, i, self.spare)
@@ -135,8 +134,8 @@ impl Cells {
     pub(crate) fn copy(&self, heap: &mut ControlHeap, from: u64, to: u64) -> Result<(), Fault>
         ensures { (s : Sight) (g : Graph) (vs : List Value)
             → Ready s 2 heap.old self.now g vs → from < length vs → to < length vs
-            → IsOkAnd result (λ _. Does s 2 heap.old heap.new (self.now.spare ∷ []) self.now.array g
-            (λ z. IsCells z self.now (slice_set vs to (slice_index_or vs from Nil)))) }
+            → IsOkAnd result (λ _. Fills s 2 heap.old heap.new self.now g
+            (slice_set vs to (slice_index_or vs from Nil))) }
     {
         self.get(heap, from, self.spare)?;
         self.put(heap, to, self.spare)
@@ -148,8 +147,7 @@ impl Cells {
             → Ready s 3 heap.old self.now g vs → i < length vs → d < 16 → d ≢ self.now.base
             → d ≢ self.now.spare
             → IsOkAnd result (λ v. (v ≡ slice_index_or vs i Nil)
-            × Does s 3 heap.old heap.new (d ∷ self.now.spare ∷ []) self.now.array g
-            (λ z. IsCells z self.now (slice_set vs i Nil) × (held z d ≡ slice_index_or vs i Nil))) }
+            × Takes s heap.old heap.new self.now g vs i d) }
     {
         let value = self.get(heap, i, d)?;
         self.clear(heap, i)?;
@@ -163,8 +161,7 @@ fn nil_array(heap: &mut ControlHeap, base: u8, size: u32) -> Result<Name, Fault>
     ensures opens { (s : Sight) (g : Graph) (spare : ℕ) → Has s heap.old g
         → MayOpen s heap.old.config g size
         → MatchResult result
-        (λ a. (c : Cells) → c.array ≡ a → c.base ≡ base → c.size ≡ size → IsPlaced c
-        → Opens s heap.old heap.new c g (λ z. IsCells z c (replicate size Nil)))
+        (λ a. OpensNils s heap.old heap.new g base size a)
         (λ f. NotOpened s heap.old heap.new base spare size g f) }
 {
     histories_are_right();

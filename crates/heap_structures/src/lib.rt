@@ -1,15 +1,24 @@
 //! Structures for programs on a `ControlHeap`: each shows a plain list of values.
 #![tactic(auto)]
 
+#[cfg(test)]
+mod alarm_tests;
+mod alarms;
 mod cells;
 mod laws;
+mod map;
+#[cfg(test)]
+mod map_tests;
 mod places;
 mod queue;
 mod ring;
+mod table;
 #[cfg(test)]
 mod tests;
 
+pub use alarms::{Alarm, AlarmList, NUMBERS, Raised, alarms_stand_once};
 pub use cells::Cells;
 pub use laws::{blocks_of, others_stay, quiet_commands_keep_graphs};
+pub use map::{Insertion, Map, other_maps_stay};
 pub use queue::Queue;
 pub use ring::Ring;

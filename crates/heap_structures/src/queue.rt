@@ -4,9 +4,9 @@ ghost use Rattle.std.specs.Prelude.{◌≡◌, ◌≤◌, ◌∷◌, ℕ, List, 
 ghost use Rattle.block_store.specs.declared.Value.{Value};
 ghost use Rattle.never_heap.specs.Graphs.{Graph};
 ghost use Rattle.heap_structures.specs.Cells.{HasPlace, held};
-ghost use Rattle.heap_structures.specs.Heaps.{Does, Has, Sight, Stops};
+ghost use Rattle.heap_structures.specs.Heaps.{DoesOrStops, Has, Sight};
 ghost use Rattle.heap_structures.specs.Opened.{MayOpen, NotOpened, Opens};
-ghost use Rattle.heap_structures.specs.Rings.{Adds, Gives, IsNoTarget, IsQueue, queue_cells};
+ghost use Rattle.heap_structures.specs.Rings.{Adds, IsNoTarget, IsQueue, Pops, queue_cells};
 
 use crate::Cells;
 use crate::cells::made;
@@ -59,10 +59,9 @@ impl Queue {
         ensures same { queue_cells self.new ≡ queue_cells self.old }
         ensures shows { (s : Sight) (g : Graph) (xs : List Value)
             → Has s heap.old g → IsQueue g self.old xs
-            → MatchResult result
-            (λ done. Does s 1 heap.old heap.new [] (queue_cells self.old).array g
-            (λ z. Adds (queue_cells self.old).size (IsQueue z self.new) xs (held g from) done))
-            (λ f. Stops 1 (16 ≤ from) heap.old heap.new f × (self.new ≡ self.old)) }
+            → DoesOrStops s 1 heap.old heap.new [] (queue_cells self.old) g
+            (λ done z. Adds (queue_cells self.old).size (IsQueue z self.new) xs (held g from) done)
+            (16 ≤ from) (self.new ≡ self.old) result }
     {
         admit(heap, 1, from < REGISTERS)?;
         if self.count >= self.cells.size {
@@ -85,12 +84,9 @@ impl Queue {
         ensures same { queue_cells self.new ≡ queue_cells self.old }
         ensures shows { (s : Sight) (g : Graph) (xs : List Value)
             → Has s heap.old g → IsQueue g self.old xs
-            → MatchResult result
-            (λ v. Does s 3 heap.old heap.new (d ∷ (queue_cells self.old).spare ∷ [])
-            (queue_cells self.old).array g
-            (λ z. IsQueue z self.new (drop 1 xs) × Gives z d xs v))
-            (λ f. Stops 3 (IsNoTarget (queue_cells self.old) d) heap.old heap.new f
-            × (self.new ≡ self.old)) }
+            → DoesOrStops s 3 heap.old heap.new (d ∷ (queue_cells self.old).spare ∷ [])
+            (queue_cells self.old) g (λ v z. Pops z self.new d xs v)
+            (IsNoTarget (queue_cells self.old) d) (self.new ≡ self.old) result }
     {
         admit(heap, 3, self.cells.may_load(d))?;
         if self.count == 0 {

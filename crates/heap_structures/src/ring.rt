@@ -5,7 +5,7 @@ ghost use Rattle.block_store.specs.declared.Value.{Value};
 ghost use Rattle.never_heap.specs.Graphs.{Graph};
 ghost use Rattle.heap_structures.specs.Cells.{HasPlace, held};
 ghost use Rattle.heap_structures.specs.Circles.{last_of};
-ghost use Rattle.heap_structures.specs.Heaps.{Does, Has, Sight, Stops};
+ghost use Rattle.heap_structures.specs.Heaps.{DoesOrStops, Has, Sight};
 ghost use Rattle.heap_structures.specs.Opened.{MayOpen, NotOpened, Opens};
 ghost use Rattle.heap_structures.specs.Rings.{Gives, IsNoTarget, IsRing, ring_cells};
 
@@ -60,10 +60,9 @@ impl Ring {
         ensures same { ring_cells self.new ≡ ring_cells self.old }
         ensures shows { (s : Sight) (g : Graph) (xs : List Value)
             → Has s heap.old g → IsRing g self.old xs
-            → MatchResult result
-            (λ _. Does s 1 heap.old heap.new [] (ring_cells self.old).array g
-            (λ z. IsRing z self.new (last_of (ring_cells self.old).size (xs ++ held g from ∷ []))))
-            (λ f. Stops 1 (16 ≤ from) heap.old heap.new f × (self.new ≡ self.old)) }
+            → DoesOrStops s 1 heap.old heap.new [] (ring_cells self.old) g
+            (λ _ z. IsRing z self.new (last_of (ring_cells self.old).size (xs ++ held g from ∷ [])))
+            (16 ≤ from) (self.new ≡ self.old) result }
     {
         admit(heap, 1, from < REGISTERS)?;
         let place = around(self.cells.size, self.first, self.count);
@@ -86,10 +85,9 @@ impl Ring {
     pub fn get(&self, heap: &mut ControlHeap, i: u32, d: u8) -> Result<Option<Value>, Fault>
         ensures { (s : Sight) (g : Graph) (xs : List Value)
             → Has s heap.old g → IsRing g self.now xs
-            → MatchResult result
-            (λ v. Does s 1 heap.old heap.new (d ∷ []) (ring_cells self.now).array g
-            (λ z. IsRing z self.now xs × Gives z d (drop i xs) v))
-            (λ f. Stops 1 (IsNoTarget (ring_cells self.now) d) heap.old heap.new f) }
+            → DoesOrStops s 1 heap.old heap.new (d ∷ []) (ring_cells self.now) g
+            (λ v z. IsRing z self.now xs × Gives z d (drop i xs) v)
+            (IsNoTarget (ring_cells self.now) d) (Unit {0}) result }
     {
         admit(heap, 1, self.cells.may_load(d))?;
         if i >= self.count {

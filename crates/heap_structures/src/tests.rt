@@ -8,20 +8,20 @@ use std::process::Abort;
 use std::test::Fail;
 
 /// How many operations are drawn.
-const DRAWN: u64 = 100_000;
+pub(crate) const DRAWN: u64 = 100_000;
 
 /// The values of a structure.
-const SIZE: u32 = 9;
+pub(crate) const SIZE: u32 = 9;
 
 /// Registers of the tests: a record with a number, the number, and what is loaded.
-const RECORD: u8 = 3;
+pub(crate) const RECORD: u8 = 3;
 
-const NUMBER: u8 = 4;
+pub(crate) const NUMBER: u8 = 4;
 
-const LOADED: u8 = 5;
+pub(crate) const LOADED: u8 = 5;
 
 // A heap on which so many blocks may be live, of the fewest blocks for that.
-fn least_heap(rt: &HostRuntime, live: u32) -> Result<ControlHeap, Fail> {
+pub(crate) fn least_heap(rt: &HostRuntime, live: u32) -> Result<ControlHeap, Fail> {
     for blocks in live..1000 {
         let config = Config {
             width: Width::Eight,
@@ -39,7 +39,7 @@ fn least_heap(rt: &HostRuntime, live: u32) -> Result<ControlHeap, Fail> {
 }
 
 // The next drawn number.
-fn draw(state: &mut u64) -> u64 {
+pub(crate) fn draw(state: &mut u64) -> u64 {
     *state = state
         .wrapping_mul(6364136223846793005)
         .wrapping_add(1442695040888963407);
@@ -47,14 +47,14 @@ fn draw(state: &mut u64) -> u64 {
 }
 
 // Makes a record with a number, in register `RECORD`.
-fn record(heap: &mut ControlHeap, number: u64) -> Result<(), Fault> {
+pub(crate) fn record(heap: &mut ControlHeap, number: u64) -> Result<(), Fault> {
     let _name = heap.record(RECORD, 1)?;
     heap.set(NUMBER, number)?;
     heap.put(RECORD, 0, NUMBER)
 }
 
 // The number of the record in register `LOADED`.
-fn number(heap: &mut ControlHeap) -> Result<Value, Fault> {
+pub(crate) fn number(heap: &mut ControlHeap) -> Result<Value, Fault> {
     heap.get(NUMBER, LOADED, 0)
 }
 

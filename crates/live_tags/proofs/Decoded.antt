@@ -1,15 +1,18 @@
--- The commands of operations determine the operations, and their replies the answers.
-use Rattle.std.proofs.Common.{◌≡◌, ℕ, Bool, refl, arith, sym, ap, ◌∙◌, append_assoc, List, [], ◌∷◌, ◌++◌, length, map}
-use Rattle.std.specs.Prelude.{flat_map}
-use Rattle.std.proofs.lemmas.List.{map-append}
+-- The commands of operations tell the operations, and their replies the answers.
+use Rattle.std.proofs.Common.{◌≡◌, ℕ, Bool, true, false, refl, arith, ap, List, [], ◌∷◌, ◌++◌, length}
+use Rattle.never_heap.specs.declared.Command.{Command}
 use Rattle.never_heap.specs.declared.Reply.{Reply}
 use Rattle.never_heap.specs.declared.Reply.TheVariants as answers
+use Rattle.operations.specs.Applications.{ops_in}
+use Rattle.operations.specs.Linearizations.{answers_told}
 use Rattle.tag_table.specs.declared.operation.Operation.{Operation}
 use Rattle.tag_table.specs.declared.operation.Operation.TheVariants.{Write, Clear, Read}
-use Rattle.tag_table.specs.Tables.{rows_of, command_at, pair_of, tag_told, answers_of, AreInTable, IsOperationInRange}
+use Rattle.tag_table.specs.Tables.{Row, rows_of, decides, ends, pair_of, tag_told, AreInTable, IsOperationInRange}
+use Rattle.tag_table.proofs.TableApplication.{tables_are_kept, tables_so_far}
+use Rattle.live_rows.specs.Life.{last_three}
+use Rattle.live_rows.proofs.Lawful.{Lawful}
 use Rattle.live_tags.specs.Decoding.{operations_from, operations_of}
-use Rattle.live_tags.specs.Life.{last_two}
-use Rattle.live_tags.specs.Live.{commands_of}
+use Rattle.live_tags.specs.Live.{commands_of, tags}
 
 pub decoded_from : (ops : List Operation) (made : Bool) (v q : ℕ)
     → operations_from made v q (commands_of ops) ≡ ops
@@ -18,22 +21,26 @@ decoded_from (Write i a b ∷ ops) made v q = ap (λ l. Write i a b ∷ l) (deco
 decoded_from (Clear i ∷ ops) made v q = ap (λ l. Clear i ∷ l) (decoded_from ops _ v q)
 decoded_from (Read i ∷ ops) made v q = ap (λ l. Read i ∷ l) (decoded_from ops made v q)
 
-pub decoded : (ops : List Operation) → operations_of (commands_of ops) ≡ ops
-decoded ops = decoded_from ops _ 0 0
+-- the commands of a script begin with those of its first operations alone
+pub record IsRead (made : Bool) (v q : ℕ) (ops : List Operation) (ks : List Command) : Type 0 where
+  pub made_then : Bool
+  pub v_then : ℕ
+  pub q_then : ℕ
+  pub told : operations_from made v q (commands_of ops ++ ks)
+      ≡ ops ++ operations_from made_then v_then q_then ks
 
--- one operation more
-pub rows_more : (xs ys : List Operation)
-    → flat_map rows_of (xs ++ ys) ≡ flat_map rows_of xs ++ flat_map rows_of ys
-rows_more [] ys = refl
-rows_more (x ∷ xs) ys =
-    ap (λ l. rows_of x ++ l) (rows_more xs ys)
-    ∙ sym (append_assoc (rows_of x) (flat_map rows_of xs) (flat_map rows_of ys))
-
-pub commands_more : (xs ys : List Operation)
-    → commands_of (xs ++ ys) ≡ commands_of xs ++ commands_of ys
-commands_more xs ys =
-    ap (map command_at) (rows_more xs ys)
-    ∙ map-append command_at (flat_map rows_of xs) (flat_map rows_of ys)
+pub read_on : (ops : List Operation) (made : Bool) (v q : ℕ) (ks : List Command)
+    → IsRead made v q ops ks
+read_on [] made v q ks = record { made_then = made; v_then = v; q_then = q; told = refl }
+read_on (Write i a b ∷ ops) made v q ks =
+    let r = read_on ops true a b ks in
+    record { made_then = r.made_then; v_then = r.v_then; q_then = r.q_then; told = ap (λ l. Write i a b ∷ l) r.told }
+read_on (Clear i ∷ ops) made v q ks =
+    let r = read_on ops false v q ks in
+    record { made_then = r.made_then; v_then = r.v_then; q_then = r.q_then; told = ap (λ l. Clear i ∷ l) r.told }
+read_on (Read i ∷ ops) made v q ks =
+    let r = read_on ops made v q ks in
+    record { made_then = r.made_then; v_then = r.v_then; q_then = r.q_then; told = ap (λ l. Read i ∷ l) r.told }
 
 pub inside_more : (n : ℕ) (ops : List Operation) (op : Operation) → AreInTable n ops
     → IsOperationInRange n op → AreInTable n (ops ++ op ∷ [])
@@ -42,24 +49,44 @@ inside_more n [] (Clear i) all one = (one, tt)
 inside_more n [] (Read i) all one = (one, tt)
 inside_more n (x ∷ ops) op all one = (all.0, inside_more n ops op all.1 one)
 
-pub answers_more : (ops : List Operation) (op : Operation) (rs more : List Reply)
-    → length (flat_map rows_of ops) ≡ length rs
-    → answers_of (ops ++ op ∷ []) (rs ++ more) ≡ answers_of ops rs ++ tag_told op more ∷ []
-answers_more [] op [] more same = refl
-answers_more [] op (r ∷ rs) more same = absurd (omega arith)
-answers_more (Read i ∷ ops) op (a ∷ b ∷ c ∷ rs) more same =
-    ap (λ l. pair_of b c ∷ l) (answers_more ops op rs more (omega arith))
-answers_more (Clear i ∷ ops) op (a ∷ b ∷ c ∷ d ∷ rs) more same =
-    ap (λ l. pair_of c d ∷ l) (answers_more ops op rs more (omega arith))
-answers_more (Write i v q ∷ ops) op (a ∷ b ∷ c ∷ d ∷ e ∷ f ∷ g ∷ h ∷ rs) more same =
-    ap (λ l. pair_of g h ∷ l) (answers_more ops op rs more (omega arith))
-answers_more (x ∷ ops) op rs more same = absurd (omega arith)
+pub whole_one : (op : Operation) (rows : List Row)
+    → ops_in decides (rows_of op ++ rows) ≡ op ∷ ops_in decides rows
+whole_one (Write i v q) rows = refl
+whole_one (Clear i) rows = refl
+whole_one (Read i) rows = refl
 
-pub told_by_two : (op : Operation) (rs : List Reply)
-    → length rs ≡ length (commands_of (op ∷ []))
+pub told_one : (op : Operation) (rows : List Row) (rs more : List Reply)
+    → length rs ≡ length (rows_of op)
+    → answers_told ends [] (rows_of op ++ rows) (rs ++ more)
+    ≡ tag_told op rs ∷ answers_told ends [] rows more
+told_one (Read i) rows (a ∷ b ∷ c ∷ []) more same = refl
+told_one (Clear i) rows (a ∷ b ∷ c ∷ d ∷ []) more same = refl
+told_one (Write i v q) rows (a ∷ b ∷ c ∷ d ∷ e ∷ f ∷ g ∷ h ∷ []) more same = refl
+told_one op rows rs more same = absurd (omega arith)
+
+-- an operation's answer is the pair of its last two replies
+pub told_by_two : (op : Operation) (rs : List Reply) → length rs ≡ length (rows_of op)
     → tag_told op rs
-    ≡ pair_of (last_two answers.Null answers.Null rs).0 (last_two answers.Null answers.Null rs).1
+    ≡ pair_of (last_three answers.Null answers.Null answers.Null rs).1
+    (last_three answers.Null answers.Null answers.Null rs).2
 told_by_two (Read i) (a ∷ b ∷ c ∷ []) same = refl
 told_by_two (Clear i) (a ∷ b ∷ c ∷ d ∷ []) same = refl
 told_by_two (Write i v q) (a ∷ b ∷ c ∷ d ∷ e ∷ f ∷ g ∷ h ∷ []) same = refl
 told_by_two op rs same = absurd (omega arith)
+
+abbrev pub law : Lawful tags
+law = record {
+  whole = whole_one;
+  answer_by = tag_told;
+  told = told_one;
+  decoded = λ t ops read. decoded_from ops false 0 0;
+  begins = λ t ops ks read. (let r = read_on ops false 0 0 ks in
+      (operations_from r.made_then r.v_then r.q_then ks, r.told));
+  none = λ n t. tt;
+  more = λ n t ops op all one. inside_more n ops op all one;
+  read = λ n t ops all. tt;
+  ordered = λ n places blocks rate scripts h count inside run.
+      (let all = tables_are_kept n places blocks rate scripts h count inside run in
+      (all.0, all.1, all.3));
+  so_far = tables_so_far;
+}

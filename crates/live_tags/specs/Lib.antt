@@ -1,5 +1,4 @@
 pub mod Decoding
-pub mod Life
 pub mod Live
 pub mod Behind
 pub mod SoFar

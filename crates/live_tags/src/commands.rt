@@ -1,8 +1,8 @@
 //! The commands of each operation, its range, and its answer.
 
-ghost use Rattle.std.specs.Prelude.{◌≡◌, ◌∷◌, [], ◌↔◌, IsTrue};
+ghost use Rattle.std.specs.Prelude.{◌≡◌, ◌≤◌, ◌∷◌, [], ◌↔◌, IsTrue};
 ghost use Rattle.tag_table.specs.Tables.{IsOperationInRange, pair_of};
-ghost use Rattle.live_tags.specs.Live.{commands_of};
+ghost use Rattle.live_tags.specs.Live.{commands_of, objects_by};
 
 use block_store::Value;
 use never_heap::{Command, Reply};
@@ -74,6 +74,16 @@ pub(crate) fn in_range(op: &Operation, tags: u32) -> bool
         } => place < tags && value < 1 << 62 && quality < 1 << 62,
         Operation::Clear { place } => place < tags,
         Operation::Read { place } => place < tags,
+    }
+}
+
+// How many records the commands of an operation make.
+pub(crate) fn objects_in(op: &Operation) -> u64
+    ensures { result ≡ objects_by op.now }
+{
+    match op {
+        Operation::Write { .. } => 1,
+        Operation::Clear { .. } | Operation::Read { .. } => 0,
     }
 }
 

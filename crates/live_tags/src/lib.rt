@@ -2,7 +2,6 @@
 #![tactic(auto)]
 
 mod commands;
-mod crew;
 mod faults;
 mod laws;
 mod note;

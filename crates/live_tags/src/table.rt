@@ -1,29 +1,22 @@
 //! A table of tags: how it is opened, used and closed.
 
-ghost use Rattle.std.specs.Prelude.{◌≡◌, ◌∷◌, [], ◌≤◌, ◌<◌, ◌++◌, ◌↔◌, IsTrue, IfOk, IfErr, OnOk, OnErr, IfSome, length};
-ghost use Rattle.std.specs.List.{AllByRecursion};
-ghost use Rattle.never_heap.specs.Bounds.{IsCommandInBounds};
+ghost use Rattle.std.specs.Prelude.{◌≡◌, ◌∷◌, [], IfOk, IfErr, OnOk, OnErr, IfSome};
 ghost use Rattle.shared_heap.specs.Workers as heaps;
-ghost use Rattle.shared_heap.specs.Workers.{CanOpen, HasSeenIts};
-ghost use Rattle.tag_table.specs.Tables.{pair_of};
-ghost use Rattle.live_tags.specs.Life.{HasBegun, HasRoomFor, HasRun};
+ghost use Rattle.shared_heap.specs.Workers.{CanOpen};
 ghost use Rattle.live_tags.specs.Live.{AreInOrder, AreFresh, AreEachOnce, CanDo, HasDone, HasSeenAll, HaveOneTable, IsOf, IsOpenFault, IsRefused, IsSameWorker, IsTableInRange, commands_of, has_learned, opened_config};
 
-use crate::commands::{clear_commands, in_range, pair, read_commands, write_commands};
-use crate::crew::{Room, room_of, unwrapped, wrapped};
+use crate::commands::{clear_commands, in_range, objects_in, pair, read_commands, write_commands};
 use crate::note::TagNote;
 use crate::worker::TagWorker;
 use array_trees::blocks_of_array;
 use block_store::{Config, Width};
-use never_heap::{Command, Reply};
-use shared_heap::{OpenFault as HeapFault, SharedHeap, Worker};
+use live_rows::{RowHeap, wrapped};
+use never_heap::Command;
+use shared_heap::Worker;
 use std::alloc::Global;
 use std::marker::Model;
-use std::sync::{Mutex, Wait};
+use std::sync::Wait;
 use tag_table::Operation;
-
-// The most commands of a worker's lifetime.
-const MOST_COMMANDS: u64 = 1 << 60;
 
 /// Why a table is not opened. Its printed text also says what to do.
 #[derive(Clone, Copy, Debug, PartialEq, Eq)]
@@ -47,10 +40,7 @@ pub enum Refused {
 /// quality, two numbers below 2^62.
 #[derive(Drop)]
 pub struct LiveTags {
-    pub(crate) heap: SharedHeap,
-    // Capacity for the workers of the heap, which `close` needs. The lock is never taken: it makes
-    // the table `Sync`.
-    pub(crate) room: Mutex<Room>,
+    pub(crate) rows: RowHeap,
 }
 
 impl Model for LiveTags {
@@ -59,53 +49,20 @@ impl Model for LiveTags {
 
     ghost Value = { HeapState };
 
-    ghost view = { λ t. t.heap };
+    ghost view = { λ t. t.rows };
 
-    ghost invariant = { λ t. IsTagHeap t.heap.config × CanOpen t.heap.config };
-}
-
-// Whether a worker's lifetime allows all commands of an operation.
-fn has_life(who: &Worker, op: &Operation, commands: &[Command]) -> bool
-    requires bounds { AllByRecursion (IsCommandInBounds who.now.thread.config) commands.now }
-    requires commands { commands.now ≡ commands_of (op.now ∷ []) }
-    ensures room { IsTrue result ↔ HasRoomFor who.now.thread commands.now }
-    ensures sound { HasSeenIts who.now }
-{
-    let few = who.asked().saturating_add(commands.len() as u64) <= MOST_COMMANDS;
-    few && who.has_left(&commands[0])
-}
-
-// Executes commands in order. Returns the last two replies.
-fn asked_all<R: Wait>(
-    rt: &R,
-    heap: &SharedHeap,
-    who: &mut Worker,
-    commands: &[Command],
-) -> (Reply, Reply)
-    requires heap { who.old.heap ≡ heap.now.id }
-    requires bounds { AllByRecursion (IsCommandInBounds who.old.thread.config) commands.now }
-    requires room { HasRoomFor who.old.thread commands.now }
-    ensures run { HasRun who.old commands.now result who.new }
-    ensures begun { 0 < length commands.now → HasBegun who.old who.new }
-{
-    let mut before = Reply::Null;
-    let mut last = Reply::Null;
-    for command in commands {
-        before = last;
-        last = heap.request(rt, who, *command);
-    }
-    (before, last)
+    ghost invariant = { λ t. IsTagHeap t.rows.config × CanOpen t.rows.config };
 }
 
 // Does an operation by its commands.
 fn done<R: Wait>(
     rt: &R,
-    heap: &SharedHeap,
+    rows: &RowHeap,
     who: &mut TagWorker,
     op: Operation,
     commands: &[Command],
 ) -> Result<Option<(u64, u64)>, Refused>
-    requires own { IsOf heap.now who.old }
+    requires own { IsOf rows.now who.old }
     requires commands { commands.now ≡ commands_of (op ∷ []) }
     ensures same { IsSameWorker who.old who.new }
     ensures can { OnOk result (CanDo who.old op) }
@@ -116,11 +73,11 @@ fn done<R: Wait>(
     if !in_range(&op, who.worker.config().shared) {
         return Err(Refused::OutOfRange);
     }
-    if !has_life(&who.worker, &op, commands) {
+    if !rows.has_life(&who.worker, objects_in(&op), commands) {
         return Err(Refused::NoLifeLeft);
     }
-    let (value, quality) = asked_all(rt, heap, &mut who.worker, commands);
-    Ok(pair(value, quality))
+    let replies = rows.run(rt, &mut who.worker, commands);
+    Ok(pair(replies.1, replies.2))
 }
 
 // The configuration of a table's heap. It has four times as many blocks as may be live.
@@ -139,21 +96,22 @@ fn config_of(tags: u32, threads: u32) -> Config
     }
 }
 
+// The heap of a table in range can be opened.
+fn can_be_opened(tags: u32, threads: u32)
+    requires { IsTableInRange tags threads }
+    ensures { CanOpen (opened_config threads tags) }
+{}
+
 // Opens the heap of a table, with its workers. `None` if an allocation failed.
-fn opened_heap(alloc: Global, tags: u32, threads: u32) -> Option<(SharedHeap, Vec<Worker>)>
+fn opened_heap(alloc: Global, tags: u32, threads: u32) -> Option<(RowHeap, Vec<Worker>)>
     requires { IsTableInRange tags threads }
     ensures can { CanOpen (opened_config threads tags) }
     ensures config { IfSome result (λ r. r.0.config ≡ opened_config threads tags) }
     ensures workers { IfSome result (λ r. heaps.AreInOrder r.0 r.1.items) }
     ensures fresh { IfSome result (λ r. heaps.AreFresh (opened_config threads tags) r.1.items) }
 {
-    match SharedHeap::open(alloc, config_of(tags, threads)) {
-        Ok(heap) => Some(heap),
-        Err(HeapFault::NoMemory) => None,
-        Err(HeapFault::OutOfBounds) => unreachable!(),
-        Err(HeapFault::LiveTooSmall) => unreachable!(),
-        Err(HeapFault::NoRate) => unreachable!(),
-    }
+    can_be_opened(tags, threads);
+    RowHeap::open(alloc, config_of(tags, threads))
 }
 
 // Opens a table, with its workers. `None` if an allocation failed.
@@ -165,14 +123,9 @@ fn opened(alloc: Global, tags: u32, threads: u32) -> Option<(LiveTags, Vec<TagWo
     ensures each { IfSome result (λ r. AreEachOnce r.0 r.1.items) }
     ensures fresh { IfSome result (λ r. AreFresh r.1.items) }
 {
-    let (heap, workers) = opened_heap(alloc, tags, threads)?;
-    let room = room_of(alloc)?;
+    let (rows, workers) = opened_heap(alloc, tags, threads)?;
     let crew = wrapped(alloc, workers)?;
-    let table = LiveTags {
-        heap,
-        room: Mutex::new(room),
-    };
-    Some((table, crew))
+    Some((LiveTags { rows }, crew))
 }
 
 impl LiveTags {
@@ -237,7 +190,7 @@ impl LiveTags {
             quality,
         };
         let commands = write_commands(place, value, quality);
-        done(rt, &self.heap, who, op, &commands)
+        done(rt, &self.rows, who, op, &commands)
     }
 
     /// Empties a place, and returns the pair that it held before, as `write` does.
@@ -260,7 +213,7 @@ impl LiveTags {
     {
         let op = Operation::Clear { place };
         let commands = clear_commands(place);
-        done(rt, &self.heap, who, op, &commands)
+        done(rt, &self.rows, who, op, &commands)
     }
 
     /// Returns the pair that a place holds, or `None` if it is empty. A value comes with the
@@ -284,7 +237,7 @@ impl LiveTags {
     {
         let op = Operation::Read { place };
         let commands = read_commands(place);
-        done(rt, &self.heap, who, op, &commands)
+        done(rt, &self.rows, who, op, &commands)
     }
 
     /// Makes a note of the history that a worker of this table has seen. It has all operations that
@@ -296,9 +249,7 @@ impl LiveTags {
         ensures all { HasSeenAll who.old }
         ensures same { who.new ≡ who.old }
     {
-        // Only the contract of this call is used, for the clause `all`.
-        who.worker.asked();
-        let note = self.heap.note(&mut who.worker);
+        let note = self.rows.note(&mut who.worker);
         TagNote { note }
     }
 
@@ -310,7 +261,7 @@ impl LiveTags {
         ensures { who.new ≡ has_learned who.old note.seen }
     {
         let TagNote { note } = note;
-        self.heap.learn(&mut who.worker, note);
+        self.rows.learn(&mut who.worker, note);
     }
 
     /// Closes the table. It takes all of its workers, each once, in any order. All operations that
@@ -320,8 +271,7 @@ impl LiveTags {
         requires { AreEachOnce self who.items }
         ensures { HaveOneTable self.config who.items result }
     {
-        let LiveTags { heap, room } = self;
-        let workers = unwrapped(room.into_inner(), who);
-        heap.close(workers)
+        let LiveTags { rows } = self;
+        rows.close(who)
     }
 }

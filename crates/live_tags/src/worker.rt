@@ -3,6 +3,7 @@
 ghost use Rattle.std.specs.Prelude.{◌≡◌};
 ghost use Rattle.live_tags.specs.Live.{thread_of};
 
+use live_rows::RowThread;
 use shared_heap::Worker;
 use std::marker::Model;
 
@@ -31,5 +32,24 @@ impl TagWorker {
         ensures { result ≡ thread_of self.now }
     {
         self.worker.thread()
+    }
+}
+
+impl RowThread for TagWorker {
+    ghost use Rattle.live_tags.specs.Live.{IsTagWorker, tag_worker};
+
+    ghost IsNew = { IsTagWorker };
+
+    ghost IsKept = { IsTagWorker };
+
+    ghost of = { tag_worker };
+
+    fn wrap(worker: Worker) -> TagWorker {
+        TagWorker { worker }
+    }
+
+    fn unwrap(self) -> Worker {
+        let TagWorker { worker } = self;
+        worker
     }
 }

@@ -142,7 +142,7 @@ module _ (size : ℕ) where
 
 -- ---- scripts
 
-whole : (op : Operation) (rows : List Row)
+pub whole : (op : Operation) (rows : List Row)
     → ops_in decides (rows_of op ++ rows) ≡ op ∷ ops_in decides rows
 whole (Keep i v) rows = refl
 whole (Recall i) rows = refl

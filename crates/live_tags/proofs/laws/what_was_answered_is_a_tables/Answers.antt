@@ -1,8 +1,11 @@
-use Rattle.live_tags.proofs.SoFar.{fits_between, fits_table}
+use Rattle.live_rows.proofs.SoFar.{fits_between, fits_order_of}
+use Rattle.live_tags.specs.Live.{tags}
+use Rattle.live_tags.proofs.Decoded.{law}
 use Rattle.live_tags.proofs.laws.what_was_answered_is_a_tables.Goals as goal
 
 pub returns-clause-between : goal.returns-clause-between
-returns-clause-between _ k s kept between tags = fits_between k s kept between tags
+returns-clause-between _ k s kept between heap = fits_between tags law k s kept between heap
 
 pub returns-clause-meanwhile : goal.returns-clause-meanwhile
-returns-clause-meanwhile _ k s kept tags scripts execute = fits_table k s kept tags scripts execute
+returns-clause-meanwhile _ k s kept heap scripts execute =
+    fits_order_of tags law k s kept heap scripts execute

@@ -1,4 +1,3 @@
-use Rattle.never_heap.specs.declared.Reply.{Reply}
 use Rattle.control_heap.specs.Calls.{HasAsked, WasRefused}
 use Rattle.control_heap.proofs.Fitting.{all_asked, all_refused, told_call}
 use Rattle.control_heap.proofs.control.ControlHeap.call.Goals as goal

@@ -1,0 +1,11 @@
+pub mod Lists
+pub mod Building
+pub mod OneUpToNames
+pub mod Again
+pub mod Loop
+pub mod LoopsOf
+pub mod Planning
+pub mod Tested
+pub mod RenamedGraphs
+pub mod Following
+pub mod LiveUpToNames

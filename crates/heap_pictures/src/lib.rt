@@ -1,0 +1,20 @@
+//! What the registers of a heap reach, as a plain value: its bytes, and the commands that build it.
+#![tactic(auto)]
+
+mod command_laws;
+mod faults;
+mod laws;
+mod picture;
+mod plans;
+mod reading;
+#[cfg(test)]
+mod tests;
+mod writing;
+
+pub use command_laws::{commands_keep_names, names_take_no_blocks};
+pub use faults::{ReadError, SaveFault};
+pub use laws::{names_follow_one_another, pictures_are_built};
+pub use picture::{Item, Kind, Picture};
+pub use plans::plan;
+pub use reading::decode;
+pub use writing::encode;

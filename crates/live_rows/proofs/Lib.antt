@@ -1,0 +1,11 @@
+pub mod Lawful
+pub mod Told
+pub mod Rooms
+pub mod Lives
+pub mod Asked
+pub mod Doing
+pub mod Crews
+pub mod Opening
+pub mod Cuts
+pub mod Closing
+pub mod SoFar

@@ -1,0 +1,6 @@
+pub mod Rows
+pub mod Life
+pub mod Workers
+pub mod Behind
+pub mod Orders
+pub mod SoFar

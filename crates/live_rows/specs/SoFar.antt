@@ -1,0 +1,77 @@
+-- What the workers of a table were answered so far, between any two steps of any threads.
+use Rattle.std.specs.Prelude.{ℕ, ◌≡◌, ◌++◌, List, [], ◌∷◌, length, slice_index_or}
+use mathlib.Core.Option.{some}
+use lib.ListN.{get_elem?}
+use Rattle.atomic_table.specs.Table as table
+use Rattle.block_store.specs.declared.Config.{Config}
+use Rattle.rate_plan.specs.Rates.{IsRate}
+use Rattle.never_heap.specs.declared.Command.{Command}
+use Rattle.never_heap.specs.Histories.{HistoryItem}
+use Rattle.never_heap.specs.Licensed.{NoFulls}
+use Rattle.heap_system.specs.Locals.{LocalState}
+use Rattle.operations.specs.Linearizations.{Call, traces_of}
+use Rattle.operations.specs.SoFar.{IsRunSoFar, IsLinearizationSoFar}
+use Rattle.shared_heap.specs.declared.rules.Held.{Held}
+use Rattle.shared_heap.specs.declared.rules.View.{View}
+use Rattle.shared_heap.specs.Shared.{AllSeenIn, AllNotedIn}
+use Rattle.shared_heap.specs.Workers.{WorkerState}
+use Rattle.live_rows.specs.Behind.{answers_in, operations_in}
+use Rattle.live_rows.specs.Rows.{Rows, commands_of}
+use Rattle.live_rows.specs.Workers.{IsRowWorker, RowWorkerState, row_worker, thread_of}
+
+abbrev pub AllThreads : (LocalState → Type 0) → List Held → Type 0
+AllThreads P [] = Unit {0}
+AllThreads P (h ∷ hs) = P h.local × AllThreads P hs
+
+-- the threads of all seats
+abbrev pub AllSeats : (LocalState → Type 0) → table.State Command View → Type 0
+AllSeats P s =
+    (id : ℕ) (v : View) → get_elem? s.views id ≡ some v → AllThreads P v.threads
+
+-- the calls of the worker's thread in this order are the operations that it did, with their answers
+pub record HasCalls {Op Answer : Type 0} (order : List (Call Op Answer))
+    (w : RowWorkerState Op Answer) : Type 0 where
+  pub done : operations_in (thread_of w) order ≡ w.done
+  pub answers : answers_in (thread_of w) order ≡ w.answers
+
+module _ {Op Row Answer S : Type 0} (a : Rows Op Row Answer S) where
+  -- The commands of the thread are the first ones of its script. It may be in the middle of an
+  -- operation.
+  abbrev pub IsAt : List (List Op) → LocalState → Type 0
+  IsAt scripts l = (rest : List Command)
+      × (commands_of a (slice_index_or scripts l.thread []) ≡ l.trace ++ rest)
+
+  -- the threads of all seats execute these scripts, whose operations are those of the table
+  pub record Execute (c : Config) (s : table.State Command View) (scripts : List (List Op)) : Type 0
+    where
+      pub count : length scripts ≡ c.threads
+      pub inside : (t : ℕ) → a.AreDone c.shared t (slice_index_or scripts t [])
+      pub each : AllSeats (IsAt scripts) s
+
+  -- the thread is that of a worker between two operations
+  abbrev pub IsBetween : LocalState → Type 0
+  IsBetween l = (w : WorkerState) × (w.thread ≡ l) × IsRowWorker a w
+
+  -- each worker between two operations that has one of these threads
+  abbrev pub AllHaveCalls : List (Call Op Answer) → List Held → Type 0
+  AllHaveCalls order [] = Unit {0}
+  AllHaveCalls order (h ∷ hs) =
+      ((w : WorkerState) → w.thread ≡ h.local → IsRowWorker a w → HasCalls order (row_worker a w))
+      × AllHaveCalls order hs
+
+  -- The history is a run of the first commands of the scripts, with no allocation answered full. Its
+  -- operations so far have one order, in which each was answered as by a plain table. The calls of
+  -- each worker between two operations are those that it did, with the answers that it got. What the
+  -- threads have seen, and every note, is a prefix of the history.
+  pub record FitsOneOrder (c : Config) (s : table.State Command View) (scripts : List (List Op))
+      (history : List HistoryItem) : Type 0 where
+    pub order : List (Call Op Answer)
+    pub rate : ℕ
+    pub planned : IsRate c rate
+    pub run : IsRunSoFar c rate (traces_of a.rows_of a.command_at scripts) history
+    pub linear : IsLinearizationSoFar a.rows_of a.decides a.ends a.say a.act (a.empty c.shared)
+        scripts history order
+    pub none_full : NoFulls history
+    pub each : (id : ℕ) (v : View) → get_elem? s.views id ≡ some v
+        → AllHaveCalls order v.threads × AllSeenIn history v.threads
+        × AllNotedIn history v.notes
