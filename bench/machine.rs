@@ -345,7 +345,7 @@ fn child_of(width: usize, elements: usize, ordinal: usize, j: usize) -> Option<u
 
 /// The way to a field: a payload for each link to follow, and the last payload.
 #[derive(Clone, Copy)]
-struct Way {
+struct TreePath {
     links: u64,
     last: u64,
     // For an array, the power of the width of the first link; 0 for a record.
@@ -353,10 +353,10 @@ struct Way {
     index: u64,
 }
 
-fn way_to(width: u64, shape: u64, i: u64) -> Way {
+fn way_to(width: u64, shape: u64, i: u64) -> TreePath {
     if shape & 1 == 0 {
         let (links, last) = (i / (width - 1), 1 + i % (width - 1));
-        return Way { links, last, power: 0, index: i };
+        return TreePath { links, last, power: 0, index: i };
     }
     let (mut level, mut links, mut power) = ((shape / 2).div_ceil(width).max(1), 0, 1);
     while level > 1 {
@@ -364,7 +364,7 @@ fn way_to(width: u64, shape: u64, i: u64) -> Way {
         links += 1;
         power *= width;
     }
-    Way { links, last: i % width, power, index: i }
+    TreePath { links, last: i % width, power, index: i }
 }
 
 #[derive(Clone, Copy, PartialEq)]
@@ -441,7 +441,7 @@ struct Mutator {
     end: u64,
     freed: u64,
     held: Vec<usize>,
-    way: Way,
+    way: TreePath,
     loaded: u64,
     second: u64,
     expected: u64,
@@ -477,7 +477,7 @@ impl Mutator {
             end: 0,
             freed: 0,
             held: Vec::new(),
-            way: Way { links: 0, last: 0, power: 0, index: 0 },
+            way: TreePath { links: 0, last: 0, power: 0, index: 0 },
             loaded: 0,
             second: 0,
             expected: 0,

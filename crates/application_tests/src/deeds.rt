@@ -1,7 +1,7 @@
 //! Operations that are done on plain places, in the order in which their deciding commands were
 //! answered.
 
-use plain_runs::Happened;
+use reference_runs::Happened;
 use std::alloc::{AllocError, Global};
 
 /// An operation of a thread.

@@ -9,8 +9,8 @@ use atom_board::Closed;
 use block_store::{Config, OutOfMemory};
 use heap_system::{Finished, System};
 use never_heap::{Command, Logs, Reply};
-use plain_runs::{Happened, history_of};
 use rate_plan::plan;
+use reference_runs::{Happened, history_of};
 use schedules::{Schedule, replay};
 use std::alloc::{AllocError, Global};
 

@@ -1,13 +1,13 @@
 -- No text has two answers, and what a text that was read says of its source.
 use Rattle.std.proofs.Common.{◌≡◌, ℕ, inl, inr, List, [], ◌∷◌, refl, sym, subst, arith}
-use Rattle.call_exits.specs.declared.refusal.Refusal.{Refusal}
-use Rattle.call_exits.specs.declared.refusal.Refusal.TheVariants.{BadScriptLine, NoRate}
-use Rattle.call_exits.specs.declared.refusal.Refusal.TheVariants as refusals
-use Rattle.call_exits.specs.Exits.{IsDue}
-use Rattle.call_exits.specs.Refusals.{AreNone, status_of, IsReadWhole, IsReadRefusal, HasRead}
-use Rattle.call_exits.specs.Sides.{Sides, IsUnfailed}
-use Rattle.call_exits.proofs.CallEnds.{AreApart}
-use Rattle.call_exits.proofs.WholeTexts.{few_taken, refused_unread}
+use Rattle.exit_statuses.specs.declared.refusal.Refusal.{Refusal}
+use Rattle.exit_statuses.specs.declared.refusal.Refusal.TheVariants.{BadScriptLine, NoRate}
+use Rattle.exit_statuses.specs.declared.refusal.Refusal.TheVariants as refusals
+use Rattle.exit_statuses.specs.Exits.{IsDue}
+use Rattle.exit_statuses.specs.Refusals.{AreNone, status_of, IsReadWhole, IsReadRefusal, HasRead}
+use Rattle.exit_statuses.specs.Sides.{Sides, IsUnfailed}
+use Rattle.exit_statuses.proofs.ExitStatuses.{AreApart}
+use Rattle.exit_statuses.proofs.WholeTexts.{few_taken, refused_unread}
 use Rattle.scripts.specs.Scripts.{Reads}
 use Rattle.scripts.proofs.ScriptOrBadLine.{never_both, scripts_are_one}
 use Rattle.trace_text.specs.Reading.{tokenized}

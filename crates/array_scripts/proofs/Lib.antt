@@ -2,9 +2,10 @@ pub mod TokenLaws
 pub mod LineLaws
 pub mod LinesSoFar
 pub mod Threads
-pub mod Ranges
+pub mod ScriptSizes
 pub mod Apart
 pub mod Items
+pub mod EachThread
 pub mod AnswersInOrder
 pub mod WrittenAnswers
 pub mod CarriedOut

@@ -1,5 +1,5 @@
 -- What is spelled by tokens, by numbers and by the first word of a line.
-use Rattle.std.proofs.Common.{◌≡◌, ℕ, ◌<◌, ◌≤◌, ◌^◌, ◌&&◌, ◌||◌, ltb, Bool, true, false, cond, Option, Some, None, List, [], ◌∷◌, decimal, bytes_eq, refl, ap, ◌∙◌, subst, arith}
+use Rattle.std.proofs.Common.{◌≡◌, ℕ, ◌<◌, ◌≤◌, ◌^◌, ◌&&◌, ◌||◌, ltb, Bool, true, false, cond, Option, Some, None, List, [], ◌∷◌, decimal, bytes_eq, refl, sym, ap, ◌∙◌, subst, arith}
 use Rattle.std.proofs.lemmas.Bool.{ltb-true, ltb-false, lt-ltb, le-ltb}
 use Rattle.std.proofs.lemmas.Slice.Eq.{bytes_eq-Decides}
 use Rattle.trace_text.specs.Headers.{behind_at, labelled_at}
@@ -172,3 +172,19 @@ pub labelled_again : (label token : List ℕ) (rest : Tokens)
 unfolding labelled_at
 labelled_again label token rest =
     ap (λ (o : Option Tokens). o >>= parted) (behind_again label (token ∷ rest))
+
+-- ---- a word with one place
+
+pub place_sound : {Op : Type 0} (P : Tokens → Op → Type 0) (places : ℕ) (word : List ℕ)
+    (make : ℕ → Op) → ((i : ℕ) → i < places → P (word ∷ decimal i ∷ []) (make i))
+    → (first : List ℕ) (tokens : Tokens) (op : Op) → first ≡ word
+    → (one_token_of tokens >>= λ token. below places token >>= λ i. Some (make i)) ≡ Some op
+    → P (first ∷ tokens) op
+place_sound {Op} P places word make each first tokens op is e =
+    bind_then (one_token_of tokens) _ op e (λ token is1 e1.
+    bind_then (below places token) _ op e1 (λ i is2 e2.
+    let a = below_sound places token i is2 in
+    let spelled : first ∷ tokens ≡ word ∷ decimal i ∷ [] =
+    λ k. is k ∷ (one_of tokens token is1 ∙ (λ j. a.0 j ∷ [])) k in
+    subst (λ (l : Tokens). P l op) (sym spelled)
+    (subst (λ (y : Op). P (word ∷ decimal i ∷ []) y) (some_is e2) (each i a.1))))

@@ -1,8 +1,8 @@
 -- What is promised of a call that reads a script.
 use Rattle.std.specs.Prelude.{ℕ, ◌≡◌, ◌↔◌, List, [], ◌∷◌, Option, IfSome, IsSome}
-use Rattle.call_exits.specs.Exits.{Exit, IsEnded}
-use Rattle.call_exits.specs.Refusals.{AreNone}
-use Rattle.call_exits.specs.Sides.{Sides}
+use Rattle.exit_statuses.specs.Exits.{Exit, IsEnded}
+use Rattle.exit_statuses.specs.Refusals.{AreNone}
+use Rattle.exit_statuses.specs.Sides.{Sides}
 use Rattle.trace_text.specs.Jobs.{input_limit}
 use Rattle.array_scripts.specs.Kinds.{Kind}
 use Rattle.array_scripts.specs.Scripts.{Causes, IsFine}

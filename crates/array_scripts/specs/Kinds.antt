@@ -3,7 +3,7 @@
 use Rattle.std.specs.Prelude.{ℕ, ◌<◌, ◌≤◌, ◌==◌, ◌&&◌, ◌||◌, nat_lt, Option, Some, None, if◌then◌else◌, List, [], ◌∷◌, ◌++◌, length, codes, decimal}
 use Rattle.std.specs.Str.{bytes_eq}
 use Rattle.block_store.specs.declared.Config.{Config}
-use Rattle.scripts.specs.Scripts.{Said, Thread, Told, End, Language, IsScript}
+use Rattle.scripts.specs.Scripts.{Said, Thread, Told, End, Language, AreFit, IsScript}
 use Rattle.trace_text.specs.Headers.{behind_at, labelled_at}
 use Rattle.trace_text.specs.Reading.{◌>>=◌, tokenized, number_at, no_more_of, one_token_of}
 use Rattle.array_scripts.specs.declared.header.Header.{Header}
@@ -116,6 +116,14 @@ language kind = record {
 abbrev pub IsScriptIn : {Op : Type 0} → Kind Op → List Tokens → Header → List (List Op) → Type 0
 IsScriptIn kind lines h scripts =
     IsScript (language kind) (IsHeader kind) (Fits kind) lines h scripts
+
+-- operations that fit behind these
+abbrev pub FitBehind : {Op : Type 0} → Kind Op → Header → List Op → List Op → Type 0
+FitBehind kind h before ops = AreFit (language kind) (IsHeader kind) (Fits kind) h before ops
+
+-- a thread of some script has these operations
+abbrev pub AreOfThread : {Op : Type 0} → Kind Op → List Op → Type 0
+AreOfThread kind ops = (h : Header) × FitBehind kind h [] ops
 
 -- the bytes are that script
 abbrev pub IsScriptOf : {Op : Type 0} → Kind Op → List ℕ → Header → List (List Op) → Type 0

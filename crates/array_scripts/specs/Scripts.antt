@@ -1,10 +1,10 @@
 -- What a script asks for: a job, where the heap on which it is run has a rate.
 use Rattle.std.specs.Prelude.{ℕ, ◌+◌, ◌*◌, ◌<◌, ◌≤◌, List}
-use Rattle.call_exits.specs.declared.refusal.Refusal.{Refusal}
-use Rattle.call_exits.specs.declared.refusal.Refusal.TheVariants.{BadScriptLine, NoRate}
-use Rattle.call_exits.specs.Refusals as calls
-use Rattle.call_exits.specs.Refusals.{AreNone, IsReadWhole}
-use Rattle.call_exits.specs.Sides.{Sides}
+use Rattle.exit_statuses.specs.declared.refusal.Refusal.{Refusal}
+use Rattle.exit_statuses.specs.declared.refusal.Refusal.TheVariants.{BadScriptLine, NoRate}
+use Rattle.exit_statuses.specs.Refusals as calls
+use Rattle.exit_statuses.specs.Refusals.{AreNone, IsReadWhole}
+use Rattle.exit_statuses.specs.Sides.{Sides}
 use Rattle.trace_text.specs.Jobs.{input_limit}
 use Rattle.trace_text.specs.Reading.{tokenized}
 use Rattle.array_scripts.specs.declared.header.Header.{Header}

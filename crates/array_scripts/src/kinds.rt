@@ -19,7 +19,7 @@ pub trait Scripted {
     type Before: Drop;
 
     /// What an operation answered.
-    type Answer;
+    type Answer: Drop;
 
     ghost kind: { Kind Self.Operation };
 

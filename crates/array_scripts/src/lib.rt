@@ -3,17 +3,21 @@
 #![tactic(auto)]
 
 mod header;
+mod jobs;
 mod kinds;
 mod line;
 mod numbers;
 mod printing;
 mod reading;
+mod runnable;
 mod script;
 
 pub use header::{Header, header_of};
+pub use jobs::{all_answers, planned, traces};
 pub use kinds::Scripted;
 pub use line::Line;
 pub use numbers::{below, place};
 pub use printing::tell_answers;
 pub use reading::read_script;
+pub use runnable::Runnable;
 pub use script::{Fault, script_of};

@@ -1,8 +1,8 @@
 //! Writing what the operations of threads answered.
 
 ghost use Rattle.std.specs.Prelude.{◌≡◌, ◌≢◌, ◌⊎◌, ◌≤◌, ◌++◌, length, map, OnOk, OnErr};
-ghost use Rattle.call_exits.specs.Exits.{IsWritten};
-ghost use Rattle.call_exits.specs.Sides.{sides};
+ghost use Rattle.exit_statuses.specs.Exits.{IsWritten};
+ghost use Rattle.exit_statuses.specs.Sides.{sides};
 ghost use Rattle.std.specs.List.{flat_map};
 ghost use Rattle.trace_text.specs.Faults.{Rose};
 ghost use Rattle.trace_text.specs.Streams.{Appends, AppendsPrefix};

@@ -1,7 +1,7 @@
 //! Reading a script from a source.
 
 ghost use Rattle.std.specs.Prelude.{◌≡◌, map, [], IfOk, IfErr, OnOk};
-ghost use Rattle.call_exits.specs.Sides.{sides};
+ghost use Rattle.exit_statuses.specs.Sides.{sides};
 ghost use Rattle.scripts.specs.Scripts.{Reads};
 ghost use Rattle.array_scripts.specs.Kinds.{language, IsHeader, Fits};
 ghost use Rattle.array_scripts.specs.Scripts.{IsReadAs, IsCause};
@@ -9,7 +9,7 @@ ghost use Rattle.array_scripts.specs.Scripts.{IsReadAs, IsCause};
 use crate::header::Header;
 use crate::kinds::Scripted;
 use crate::script::script_of;
-use call_exits::{Refusal, text_of};
+use exit_statuses::{Refusal, text_of};
 use std::alloc::Global;
 use trace_text::{INPUT_LIMIT, Source};
 

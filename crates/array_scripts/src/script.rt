@@ -10,7 +10,7 @@ use crate::header::Header;
 use crate::kinds::Scripted;
 use crate::line::{Line, line_of};
 use block_store::OutOfMemory;
-use call_exits::Refusal;
+use exit_statuses::Refusal;
 use std::alloc::{AllocFailed, Global};
 use trace_text::first_line;
 

@@ -1,3 +1,3 @@
 pub mod Trees
 pub mod Levels
-pub mod Openings
+pub mod InitialHeaps

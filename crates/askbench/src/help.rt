@@ -7,9 +7,12 @@ usage: askbench REQUESTS TICKS   times REQUESTS requests of each kind, and TICKS
                                  command
        askbench steps BLOCKS LIVE OBJECT SHARED   the same of a heap of these sizes
        askbench make KIND TIMES  makes so many requests of one kind; a line of steps has its name
+       askbench day SAVES RENEWALS   keeps the last 1,000 readings of its input, each a line `sensor
+                                 value`, on a heap, and answers each by a line; saves the heap each
+                                 SAVES readings, and renews it each RENEWALS
 
 The numbers are decimal. The program runs only once it is built (--build), since an unproved build
-takes up to 280 times as long. bench/asked and bench/steps run it.
+takes up to 280 times as long. bench/asked, bench/day and bench/steps run it.
 ";
 
 pub const VERSION: &str = "askbench 0.1.0\n";

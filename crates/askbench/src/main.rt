@@ -1,8 +1,9 @@
-//! Measures how long requests to a heap take, by kind, and how late a loop of 1 kHz runs; prints the
-//! most operations of each command; and makes requests of one kind. `bench/asked` and `bench/steps`
-//! run it.
+//! Measures how long requests to a heap take, by kind, and how late a loop of 1 kHz runs; prints
+//! the most operations of each command; makes requests of one kind; and keeps readings on a heap
+//! that it saves and renews. `bench/asked`, `bench/steps` and `bench/day` run it.
 #![tactic(auto)]
 
+mod day;
 mod help;
 mod steps;
 
@@ -45,6 +46,7 @@ fn main(rt: HostRuntime) -> ExitCode {
 /// Does what the first word says.
 fn run(rt: &HostRuntime, words: &[String]) -> Option<()> {
     match words.first()?.as_str() {
+        "day" => day::run(rt, words),
         "steps" => steps::most(rt, words),
         "make" => steps::make(rt, words),
         _ => times(rt, words),

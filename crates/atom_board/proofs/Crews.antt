@@ -19,10 +19,10 @@ use Rattle.heap_system.proofs.SystemStart.{length_starts}
 use Rattle.atom_board.specs.declared.rules.Held.{Held}
 use Rattle.atom_board.specs.declared.rules.View.{View}
 use Rattle.atom_board.specs.Boards.{BoardKept, first_view, one_view}
-use Rattle.atom_board.specs.Ends.{EndsAlone}
+use Rattle.atom_board.specs.LoneTurns.{EndsAlone}
 use Rattle.atom_board.specs.Mutators.{BoardState, MutatorState, AreInOrder, AllAreDone, AreFresh, IsFinishedBy, start_mutator, held_of, local_of, log_of}
 use Rattle.atom_board.proofs.InTime.{in_time_at_first}
-use Rattle.atom_board.proofs.Openings.{opened_after, opens}
+use Rattle.atom_board.proofs.InitialHeaps.{opened_after, opens}
 use Rattle.atom_board.proofs.Endings.{IsEndedBy, ended}
 
 middle : {A : Type 0} (ys zs : List A) (x d : A) → get_or (ys ++ x ∷ zs) (length ys) d ≡ x

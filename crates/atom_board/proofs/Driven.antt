@@ -4,12 +4,12 @@ use Rattle.atomic_table.specs.Table as table
 use Rattle.atomic_table.specs.Seated.{TableId}
 use Rattle.heap_machine.specs.declared.op.Op.{Op}
 use Rattle.heap_machine.specs.Memories.{Acts}
-use Rattle.heap_system.specs.Courses.{HasRunOn, Ran}
+use Rattle.heap_system.specs.ThreadMemories.{HasRunOn, Ran}
 use Rattle.heap_system.specs.declared.Turn.{Turn}
 use Rattle.heap_system.specs.Locals.{LocalState, local_got, op_wanted, entries_of, effect, command_of}
 use Rattle.atom_board.specs.declared.rules.View.{View}
 use Rattle.atom_board.specs.Boards.{turns_in}
-use Rattle.atom_board.specs.Courses.{one_more, still_has}
+use Rattle.atom_board.specs.ThreadMemories.{one_more, still_has}
 use Rattle.atom_board.specs.Drives.{HasDriven, MadeTurns}
 use Rattle.atom_board.specs.Mutators.{MutatorState, IsLater}
 use Rattle.atom_board.specs.Ports.{HasThread, HasTurned}

@@ -11,7 +11,7 @@ use Rattle.heap_system.specs.Serials.{trace_bound, job_bound, AreOfThreads, AreF
 use Rattle.heap_system.specs.Systems.{traces_of}
 use Rattle.heap_system.proofs.alone.Serials.{single_few}
 use Rattle.atom_board.specs.Boards.{IsStateAfter}
-use Rattle.atom_board.specs.Ends.{lone_turns, EndsAlone}
+use Rattle.atom_board.specs.LoneTurns.{lone_turns, EndsAlone}
 
 -- the bound of one trace, whatever the list is called
 one_bound : (c : Config) (rate : ℕ) (traces : List (List Command)) → c.threads ≡ 1 → job_bound c rate traces ≡ job_bound c rate (get_or traces 0 [] ∷ [])

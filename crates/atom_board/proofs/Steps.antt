@@ -17,7 +17,7 @@ use Rattle.heap_system.specs.Machines.{State, Run, no_local, local_at, next, tur
 use Rattle.heap_system.specs.Systems.{Whole, traces_of, IsReached}
 use Rattle.heap_system.proofs.TurnFacts.{reached_kept, turned_traces, turn_facts, turn_made}
 use Rattle.atom_board.proofs.InTime.{in_time, own_more, few_more}
-use Rattle.atom_board.specs.Ends.{EndsAlone}
+use Rattle.atom_board.specs.LoneTurns.{EndsAlone}
 use Rattle.atom_board.specs.declared.rules.Held.{Held}
 use Rattle.atom_board.specs.declared.rules.View.{View}
 use Rattle.atom_board.specs.Boards.{IsStateAfter, HeldFits, AllFit, helds_of, seats_of, BoardKept, held, no_view, one_view, first_in, rest_in, first_of, rest_of, joined, moves_on, written, found_by, table_after, MayGo, IsLonger}

@@ -17,7 +17,7 @@ use Rattle.heap_system.specs.Serials.{AreOfThreads, AreFew}
 use Rattle.heap_system.specs.Systems.{Whole, traces_of}
 use Rattle.atom_board.specs.declared.rules.Held.{Held}
 use Rattle.atom_board.specs.declared.rules.View.{View}
-use Rattle.atom_board.specs.Ends.{EndsAlone}
+use Rattle.atom_board.specs.LoneTurns.{EndsAlone}
 
 -- the state after this list of turns, over some job
 pub record IsStateAfter (c : Config) (ts : List ℕ) (s : State) : Type 0 where

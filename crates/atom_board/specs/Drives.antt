@@ -1,7 +1,7 @@
 -- A thread that is driven by a memory, and a mutator after turns by the words that they read.
 use Rattle.std.specs.Prelude.{ℕ, ◌+◌, ◌≡◌, false, List, [], ◌∷◌}
 use Rattle.heap_machine.specs.Memories.{Acts}
-use Rattle.heap_system.specs.Courses.{Ran}
+use Rattle.heap_system.specs.ThreadMemories.{Ran}
 use Rattle.heap_system.specs.Locals.{LocalState, LocalReads, is_done, local_got}
 use Rattle.atom_board.specs.Mutators.{MutatorState}
 

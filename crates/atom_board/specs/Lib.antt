@@ -1,6 +1,6 @@
 pub mod Boards
 pub mod Drives
-pub mod Ends
+pub mod LoneTurns
 pub mod Mutators
 pub mod Ports
-pub mod Courses
+pub mod ThreadMemories

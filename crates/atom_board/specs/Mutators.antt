@@ -12,7 +12,7 @@ use Rattle.heap_system.specs.Systems.{IsFinished}
 use Rattle.heap_system.specs.declared.Turn.{Turn}
 use Rattle.atom_board.specs.declared.rules.Held.{Held}
 use Rattle.atom_board.specs.Boards.{held}
-use Rattle.atom_board.specs.Ends.{EndsAlone}
+use Rattle.atom_board.specs.LoneTurns.{EndsAlone}
 
 -- which table it is, its configuration, and what each thread was told to do
 pub record BoardState : Type 0 where

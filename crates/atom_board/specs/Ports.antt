@@ -8,7 +8,7 @@ use Rattle.heap_machine.specs.Operations.{op_place}
 use Rattle.heap_system.specs.Locals.{LocalState, is_done, op_wanted}
 use Rattle.atom_board.specs.declared.rules.View.{View}
 use Rattle.atom_board.specs.Boards.{one_view, turns_in, moves_on}
-use Rattle.atom_board.specs.Ends.{EndsAlone}
+use Rattle.atom_board.specs.LoneTurns.{EndsAlone}
 
 -- The seat is of this table and has one thread, which is not done, and the operation is the one
 -- that the thread wants, on a word of the table.

@@ -10,7 +10,7 @@ ghost use Rattle.heap_system.specs.Systems.{IsFinished};
 ghost use Rattle.heap_system.specs.declared.Turn.TheVariants as turns;
 ghost use Rattle.atom_board.specs.Boards.{start_held};
 ghost use Rattle.atom_board.specs.Drives.{HasTurnedBy};
-ghost use Rattle.atom_board.specs.Ends.{EndsAlone};
+ghost use Rattle.atom_board.specs.LoneTurns.{EndsAlone};
 ghost use Rattle.atom_board.specs.Mutators.{BoardState, MutatorState, AreInOrder, AreEachOnce, HasMutator, AreAmong, AreLogsOf, AllAreDone, AreFresh, HasFewTurns, Moved, IsLater, IsFinishedBy, start_mutator, held_of, local_of, log_of};
 
 use crate::closed::Closed;

@@ -5,7 +5,7 @@ ghost use Rattle.heap_system.specs.Locals.{is_done};
 ghost use Rattle.atom_board.specs.Drives.{HasDriven};
 
 use crossbeam_utils::Backoff;
-use heap_system::{Course, Local, Turn};
+use heap_system::{Local, ThreadMemory, Turn};
 use never_heap::Pace;
 use std::sync::Wait;
 use std::thread;
@@ -23,7 +23,7 @@ fn progress(local: &Local) -> (usize, u64)
 /// that waited it pauses, longer each time until it gets on. Of the memory it makes the operations
 /// of these turns, and no other: this code has no other way to the words.
 #[tactic(auto, using(crate::proofs::Driven::driven_none))]
-pub fn drives<C: Course, R: Wait, Q: Pace>(
+pub fn drives<C: ThreadMemory, R: Wait, Q: Pace>(
     rt: &R,
     memory: &mut C,
     shared: &C::Shared,

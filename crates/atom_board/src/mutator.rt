@@ -20,7 +20,7 @@ impl Model for Mutator {
     ghost use Rattle.std.specs.Prelude.{◌≡◌, []};
     ghost use Rattle.block_store.specs.Places.{extent, words_count};
     ghost use Rattle.atom_board.specs.Boards.{one_view, turns_in};
-    ghost use Rattle.atom_board.specs.Ends.{EndsAlone};
+    ghost use Rattle.atom_board.specs.LoneTurns.{EndsAlone};
     ghost use Rattle.atom_board.specs.Mutators.{MutatorState};
 
     ghost Value = { MutatorState };

@@ -3,7 +3,7 @@
 use crate::rules::{Law, Turned, View};
 use atomic_table::{Seat, Shared};
 use heap_machine::{Memory, Op};
-use heap_system::{Course, System};
+use heap_system::{System, ThreadMemory};
 
 /// The shared words as a memory for the one thread that the seat has.
 #[derive(Drop)]
@@ -36,9 +36,9 @@ impl Memory for Port {
     }
 }
 
-impl Course for Port {
+impl ThreadMemory for Port {
     ghost use Rattle.atom_board.specs.Ports.{HasThread};
-    ghost use Rattle.atom_board.specs.Courses.{may_turn, reads_well, still_has};
+    ghost use Rattle.atom_board.specs.ThreadMemories.{may_turn, reads_well, still_has};
 
     ghost stands = { λ p s l. HasThread p.seat.me p.seat.table_id s.table_id l };
 

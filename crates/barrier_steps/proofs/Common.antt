@@ -11,9 +11,9 @@ pub use Rattle.barrier_steps.specs.declared.rows.FieldRow.{FieldRow}
 pub use Rattle.barrier_steps.specs.declared.rows.FieldRow.TheVariants.{LoadRegister, LoadShape, LoadLink, LoadField, LoadOwner, Shade, Store, StoreConstant, IdleLook, Answered}
 pub use Rattle.barrier_steps.specs.declared.rows.FieldStore.{FieldStore}
 pub use Rattle.barrier_steps.specs.declared.rows.FieldStore.TheVariants.{Moved, Pending, InField, Exchanged, Compared}
-pub use Rattle.barrier_steps.specs.declared.rows.Wanted.{Wanted}
-pub use Rattle.barrier_steps.specs.declared.rows.Wanted.TheVariants.{Copied, Object, Expected, Stored, First, Second, Shown}
-pub use Rattle.barrier_steps.specs.declared.rows.Way.{Way}
+pub use Rattle.barrier_steps.specs.declared.rows.Purpose.{Purpose}
+pub use Rattle.barrier_steps.specs.declared.rows.Purpose.TheVariants.{Copied, Object, Expected, Stored, First, Second, Shown}
+pub use Rattle.barrier_steps.specs.declared.rows.TreePath.{TreePath}
 pub use Rattle.block_store.proofs.Functions.{changed_map, changed_self}
 pub use Rattle.block_store.proofs.PayloadWords.{payload-code, target-number, target-nil, reads as payload_reads}
 pub use Rattle.block_store.specs.Colours.{white_word, is_grey}
@@ -32,8 +32,8 @@ pub use Rattle.block_store.specs.declared.Shape.{Shape}
 pub use Rattle.block_store.specs.declared.TheConstants.{REGISTERS}
 pub use Rattle.block_store.specs.declared.Value.{Value}
 pub use Rattle.block_store.specs.declared.Width.{Width}
-pub use Rattle.grey_steps.proofs.Ends.{block_stays, shading_goes_on}
-pub use Rattle.grey_steps.specs.Ends.{is_shading, block_stored}
+pub use Rattle.grey_steps.proofs.MarkUnits.{block_stays, shading_goes_on}
+pub use Rattle.grey_steps.specs.MarkUnits.{is_shading, block_stored}
 pub use Rattle.grey_steps.specs.Rows.{grey_over, grey_holding, row_got as marking_got}
 pub use Rattle.grey_steps.specs.declared.rows.GreyRow.{GreyRow}
 pub use Rattle.grey_steps.specs.declared.rows.GreyRow.TheVariants.{TakeOwn, ShadeStored, PutOwn, Shaded}
@@ -48,8 +48,8 @@ pub use Rattle.never_heap.specs.Steps.{step, same_value, swapped, blocks_of, at_
 pub use Rattle.never_heap.specs.declared.Command.{Command}
 pub use Rattle.never_heap.specs.declared.Command.TheVariants.{New, Arr, Set, Mov, Get, Put, Len, Same, Say, Swap, Cas, Idle}
 pub use Rattle.never_heap.specs.declared.Reply.{Reply}
-pub use Rattle.shown_graph.specs.Events.{unloaded, GraphState, value_in, Follows, ValueLoad, Loading, Event, IsPrompt, value_at}
-pub use Rattle.shown_graph.specs.Layouts.{shape_part, kind_shape}
-pub use Rattle.shown_graph.specs.Shown.{heads, IsSized}
-pub use Rattle.shown_graph.specs.Words.{block_words, value_word}
+pub use Rattle.graph_relation.specs.Events.{unloaded, GraphState, value_in, Follows, ValueLoad, Loading, Event, IsPrompt, value_at}
+pub use Rattle.graph_relation.specs.Layouts.{shape_part, kind_shape}
+pub use Rattle.graph_relation.specs.Shown.{heads, IsSized}
+pub use Rattle.graph_relation.specs.Words.{block_words, value_word}
 pub use Rattle.std.proofs.lemmas.Bool.{cases_Bool, cases_eq, ne_eqb, lt-ltb, le-leb, eqb-false, or_right, false_from_ne_true, not-true}

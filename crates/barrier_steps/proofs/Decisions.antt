@@ -1,8 +1,8 @@
 -- What holds of each row that may follow holds of the one that follows. The part is decided behind
--- its deciding event, and over once it has its reply. And what the step of a command is, where the
--- graph is what its deciding event reads.
+-- its linearization point, and over once it has its reply. And what the step of a command is, where
+-- the graph is what its linearization point reads.
 use Rattle.std.proofs.Common.{◌≡◌, ◌≢◌, ℕ, ◌<◌, Bool, true, false, ◌||◌, not, cond, None, Some, IsSome, ltb, ltb-true, eqb, eqb-true, refl, arith, ap, length, sym, ◌∙◌, subst}
-use Rattle.barrier_steps.proofs.Common.{eqb-false, Config, Payload, Shape, Extent, extent, holds_nothing, Command, Name, Value, Reply, target, Width, FieldRow, Wanted, Pass, GreyRow, grey_over, FieldStore, Way, shape_length, links_to, payload_in, shape_in, object_in, stored_word, shaded_for, is_taken, before_store, in_barrier, first_row, row_got, field_reply, field_decided, after_object, after_shape, after_field, after_said, after_owner, after_register, at_block, on_way, way_from, way_on, row_holding, refers, length_decides, register_decides, is_deciding, blocks_of, to_register, answered_register, field_index, is_get, is_put, is_swap, is_cas, is_say, goes_to_field, takes_field, answers_value, stores_in_field, TakeOwn, LoadRegister, LoadShape, LoadLink, LoadField, LoadOwner, Shade, Store, Answered, Moved, Pending, InField, Exchanged, Compared, Copied, Object, Expected, Stored, Second, Shown, New, Arr, Get, Put, Swap, Cas, Say, answer, shades, lt-ltb, Graph, ObjectKind, Record, Array, object_of, field_of, register_of, with_register, with_field, step, swapped, same_value, kind_shape, from_register, other_register, looks_at_object, expected_register, payload_or_nil, shape_or_empty, graph_after, IsWordOf, ShapeShown, constant_set, at_object, at_field, sets_constant, is_mov, is_same, is_idle, not-true, Set, Mov, Len, Same, Idle}
+use Rattle.barrier_steps.proofs.Common.{eqb-false, Config, Payload, Shape, Extent, extent, holds_nothing, Command, Name, Value, Reply, target, Width, FieldRow, Purpose, Pass, GreyRow, grey_over, FieldStore, TreePath, shape_length, links_to, payload_in, shape_in, object_in, stored_word, shaded_for, is_taken, before_store, in_barrier, first_row, row_got, field_reply, field_decided, after_object, after_shape, after_field, after_said, after_owner, after_register, at_block, on_way, way_from, way_on, row_holding, refers, length_decides, register_decides, is_deciding, blocks_of, to_register, answered_register, field_index, is_get, is_put, is_swap, is_cas, is_say, goes_to_field, takes_field, answers_value, stores_in_field, TakeOwn, LoadRegister, LoadShape, LoadLink, LoadField, LoadOwner, Shade, Store, Answered, Moved, Pending, InField, Exchanged, Compared, Copied, Object, Expected, Stored, Second, Shown, New, Arr, Get, Put, Swap, Cas, Say, answer, shades, lt-ltb, Graph, ObjectKind, Record, Array, object_of, field_of, register_of, with_register, with_field, step, swapped, same_value, kind_shape, from_register, other_register, looks_at_object, expected_register, payload_or_nil, shape_or_empty, graph_after, IsWordOf, ShapeShown, constant_set, at_object, at_field, sets_constant, is_mov, is_same, is_idle, not-true, Set, Mov, Len, Same, Idle}
 use Rattle.block_store.specs.declared.Payload.TheVariants as payloads
 use Rattle.block_store.specs.declared.Value.TheVariants as values
 use Rattle.never_heap.specs.declared.Reply.TheVariants as replies
@@ -44,7 +44,7 @@ module _ (P : FieldRow → Type 0) where
   said_is w (payloads.Block x) answer owner = owner
 
   -- of those at the block of the field, and behind the object's shape
-  pub at_block_is : (p : Pass) (k : Command) (way : Way) (word : ℕ)
+  pub at_block_is : (p : Pass) (k : Command) (way : TreePath) (word : ℕ)
       → ((goes_to_field k ≡ true → is_get k ≡ true) → P (LoadField way))
       → (is_put k ≡ true → P (before_store p (InField way word)))
       → (is_swap k ≡ true → P (before_store p (Exchanged way word)))
@@ -122,7 +122,7 @@ module _ (m : ℕ) (p : Pass) where
   range_quiet true row q = q
   range_quiet false row q = (refl, λ n e. cc, refl)
 
-  pub way_quiet : (e : Extent) (k : Command) (way : Way) (word : ℕ) → Quiet false (on_way e p k way word)
+  pub way_quiet : (e : Extent) (k : Command) (way : TreePath) (word : ℕ) → Quiet false (on_way e p k way word)
   way_quiet e k way word = either (Quiet false) (ltb way.level (links_to e way.shape (field_index k))) _ _
       (refl, λ n e. cc, refl) (at_block_is (Quiet false) p k way word (λ _. (refl, λ n e. cc, refl))
       (λ _. before_quiet (InField way word)) (λ _. before_quiet (Exchanged way word)) (λ _. before_quiet (Compared way word)))
@@ -135,7 +135,7 @@ module _ (m : ℕ) (p : Pass) where
   shape_quiet e _ x f = (refl, λ n e. cc, refl)
 
   module _ (e : Extent) (k : Command) where
-    pub register_quiet : (wanted : Wanted) (w : ℕ) → Quiet (register_decides wanted w) (after_register e p k wanted w)
+    pub register_quiet : (wanted : Purpose) (w : ℕ) → Quiet (register_decides wanted w) (after_register e p k wanted w)
     register_quiet Copied w = before_quiet (Moved w)
     register_quiet Object w = object_quiet (payload_in w)
     register_quiet (Stored way) w = way_quiet e k way w

@@ -1,14 +1,14 @@
--- What a row owes as its reply: from the deciding event on the answer of the step, by what the events
--- read and as the value of a register of the graph, and that stays until it is given.
+-- What a row owes as its reply: from the linearization point on the answer of the step, by what the
+-- events read and as the value of a register of the graph, and that stays until it is given.
 use Rattle.std.proofs.Common.{◌≡◌, ℕ, Bool, true, cond, Some, refl, sym, ap, ◌∙◌, subst, inl, inr, eqb, eq-eqb, eqb-true, ◌<◌, false, length, ◌||◌, ◌≤◌, None}
 use Rattle.barrier_steps.proofs.Common.{cases_Bool, cases_eq, ne_eqb, Config, Name, Payload, Value, payload_of, payload_code, target, extent, Command, Reply, IsCommandInRange, Graph, register_of, with_register, with_field, step, same_value, swapped, Pass, FieldRow, from_register, other_register, field_index, to_register, answered_register, is_say, takes_field, payload_or_nil, payload_in, row_got, field_reply, after_field, after_said, field_decided, is_row_of, FitsAt, is_deciding, answer, IsWordOf, ShownAt, Promises, NameShown, ShowsAt, due_at, KnownAt, heads, GraphState, value_in, Follows, row_loading, row_event, after_event, InHandAt, IsAt, Heap, mutator_at, LoadRegister, LoadShape, LoadField, LoadOwner, Shade, Store, StoreConstant, IdleLook, Answered, Moved, Pending, InField, Exchanged, Compared, object_or_nil, object_in, IsSized, Object, Second, Shown, Say, false_from_ne_true, payload_reads}
 use Rattle.block_store.specs.declared.Payload.TheVariants as payloads
 use Rattle.block_store.specs.declared.Value.TheVariants as values
 use Rattle.never_heap.specs.declared.Reply.TheVariants as replies
 use Rattle.never_heap.proofs.GraphMoves.{same_from, register_with_register}
-use Rattle.shown_graph.proofs.Names.{same_is}
+use Rattle.graph_relation.proofs.Names.{same_is}
 use Rattle.barrier_steps.proofs.Decisions.{Refused, value_there, answer_is, object_refused, shape_refused, get_is, put_is, swap_is, cas_is, constant_is, mov_is, same_step_is, say_is, idle_is, field_is, before_is, barrier_is, after_owner_is, goes_on, decided_once}
-use Rattle.shown_graph.specs.Read.{value_payload}
+use Rattle.graph_relation.specs.Read.{value_payload}
 use Rattle.barrier_steps.proofs.FieldRows.{to_low, get_takes, swap_takes, taken_register}
 use Rattle.barrier_steps.proofs.RowEvents.{swap_register, within, register_leaves, graph_stays}
 use Rattle.never_heap.proofs.FieldStores.{threads_with_field, registers_with_field}
@@ -80,7 +80,7 @@ module _ (head : Name → ℕ) where
         (value_cases (λ q u. Promises head (after_field w q) (replies.Val u)) w (value_there g k a) h refl (λ n. refl)
         (λ a to. record { name = a; says = refl; block = to }))
 
-    -- a deciding event answers as the step does
+    -- a linearization point answers as the step does
     pub promised : (row : FieldRow) (w : ℕ) → is_row_of c p k row ≡ true → is_deciding k row w ≡ true → ShownAt head g t k row w → Promises head (row_got (extent c) p k row w) (answer g t k)
     promised (LoadRegister Object) w is n h = refused _ (object_refused head g t w k is h n)
     promised (LoadRegister (Second word)) w is n h =
@@ -114,7 +114,7 @@ module _ (g : Graph) (t : ℕ) (k : Command) where
   due_shows (LoadOwner word) reply e = cc
   due_shows _ reply e = tt
 
-  -- before the deciding event none is due
+  -- before the linearization point none is due
   pub none_due : (row : FieldRow) → field_decided row ≡ false → (due_at g t k row ≡ None) × KnownAt g t k row
   none_due (Shade r (Pending word value)) e = absurd cc
   none_due (Store (Pending word value)) e = absurd cc
@@ -146,7 +146,7 @@ module _ (g : Graph) (t : ℕ) (k : Command) where
   still_due c p (Answered given) w reply d due known shown = (due, tt)
   still_due c p _ w reply d due known shown = absurd cc
 
--- at the deciding event the step's answer falls due
+-- at the linearization point the step's answer falls due
 module _ (c : Config) (head : Name → ℕ) (s : GraphState) (a : Name) (p : Pass) (k : Command) (w : ℕ) where
   abbrev pub after : FieldRow → Graph
   after row = (after_event (extent c) s (row_event (extent c) a p.thread k row w)).graph
@@ -216,7 +216,7 @@ module _ (c : Config) (m : ℕ) (K : Name → Type 0) (at : Name → ℕ → ℕ
   abbrev on : Graph
   on = (after_event (extent c) s (row_event (extent c) a p.thread k row w)).graph
 
-  -- in graph g the reply that is due is the one that was, or at the deciding event the step's
+  -- in graph g the reply that is due is the one that was, or at the linearization point the step's
   abbrev IsDue : Bool → Graph → Type 0
   IsDue b g = (due_at g p.thread k (row_got (extent c) p k row w) ≡ cond b (Some (answer s.graph p.thread k)) (due_at s.graph p.thread k row))
       × KnownAt g p.thread k (row_got (extent c) p k row w)

@@ -1,20 +1,20 @@
--- Each event of a command is one that keeps what the graph reaches, or changes nothing that those see.
+-- Each event of a command keeps what the graph reaches, or changes nothing that this names.
 use Rattle.std.proofs.Common.{◌≡◌, ℕ, Bool, true, false, not, cond, Option, None, Some, IfSome, List, [], ◌∷◌, ◌++◌, refl, arith, sym, ap, ◌∙◌, subst, inl, inr, eqb}
 use Rattle.barrier_steps.proofs.Common.{unloaded, cases_Bool, Config, Name, changed, Heap, target, is_sweep, cycle_of, Extent, extent, Phase, ColourOf, changed_map, changed_self, target-nil, Command, Graph, Loading, Event, GraphState, IsPrompt, value_in, heads, place_of, heap_after, IsHeld, NotFree, Pass, FieldRow, FieldStore, refers, length_decides, is_deciding, FitsAt, FieldFits, FieldReads, store_loading, row_loading, row_event, after_event, InHandAt, answer, graph_after, ShownAt, FieldState, payload_in, shape_in, stored_word, shades, reads_beside_graph, word_stored, row_want, field_want, field_got, field_reply, shape_length, takes_field, LoadRegister, LoadShape, LoadField, LoadOwner, Shade, Store, Answered, Moved, InField, Exchanged, Compared}
-use Rattle.barrier_steps.specs.declared.rows.Wanted.TheVariants as wants
+use Rattle.barrier_steps.specs.declared.rows.Purpose.TheVariants as wants
 use Rattle.std.proofs.lemmas.Bool.{both_ways}
 use Rattle.block_store.specs.Colours.{is_free}
 use Rattle.block_store.proofs.Functions.{funext}
 use Rattle.never_heap.specs.declared.Entry.{Entry}
 use Rattle.never_heap.specs.Histories.{HistoryItem, Did, after}
 use Rattle.never_heap.proofs.StepAnswers.{step_not_full}
-use Rattle.shown_graph.specs.Events as commanded
-use Rattle.kept_names.specs.Events.{event_thread, leaves_graph, loaded_word, MayDecide}
-use Rattle.kept_names.specs.Kept.{IsKept}
-use Rattle.kept_names.specs.Pictures.{Task, Names, no_task, picture}
-use Rattle.kept_names.specs.States.{KeptState, Kept}
-use Rattle.kept_names.proofs.Commands.{serves, decides, answers}
-use Rattle.kept_names.proofs.KeptStates.{loaded_kept}
+use Rattle.graph_relation.specs.Events as commanded
+use Rattle.name_invariant.specs.Events.{event_thread, leaves_graph, loaded_word, MayDecide}
+use Rattle.name_invariant.specs.Kept.{IsKept}
+use Rattle.name_invariant.specs.Pictures.{Task, Names, no_task, picture}
+use Rattle.name_invariant.specs.States.{KeptState, Kept}
+use Rattle.name_invariant.proofs.Commands.{serves, decides, answers}
+use Rattle.name_invariant.proofs.KeptStates.{loaded_kept}
 use Rattle.grey_steps.proofs.Pictures.{shading_keeps_names}
 use Rattle.barrier_steps.specs.Decided.{field_task, entry_on, graph_on, order_on}
 use Rattle.barrier_steps.specs.Projection.{event_of, IsAtRow, IsInHand}
@@ -118,7 +118,7 @@ module _ (c : Config) (g : Graph) (order : List HistoryItem) (h : Heap) (names :
       | inr d ↦ rw d (graph_stays c now.seen hand.0 f.pass f.command f.row w d)
     ]
 
-    -- from the deciding event on the step's answer is due
+    -- from the linearization point on the step's answer is due
     abbrev IsDueOn : Graph → Type 0
     IsDueOn x = (reply_due x (field_got (extent c) f w) ≡ cond (is_deciding f.command f.row w) (Some (answer g t f.command)) (reply_due g f))
         × IsKnown x (field_got (extent c) f w)

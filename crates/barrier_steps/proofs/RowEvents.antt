@@ -1,14 +1,14 @@
--- A row is its event: the words, what the thread has loaded and the graph are those after it, and it
--- may come where it does.
+-- A row is its event: the words, what the thread has loaded and the graph are those after it, and
+-- it may come where it does.
 use Rattle.std.proofs.Common.{false, ◌≡◌, ◌≢◌, ℕ, ◌+◌, ◌<◌, true, not, cond, Option, None, Some, IfSome, IsSome, refl, sym, ap, ◌∙◌, subst, inl, inr, ltb, eqb, eq-eqb, ltb-true, Bool, length}
-use Rattle.barrier_steps.proofs.Common.{cases_Bool, cases_eq, ne_eqb, Config, Name, Shape, Value, Heap, put_at, payload_of, target, white_word, extent, ColourOf, PayloadOf, heap_after, shape_of, Command, Reply, IsCommandInRange, register_of, Graph, object_of, field_of, with_register, with_field, shape_part, register_block, register_slot, block_words, value_word, ValueLoad, Loading, value_in, GraphState, Event, IsPrompt, value_at, Pass, GreyRow, FieldRow, Wanted, FieldStore, Way, to_register, from_register, other_register, field_index, constant_word, expected_register, is_say, is_swap, is_cas, takes_field, answers_value, stores_in_field, shape_length, links_to, link_at, field_at, ordinal_at, payload_in, shape_or_empty, shape_in, register_wanted, field_place, before_store, in_barrier, row_want, row_got, after_object, after_shape, after_field, after_said, after_owner, at_block, on_way, way_from, way_on, reads_beside_graph, IsWalk, IsThere, FitsAt, ReadsAt, is_row_of, refers, length_decides, is_deciding, store_loading, wanted_loading, row_loading, constant_set, register_event, row_event, after_event, IsAt, InHandAt, walk_load, object_on, object_load, step, swapped, same_value, graph_after, FieldFound, ShownAt, LoadRegister, LoadShape, LoadLink, LoadField, LoadOwner, Shade, Store, StoreConstant, IdleLook, Answered, Moved, Pending, InField, Exchanged, Compared}
-use Rattle.barrier_steps.specs.declared.rows.Wanted.TheVariants as wants
+use Rattle.barrier_steps.proofs.Common.{cases_Bool, cases_eq, ne_eqb, Config, Name, Shape, Value, Heap, put_at, payload_of, target, white_word, extent, ColourOf, PayloadOf, heap_after, shape_of, Command, Reply, IsCommandInRange, register_of, Graph, object_of, field_of, with_register, with_field, shape_part, register_block, register_slot, block_words, value_word, ValueLoad, Loading, value_in, GraphState, Event, IsPrompt, value_at, Pass, GreyRow, FieldRow, Purpose, FieldStore, TreePath, to_register, from_register, other_register, field_index, constant_word, expected_register, is_say, is_swap, is_cas, takes_field, answers_value, stores_in_field, shape_length, links_to, link_at, field_at, ordinal_at, payload_in, shape_or_empty, shape_in, register_wanted, field_place, before_store, in_barrier, row_want, row_got, after_object, after_shape, after_field, after_said, after_owner, at_block, on_way, way_from, way_on, reads_beside_graph, IsWalk, IsThere, FitsAt, ReadsAt, is_row_of, refers, length_decides, is_deciding, store_loading, wanted_loading, row_loading, constant_set, register_event, row_event, after_event, IsAt, InHandAt, walk_load, object_on, object_load, step, swapped, same_value, graph_after, FieldFound, ShownAt, LoadRegister, LoadShape, LoadLink, LoadField, LoadOwner, Shade, Store, StoreConstant, IdleLook, Answered, Moved, Pending, InField, Exchanged, Compared}
+use Rattle.barrier_steps.specs.declared.rows.Purpose.TheVariants as wants
 use Rattle.block_store.specs.declared.Value.TheVariants as values
 use Rattle.never_heap.specs.declared.Command.TheVariants as commands
 use Rattle.never_heap.specs.declared.Reply.TheVariants as replies
-use Rattle.shown_graph.specs.Words.{BlockWords, with_payload}
-use Rattle.shown_graph.specs.Events as events
-use Rattle.shown_graph.specs.Events.{ObjectLoad, unloaded, object_in, with_load, Guard, HasObject, HasValue, object_at, register_word_in, IsAtField, IsAtLink, IsConstant}
+use Rattle.graph_relation.specs.Words.{BlockWords, with_payload}
+use Rattle.graph_relation.specs.Events as events
+use Rattle.graph_relation.specs.Events.{ObjectLoad, unloaded, object_in, with_load, Guard, HasObject, HasValue, object_at, register_word_in, IsAtField, IsAtLink, IsConstant}
 use Rattle.grey_steps.specs.declared.rows.GreyRow.TheVariants as greys
 use Rattle.barrier_steps.specs.Rows as rows
 use Rattle.barrier_steps.proofs.FieldRows.{to_low, from_low, wanted_low, way_is, payload_cases, reference, get_takes, swap_takes, taken_register}
@@ -56,7 +56,7 @@ module _ (c : Config) (p : Pass) (k : Command) where
   pub barrier_loading : (r : GreyRow) (store : FieldStore) → loading (in_barrier r store) ≡ store_loading (extent c) k store
   barrier_loading r store = barrier_is (λ row. loading row ≡ store_loading (extent c) k store) r store (λ _. refl) (λ _. refl)
 
-  abbrev on_its_way : Way → ℕ → Loading
+  abbrev on_its_way : TreePath → ℕ → Loading
   on_its_way way word = triple (object_on (extent c) k way) (expected_load k way.expected) (carried_load k word)
 
   field_loading : (word : ℕ) → takes_field k ≡ true → loading (after_field word (payload_in word)) ≡ pair None (pending_load (to_register k) word)
@@ -68,13 +68,13 @@ said_loading : (c : Config) (p : Pass) (k : Command) (w : ℕ) → is_say k ≡ 
 said_loading c p (commands.Say s) w is = refl
 said_loading c p _ w is = absurd cc
 
-block_loading : (c : Config) (p : Pass) (k : Command) (way : Way) (word : ℕ) → loading c p k (at_block p k way word) ≡ on_its_way c p k way word
+block_loading : (c : Config) (p : Pass) (k : Command) (way : TreePath) (word : ℕ) → loading c p k (at_block p k way word) ≡ on_its_way c p k way word
 block_loading c p (commands.Put s i v) way word = before_loading c p (commands.Put s i v) (InField way word)
 block_loading c p (commands.Swap s i v) way word = before_loading c p (commands.Swap s i v) (Exchanged way word)
 block_loading c p (commands.Cas s i a v) way word = before_loading c p (commands.Cas s i a v) (Compared way word)
 block_loading c p _ way word = refl
 
-way_loading : (c : Config) (p : Pass) (k : Command) (way : Way) (word : ℕ) → loading c p k (on_way (extent c) p k way word) ≡ on_its_way c p k way word
+way_loading : (c : Config) (p : Pass) (k : Command) (way : TreePath) (word : ℕ) → loading c p k (on_way (extent c) p k way word) ≡ on_its_way c p k way word
 way_loading c p k way word = either (λ row. loading c p k row ≡ on_its_way c p k way word)
     (ltb way.level (links_to (extent c) way.shape (field_index k))) _ _ refl (block_loading c p k way word)
 
@@ -106,7 +106,7 @@ module _ (c : Config) (s : GraphState) (t : ℕ) where
   abbrev Leaves : Option Event → Type 0
   Leaves o = ((after_event (extent c) s o).words ≡ s.words) × ((after_event (extent c) s o).graph ≡ s.graph)
 
-  pub register_leaves : (k : Command) (wanted : Wanted) (w : ℕ) → Leaves (register_event t k wanted w)
+  pub register_leaves : (k : Command) (wanted : Purpose) (w : ℕ) → Leaves (register_event t k wanted w)
   register_leaves k wants.Object w = either Leaves (refers (payload_in w)) _ _ (refl, refl) (refl, refl)
   register_leaves k wants.Shown w = either Leaves (refers (payload_in w)) _ _ (refl, refl) (refl, refl)
   register_leaves k _ w = (refl, refl)
@@ -142,7 +142,7 @@ module _ (c : Config) (s : GraphState) (t : ℕ) where
   shape_moved p _ x u f loads = refl
 
   -- after a link the thread is at the next block of the way
-  link_moved : (p : Pass) (k : Command) (w u : ℕ) (way : Way) (word : ℕ) → s.loads t ≡ on_its_way c p k way word
+  link_moved : (p : Pass) (k : Command) (w u : ℕ) (way : TreePath) (word : ℕ) → s.loads t ≡ on_its_way c p k way word
       → s.words.payload way.block (link_at (extent c) way.shape (field_index k) way.level) ≡ w
       → LoadsTo (loading c p k (on_way (extent c) p k (way_on way (target w)) word)) u (Some (events.ReadLink t (link_at (extent c) way.shape (field_index k) way.level) (ordinal_at (extent c) way.shape (field_index k) (way.level + 1))))
   link_moved p k w u way word loads read =
@@ -169,7 +169,7 @@ module _ (c : Config) (s : GraphState) (t : ℕ) where
   prompt : (l : Loading) → s.loads t ≡ l → IsPrompt l → IsPrompt (s.loads t)
   prompt l e h = ap (λ x. (value_in x.value).pending) e ∙ h
 
-  register_guarded : (k : Command) (wanted : Wanted) (w : ℕ) → t < c.threads → IsCommandInRange k → IsSome (payload_of w)
+  register_guarded : (k : Command) (wanted : Purpose) (w : ℕ) → t < c.threads → IsCommandInRange k → IsSome (payload_of w)
       → s.loads t ≡ wanted_loading (extent c) k wanted → register_word_in c.width s.words t (register_wanted k wanted) ≡ w
       → MayCome (register_event t k wanted w)
   register_guarded k wants.Object w tn range some loads read = payload_cases w some
@@ -185,7 +185,7 @@ module _ (c : Config) (s : GraphState) (t : ℕ) where
   owner_guarded false tn is = (tn, is)
 
   -- at a link or a field of its way
-  module _ (r i : ℕ) (way : Way) (loads : (s.loads t).object ≡ walk_load (extent c) r i way) (is : IsWalk c i way) where
+  module _ (r i : ℕ) (way : TreePath) (loads : (s.loads t).object ≡ walk_load (extent c) r i way) (is : IsWalk c i way) where
     here : object_at s t ≡ object_in (walk_load (extent c) r i way)
     here = ap object_in loads
 
@@ -221,7 +221,7 @@ within g t k a found hand =
 
 -- a row of command k of this pass, where a is the object in hand
 module _ (c : Config) (s : GraphState) (a : Name) (p : Pass) (k : Command) where
-  abbrev stored_at : Way → ℕ
+  abbrev stored_at : TreePath → ℕ
   stored_at way = field_at (extent c) way.shape (field_index k)
 
   abbrev graph : Option Event → Graph
@@ -236,7 +236,7 @@ module _ (c : Config) (s : GraphState) (a : Name) (p : Pass) (k : Command) where
   graph_stays _ w n = cc
 
   module _ (head : Name → ℕ) where
-    -- the deciding event makes the step
+    -- the linearization point makes the step
     steps : (x : Graph × Reply) → step s.graph p.thread k ≡ x → x.0 ≡ graph_after s.graph p.thread k
     steps x e = sym (graph_is s.graph p.thread k x e)
 
@@ -277,7 +277,7 @@ module _ (c : Config) (s : GraphState) (a : Name) (p : Pass) (k : Command) where
     abbrev WordsAre : BlockWords → Option Event → Type 0
     WordsAre words o = (after_event (extent c) s o).words ≡ words
 
-    abbrev tried : Way → ℕ → Bool → BlockWords
+    abbrev tried : TreePath → ℕ → Bool → BlockWords
     tried way word b = block_words (cond b (put_at h (field_place (extent c) k way) word) h)
 
     pub words_moved : (row : FieldRow) (w : ℕ) → IsAt (extent c) s h p k row w
@@ -308,7 +308,7 @@ module _ (c : Config) (s : GraphState) (a : Name) (p : Pass) (k : Command) where
     words_moved _ w at = at.words
 
     -- the word of a field that is loaded, or exchanged
-    field_read : (way : Way) (w : ℕ) (l : Loading) → s.words ≡ block_words h → s.loads p.thread ≡ l → l.object ≡ object_on (extent c) k way
+    field_read : (way : TreePath) (w : ℕ) (l : Loading) → s.words ≡ block_words h → s.loads p.thread ≡ l → l.object ≡ object_on (extent c) k way
         → w ≡ h (field_place (extent c) k way) → s.words.payload (object_at s p.thread).block (stored_at way) ≡ w
     field_read way w l words loads hand reads = ap (λ y. s.words.payload (object_in y).block (stored_at way)) (ap (λ y. y.object) loads ∙ hand)
         ∙ payload_read s h _ _ w words reads
@@ -316,7 +316,7 @@ module _ (c : Config) (s : GraphState) (a : Name) (p : Pass) (k : Command) where
     has : (l : Loading) → s.loads p.thread ≡ l → l.value ≡ Some (value_in l.value) → HasValue s p.thread
     has l loads is = has_value s p.thread (value_in l.value) (ap (λ y. y.value) loads ∙ is)
 
-    in_field_guarded : (way : Way) (word : ℕ) (x : Option ValueLoad) → p.thread < c.threads → IsWalk c (field_index k) way → IsThere c (field_index k) way
+    in_field_guarded : (way : TreePath) (word : ℕ) (x : Option ValueLoad) → p.thread < c.threads → IsWalk c (field_index k) way → IsThere c (field_index k) way
         → s.loads p.thread ≡ triple (object_on (extent c) k way) x (value_load (other_register k) word)
         → register_of s.graph p.thread (from_register k) ≡ values.Ref a
         → Guard c.width c.threads s (events.StoreField p.thread a (field_index k) (stored_at way))

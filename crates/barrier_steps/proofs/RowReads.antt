@@ -1,7 +1,7 @@
--- Where the words show the graph, a row reads words that its places can hold, and these are what the graph says.
+-- Where the words show the graph, a row reads what the graph says, and what its places can hold.
 use Rattle.std.proofs.Common.{◌≡◌, ◌≢◌, ℕ, ◌+◌, ◌<◌, ◌≤◌, Bool, true, false, None, Some, IfSome, is_some, eqb, length, refl, sym, ap, ◌∙◌, subst, arith}
-use Rattle.barrier_steps.proofs.Common.{Config, REGISTERS, Name, Value, Heap, payload_of, target, extent, Phase, shape_of, payloads, payload-code, target-number, target-nil, Command, Reply, ObjectKind, Record, Array, object_of, field_of, register_of, kind_shape, shape_part, block_words, value_word, heads, ValueLoad, Loading, GraphState, Follows, Way, Pass, place_of, CanHold, IsHeld, FieldRow, shape_length, links_to, link_at, field_at, ordinal_at, to_register, answered_register, from_register, other_register, field_index, expected_register, register_place, register_wanted, field_place, row_want, field_reply, reads_beside_graph, IsThread, IsWalk, IsThere, FitsAt, ReadsAt, IsWordOf, ShownAt, NameShown, ShowsAt, walk_load, object_on, object_load, IsAt, Graph, LoadRegister, LoadShape, LoadLink, LoadField, LoadOwner, Shade, Store, IdleLook, Answered, InField, Exchanged, Compared}
-use Rattle.barrier_steps.specs.declared.rows.Wanted.TheVariants as wants
+use Rattle.barrier_steps.proofs.Common.{Config, REGISTERS, Name, Value, Heap, payload_of, target, extent, Phase, shape_of, payloads, payload-code, target-number, target-nil, Command, Reply, ObjectKind, Record, Array, object_of, field_of, register_of, kind_shape, shape_part, block_words, value_word, heads, ValueLoad, Loading, GraphState, Follows, TreePath, Pass, place_of, CanHold, IsHeld, FieldRow, shape_length, links_to, link_at, field_at, ordinal_at, to_register, answered_register, from_register, other_register, field_index, expected_register, register_place, register_wanted, field_place, row_want, field_reply, reads_beside_graph, IsThread, IsWalk, IsThere, FitsAt, ReadsAt, IsWordOf, ShownAt, NameShown, ShowsAt, walk_load, object_on, object_load, IsAt, Graph, LoadRegister, LoadShape, LoadLink, LoadField, LoadOwner, Shade, Store, IdleLook, Answered, InField, Exchanged, Compared}
+use Rattle.barrier_steps.specs.declared.rows.Purpose.TheVariants as wants
 use Rattle.block_store.specs.declared.Payload.TheVariants as payloads
 use Rattle.block_store.specs.declared.Value.TheVariants as values
 use Rattle.block_store.specs.WideOwners.{wide_of}
@@ -9,13 +9,13 @@ use Rattle.block_store.specs.Payloads.{reference_word}
 use Rattle.block_store.proofs.PayloadWords.{target-reference}
 use Rattle.never_heap.specs.declared.Reply.TheVariants as replies
 use Rattle.object_lists.specs.Parts.{Part, Link, Field}
-use Rattle.shown_graph.specs.Layouts.{layout_part, object_part}
-use Rattle.shown_graph.specs.Words.{part_word}
-use Rattle.shown_graph.specs.Shown.{IsValueOf}
-use Rattle.shown_graph.specs.Events.{pending_registers, is_pending, object_in, ObjectIs, ValueIs, LoadIs}
-use Rattle.shown_graph.proofs.ObjectLayouts.{object_layout}
-use Rattle.shown_graph.proofs.WordReads.{value_read, length_read, register_read, blocks_apart, words_tell}
-use Rattle.shown_graph.proofs.Loads.{name_shown}
+use Rattle.graph_relation.specs.Layouts.{layout_part, object_part}
+use Rattle.graph_relation.specs.Words.{part_word}
+use Rattle.graph_relation.specs.Shown.{IsValueOf}
+use Rattle.graph_relation.specs.Events.{pending_registers, is_pending, object_in, ObjectIs, ValueIs, LoadIs}
+use Rattle.graph_relation.proofs.ObjectLayouts.{object_layout}
+use Rattle.graph_relation.proofs.WordReads.{value_read, length_read, register_read, blocks_apart, words_tell}
+use Rattle.graph_relation.proofs.Loads.{name_shown}
 use Rattle.barrier_steps.specs.Rows as rows
 use Rattle.barrier_steps.specs.Replies.{FieldShown}
 use Rattle.barrier_steps.proofs.FieldRows.{to_low, from_low, other_low, expected_low, wanted_low, way_is, link_low, field_low, IsHeldWord, place_at}
@@ -71,7 +71,7 @@ module _ (c : Config) (m : ℕ) (K : Name → Type 0) (at : Name → ℕ → ℕ
   FieldRead t r i w = (shown : FieldShown (heads at) s.graph t r i w) × IsHeldWord c w
       × IsValueOf K (field_of (object_of s.graph shown.0.name) i) × (value_word (heads at) (field_of (object_of s.graph shown.0.name) i) ≡ w)
 
-  module _ (t r i : ℕ) (way : Way) (is : ObjectIs c.width s.graph at t (object_in (walk_load (extent c) r i way))) (fits : IsWalk c i way) (tn : t < c.threads) where
+  module _ (t r i : ℕ) (way : TreePath) (is : ObjectIs c.width s.graph at t (object_in (walk_load (extent c) r i way))) (fits : IsWalk c i way) (tn : t < c.threads) where
     kept : K is.name
     kept = is_kept t r is.name tn is.source is.refers
 
@@ -125,7 +125,7 @@ module _ (c : Config) (m : ℕ) (K : Name → Type 0) (at : Name → ℕ → ℕ
       go (values.Int n) e = absurd (some (ap target (is.word ∙ ap (value_word (heads at)) e) ∙ target-number n))
       go (values.Ref a) e = (a, e, ap target (is.word ∙ ap (value_word (heads at)) e) ∙ target-reference (at a 0))
 
-  field_at_end : (p : Pass) (k : Command) (way : Way) (w : ℕ) (l : Loading) → IsThread c p.thread
+  field_at_end : (p : Pass) (k : Command) (way : TreePath) (w : ℕ) (l : Loading) → IsThread c p.thread
       → IsWalk c (field_index k) way → IsThere c (field_index k) way → s.loads p.thread ≡ l → l.object ≡ object_on (extent c) k way
       → s.words ≡ block_words h → w ≡ h (field_place (extent c) k way) → FieldRead p.thread (from_register k) (field_index k) w
   field_at_end p k way w l thread walk there loads hand words reads =

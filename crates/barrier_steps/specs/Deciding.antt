@@ -7,8 +7,8 @@ use Rattle.never_heap.specs.declared.Command.{Command}
 use Rattle.never_heap.specs.declared.Command.TheVariants as commands
 use Rattle.barrier_steps.specs.declared.rows.FieldRow.{FieldRow}
 use Rattle.barrier_steps.specs.declared.rows.FieldRow.TheVariants.{LoadRegister, LoadShape, LoadField, Store, StoreConstant, IdleLook}
-use Rattle.barrier_steps.specs.declared.rows.Wanted.{Wanted}
-use Rattle.barrier_steps.specs.declared.rows.Wanted.TheVariants as wants
+use Rattle.barrier_steps.specs.declared.rows.Purpose.{Purpose}
+use Rattle.barrier_steps.specs.declared.rows.Purpose.TheVariants as wants
 use Rattle.barrier_steps.specs.Walks.{shape_length}
 use Rattle.barrier_steps.specs.Rows.{payload_in, shape_in, is_taken}
 
@@ -26,8 +26,8 @@ length_decides (commands.Swap s i v) n = not (nat_lt i n)
 length_decides (commands.Cas s i a v) n = not (nat_lt i n)
 length_decides _ n = true
 
--- whether the load of a register is the deciding event
-abbrev pub register_decides : Wanted → ℕ → Bool
+-- whether the load of a register is the linearization point
+abbrev pub register_decides : Purpose → ℕ → Bool
 register_decides wants.Object w = not (refers (payload_in w))
 register_decides (wants.Second word) w = true
 register_decides wants.Shown w = true

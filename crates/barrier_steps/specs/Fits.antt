@@ -11,13 +11,13 @@ use Rattle.heap_machine.specs.Operations.{place_of}
 use Rattle.heap_machine.specs.Readings.{CanHold}
 use Rattle.heap_machine.specs.declared.pass.Pass.{Pass}
 use Rattle.grey_steps.specs.declared.rows.GreyRow.{GreyRow}
-use Rattle.grey_steps.specs.Ends.{block_stored}
+use Rattle.grey_steps.specs.MarkUnits.{block_stored}
 use Rattle.grey_steps.specs.Fits.{GreyFits}
 use Rattle.barrier_steps.specs.declared.rows.FieldRow.{FieldRow}
 use Rattle.barrier_steps.specs.declared.rows.FieldRow.TheVariants.{LoadRegister, LoadShape, LoadLink, LoadField, LoadOwner, Shade, Store, StoreConstant, IdleLook, Answered}
-use Rattle.barrier_steps.specs.declared.rows.Wanted.{Wanted}
-use Rattle.barrier_steps.specs.declared.rows.Wanted.TheVariants as wants
-use Rattle.barrier_steps.specs.declared.rows.Way.{Way}
+use Rattle.barrier_steps.specs.declared.rows.Purpose.{Purpose}
+use Rattle.barrier_steps.specs.declared.rows.Purpose.TheVariants as wants
+use Rattle.barrier_steps.specs.declared.rows.TreePath.{TreePath}
 use Rattle.barrier_steps.specs.declared.rows.FieldStore.{FieldStore}
 use Rattle.barrier_steps.specs.declared.rows.FieldStore.TheVariants.{Moved, Pending, InField, Exchanged, Compared}
 use Rattle.barrier_steps.specs.Operands.{field_index, sets_constant, is_mov, is_get, is_put, goes_to_field, looks_at_object, is_same, is_say, is_swap, is_cas, is_idle, takes_field, answers_value, stores_in_field}
@@ -37,14 +37,14 @@ pub record IsLoaded (c : Config) (w : ℕ) : Type 0 where
   pub block : target w ≤ c.blocks
 
 -- the way to field i, which the object has, at a block of the heap
-pub record IsWalk (c : Config) (i : ℕ) (way : Way) : Type 0 where
+pub record IsWalk (c : Config) (i : ℕ) (way : TreePath) : Type 0 where
   pub shape : IsShape way.shape
   pub index : i < shape_length way.shape
   pub level : way.level ≤ links_to (extent c) way.shape i
   pub block : IsBlock c way.block
 
 -- the way is at its end
-abbrev pub IsThere : Config → ℕ → Way → Type 0
+abbrev pub IsThere : Config → ℕ → TreePath → Type 0
 IsThere c i way = way.level ≡ links_to (extent c) way.shape i
 
 -- in this pass, in Mark, the barrier of a word that refers to a block has come to row r
@@ -74,7 +74,7 @@ StoreFits c k (Compared way word) = IsWalk c (field_index k) way × IsThere c (f
     × IsLoaded c word
 
 -- whether command k loads a register for this
-abbrev pub is_wanted_by : Command → Wanted → Bool
+abbrev pub is_wanted_by : Command → Purpose → Bool
 is_wanted_by k wants.Copied = is_mov k
 is_wanted_by k wants.Object = looks_at_object k
 is_wanted_by k (wants.Expected way) = is_cas k
@@ -84,7 +84,7 @@ is_wanted_by k (wants.Second word) = is_same k
 is_wanted_by k wants.Shown = is_say k
 
 -- the numbers that are in hand where a register is loaded are in range
-abbrev pub WantedFits : Config → Command → Wanted → Type 0
+abbrev pub WantedFits : Config → Command → Purpose → Type 0
 WantedFits c k (wants.Expected way) = IsWalk c (field_index k) way × (way.level ≡ 0)
 WantedFits c k (wants.Stored way) = IsWalk c (field_index k) way × (way.level ≡ 0)
 WantedFits c k (wants.Second word) = IsLoaded c word

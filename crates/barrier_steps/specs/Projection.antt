@@ -10,14 +10,14 @@ use Rattle.never_heap.specs.declared.Command.TheVariants as commands
 use Rattle.never_heap.specs.Graphs.{register_of}
 use Rattle.heap_machine.specs.Operations.{place_of}
 use Rattle.heap_machine.specs.declared.pass.Pass.{Pass}
-use Rattle.shown_graph.specs.Words.{block_words}
-use Rattle.shown_graph.specs.Events as events
-use Rattle.shown_graph.specs.Events.{ObjectLoad, ValueLoad, Loading, unloaded, GraphState, Event, apply}
+use Rattle.graph_relation.specs.Words.{block_words}
+use Rattle.graph_relation.specs.Events as events
+use Rattle.graph_relation.specs.Events.{ObjectLoad, ValueLoad, Loading, unloaded, GraphState, Event, apply}
 use Rattle.barrier_steps.specs.declared.rows.FieldRow.{FieldRow}
 use Rattle.barrier_steps.specs.declared.rows.FieldRow.TheVariants.{LoadRegister, LoadShape, LoadLink, LoadField, LoadOwner, Shade, Store, StoreConstant, IdleLook, Answered}
-use Rattle.barrier_steps.specs.declared.rows.Wanted.{Wanted}
-use Rattle.barrier_steps.specs.declared.rows.Wanted.TheVariants as wants
-use Rattle.barrier_steps.specs.declared.rows.Way.{Way}
+use Rattle.barrier_steps.specs.declared.rows.Purpose.{Purpose}
+use Rattle.barrier_steps.specs.declared.rows.Purpose.TheVariants as wants
+use Rattle.barrier_steps.specs.declared.rows.TreePath.{TreePath}
 use Rattle.barrier_steps.specs.declared.rows.FieldStore.{FieldStore}
 use Rattle.barrier_steps.specs.declared.rows.FieldStore.TheVariants.{Moved, Pending, InField, Exchanged, Compared}
 use Rattle.barrier_steps.specs.Operands.{to_register, answered_register, from_register, other_register, field_index, expected_register, takes_field}
@@ -30,7 +30,7 @@ abbrev pub object_load : ℕ → ℕ → Option ObjectLoad
 object_load s x = Some (record { source = s; block = x; ordinal = 0; shape = None })
 
 -- the object of a way to field i, at the block that the links have led to
-abbrev pub walk_load : Extent → ℕ → ℕ → Way → Option ObjectLoad
+abbrev pub walk_load : Extent → ℕ → ℕ → TreePath → Option ObjectLoad
 walk_load e s i way = Some (record {
   source = s;
   block = way.block;
@@ -59,7 +59,7 @@ expected_load (commands.Cas s i a v) word = value_load a word
 expected_load _ word = None
 
 -- the object that a command has in hand on its way
-abbrev pub object_on : Extent → Command → Way → Option ObjectLoad
+abbrev pub object_on : Extent → Command → TreePath → Option ObjectLoad
 object_on e k way = walk_load e (from_register k) (field_index k) way
 
 -- what command k has loaded that it is about to store
@@ -85,7 +85,7 @@ store_loading e k (Compared way word) = record {
 }
 
 -- what command k has loaded that is about to load a register
-abbrev pub wanted_loading : Extent → Command → Wanted → Loading
+abbrev pub wanted_loading : Extent → Command → Purpose → Loading
 wanted_loading e k (wants.Expected way) = record unloaded { object = object_on e k way }
 wanted_loading e k (wants.Stored way) = record unloaded {
   object = object_on e k way;
@@ -125,7 +125,7 @@ constant_set (commands.Set d v) = values.Int v
 constant_set _ = values.Nil
 
 -- the event at which thread t in command k loads a register, in which w stands
-abbrev pub register_event : ℕ → Command → Wanted → ℕ → Option Event
+abbrev pub register_event : ℕ → Command → Purpose → ℕ → Option Event
 register_event t k wants.Object w = if refers (payload_in w)
     then Some (events.ReadObject t (from_register k)) else None
 register_event t k (wants.Expected way) w = Some (events.ReadExpected t (expected_register k))

@@ -11,11 +11,11 @@ use Rattle.never_heap.specs.declared.Reply.{Reply}
 use Rattle.never_heap.specs.declared.Reply.TheVariants.{Val}
 use Rattle.never_heap.specs.Graphs.{Graph, object_of, field_of, register_of}
 use Rattle.never_heap.specs.Steps.{step, same_value}
-use Rattle.shown_graph.specs.Layouts.{kind_shape}
-use Rattle.shown_graph.specs.Read.{value_payload}
+use Rattle.graph_relation.specs.Layouts.{kind_shape}
+use Rattle.graph_relation.specs.Read.{value_payload}
 use Rattle.barrier_steps.specs.declared.rows.FieldRow.{FieldRow}
 use Rattle.barrier_steps.specs.declared.rows.FieldRow.TheVariants.{LoadRegister, LoadShape, LoadField, LoadOwner, Shade, Store, Answered}
-use Rattle.barrier_steps.specs.declared.rows.Wanted.TheVariants as wants
+use Rattle.barrier_steps.specs.declared.rows.Purpose.TheVariants as wants
 use Rattle.barrier_steps.specs.declared.rows.FieldStore.{FieldStore}
 use Rattle.barrier_steps.specs.declared.rows.FieldStore.TheVariants.{Pending, InField, Exchanged, Compared}
 use Rattle.barrier_steps.specs.Operands.{to_register, answered_register, from_register, other_register, field_index, expected_register}
@@ -84,7 +84,7 @@ pub record RefersTo (head : Name → ℕ) (word : ℕ) (reply : Reply) : Type 0 
   pub says : reply ≡ Val (Ref name)
   pub block : target word ≡ head name
 
--- a store behind the deciding event comes before this reply
+-- a store after the linearization point comes before this reply
 abbrev pub StorePromises : FieldStore → Reply → Type 0
 StorePromises (Pending word value) reply = reply ≡ Val value
 StorePromises _ reply = ⊥

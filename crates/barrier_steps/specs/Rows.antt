@@ -25,9 +25,9 @@ use Rattle.heap_machine.specs.declared.Step.{Step}
 use Rattle.heap_machine.specs.declared.Step.TheVariants.{Went, Over}
 use Rattle.barrier_steps.specs.declared.rows.FieldRow.{FieldRow}
 use Rattle.barrier_steps.specs.declared.rows.FieldRow.TheVariants.{LoadRegister, LoadShape, LoadLink, LoadField, LoadOwner, Shade, Store, StoreConstant, IdleLook, Answered}
-use Rattle.barrier_steps.specs.declared.rows.Wanted.{Wanted}
-use Rattle.barrier_steps.specs.declared.rows.Wanted.TheVariants as wants
-use Rattle.barrier_steps.specs.declared.rows.Way.{Way}
+use Rattle.barrier_steps.specs.declared.rows.Purpose.{Purpose}
+use Rattle.barrier_steps.specs.declared.rows.Purpose.TheVariants as wants
+use Rattle.barrier_steps.specs.declared.rows.TreePath.{TreePath}
 use Rattle.barrier_steps.specs.declared.rows.FieldStore.{FieldStore}
 use Rattle.barrier_steps.specs.declared.rows.FieldStore.TheVariants.{Moved, Pending, InField, Exchanged, Compared}
 use Rattle.grey_steps.specs.declared.rows.GreyRow.{GreyRow}
@@ -118,14 +118,14 @@ abbrev pub in_barrier : GreyRow → FieldStore → FieldRow
 in_barrier r store = if grey_over r then Store store else Shade r store
 
 -- which register of command k is loaded
-abbrev pub register_wanted : Command → Wanted → ℕ
+abbrev pub register_wanted : Command → Purpose → ℕ
 register_wanted k (wants.Expected way) = expected_register k
 register_wanted k (wants.Stored way) = other_register k
 register_wanted k (wants.Second word) = other_register k
 register_wanted k _ = from_register k
 
 -- where the field of command k stands, at the end of its way
-abbrev pub field_place : Extent → Command → Way → Place
+abbrev pub field_place : Extent → Command → TreePath → Place
 field_place e k way = PayloadOf way.block (field_at e way.shape (field_index k))
 
 -- the store of thread t
@@ -163,27 +163,27 @@ after_object (payloads.Block x) = LoadShape x
 
 -- at the block of the field: `put`, `swap` and `cas` store in it the word that they have loaded,
 -- `get` loads it
-abbrev pub at_block : Pass → Command → Way → ℕ → FieldRow
+abbrev pub at_block : Pass → Command → TreePath → ℕ → FieldRow
 at_block p (commands.Put s i v) way word = before_store p (InField way word)
 at_block p (commands.Swap s i v) way word = before_store p (Exchanged way word)
 at_block p (commands.Cas s i a v) way word = before_store p (Compared way word)
 at_block p _ way word = LoadField way
 
 -- the next link of the way, while there is one
-abbrev pub on_way : Extent → Pass → Command → Way → ℕ → FieldRow
+abbrev pub on_way : Extent → Pass → Command → TreePath → ℕ → FieldRow
 on_way e p k way word = if nat_lt way.level (links_to e way.shape (field_index k))
     then LoadLink way word else at_block p k way word
 
 -- the way at its first block
-abbrev pub way_from : Shape → ℕ → Way
+abbrev pub way_from : Shape → ℕ → TreePath
 way_from f x = record { shape = f; level = 0; block = x; expected = 0 }
 
 -- and one link further, at block x
-abbrev pub way_on : Way → ℕ → Way
+abbrev pub way_on : TreePath → ℕ → TreePath
 way_on way x = record way { level = way.level + 1; block = x }
 
 -- with the word with which the field is compared
-abbrev pub way_with : Way → ℕ → Way
+abbrev pub way_with : TreePath → ℕ → TreePath
 way_with way word = record way { expected = word }
 
 -- after the object's shape: an index that is not below its length is answered range
@@ -218,7 +218,7 @@ after_owner p (commands.Say s) word value = Answered (replies.Val value)
 after_owner p _ word value = before_store p (Pending word value)
 
 -- after a register, in which w stood
-abbrev pub after_register : Extent → Pass → Command → Wanted → ℕ → FieldRow
+abbrev pub after_register : Extent → Pass → Command → Purpose → ℕ → FieldRow
 after_register e p k wants.Copied w = before_store p (Moved w)
 after_register e p k wants.Object w = after_object (payload_in w)
 after_register e p k (wants.Expected way) w = LoadRegister (wants.Stored (way_with way w))
@@ -289,7 +289,7 @@ step_of (Some reply) = Over
 abbrev pub field_step : Extent → FieldState → ℕ → Step
 field_step e s w = step_of (field_reply (field_got e s w).row)
 
--- the rows behind the deciding event
+-- the rows after the linearization point
 abbrev pub field_decided : FieldRow → Bool
 field_decided (LoadOwner word) = true
 field_decided (Shade r store) = is_taken store

@@ -14,10 +14,10 @@ ghost use Rattle.never_heap.specs.declared.Reply.TheVariants as replies;
 ghost use Rattle.never_heap.specs.Graphs.{Graph};
 ghost use Rattle.never_heap.specs.Bounds.{IsCommandInRange};
 ghost use Rattle.never_heap.specs.Steps.{blocks_of};
-ghost use Rattle.shown_graph.specs.Layouts.{shape_part};
-ghost use Rattle.shown_graph.specs.Words.{block_words};
-ghost use Rattle.shown_graph.specs.Shown.{heads, named, IsSized};
-ghost use Rattle.shown_graph.specs.Events.{GraphState, Follows, Guard, with_load};
+ghost use Rattle.graph_relation.specs.Layouts.{shape_part};
+ghost use Rattle.graph_relation.specs.Words.{block_words};
+ghost use Rattle.graph_relation.specs.Shown.{heads, named, IsSized};
+ghost use Rattle.graph_relation.specs.Events.{GraphState, Follows, Guard, with_load};
 ghost use Rattle.heap_machine.specs.Operations.{place_of, heap_after, Fits};
 ghost use Rattle.heap_machine.specs.Readings.{StoresHeld, IsHeld};
 ghost use Rattle.heap_machine.specs.declared.pass.Pass.{Pass};
@@ -51,8 +51,8 @@ pub fn rows_stay_in_the_heap()
         → StoresHeld c (field_want (extent c) f) }
 {}
 
-/// A part is decided exactly behind its deciding event, of which there is one at most, and it has a
-/// reply only behind it. That never says that an object was made.
+/// A part is decided exactly after its linearization point, of which there is one at most, and it
+/// has a reply only behind it. That never says that an object was made.
 pub fn rows_decide_once()
     ensures first { (w : Width) (k : Command) → blocks_of w k ≡ 0
         → field_decided (first_row k) ≡ false }
@@ -66,9 +66,9 @@ pub fn rows_decide_once()
         → field_reply (field_got (extent c) f w).row ≡ Some (replies.New n) → ⊥ }
 {}
 
-/// At the deciding event the command answers what its step does on the graph of which the words
-/// that were read are, and that reply is given at the end, whatever becomes of the graph, where the
-/// name of the object that it refers to is read.
+/// At the linearization point the command answers what its step does on the graph of which the
+/// words that were read are, and that reply is given at the end, whatever becomes of the graph,
+/// where the name of the object that it refers to is read.
 pub fn rows_answer_as_steps()
     ensures decided { (c : Config) (head : Name → ℕ) (g : Graph) (f : FieldState) (w : ℕ)
         → is_row_of c f.pass f.command f.row ≡ true → is_deciding f.command f.row w ≡ true
@@ -83,7 +83,7 @@ pub fn rows_answer_as_steps()
 
 /// Each row is its event on the graph and its words: the words are those that the operation leaves,
 /// what the thread has loaded is what the next row has, the graph makes the command's step at the
-/// deciding event and else stays, and the event may come where it does.
+/// linearization point and else stays, and the event may come where it does.
 pub fn rows_are_events()
     ensures words { (c : Config) (h : Heap) (s : GraphState) (a : Name) (f : FieldState) (w : ℕ)
         → IsAtRow (extent c) s h f w
@@ -111,7 +111,7 @@ pub fn rows_are_events()
 /// Where the words show the graph and the thread has loaded what its row names, the row reads words
 /// that its places can hold, and these are what the graph says, the name of a reply's object among
 /// them: all but those of the write barrier and the look of `idle`, which the graph does not show.
-/// From the deciding event on the reply that is due is the step's answer.
+/// From the linearization point on the reply that is due is the step's answer.
 pub fn rows_read_the_graph()
     ensures reads { (c : Config) (m : ℕ) (kept : Name → Bool) (at : Name → ℕ
         → ℕ) (s : GraphState) (h : Heap)

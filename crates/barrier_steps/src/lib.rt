@@ -14,5 +14,5 @@ pub use laws::{
     rows_stay_in_the_heap, ways_lead_to_fields,
 };
 pub use pass::FieldPass;
-pub use rows::{FieldRow, FieldStore, Wanted, Way};
+pub use rows::{FieldRow, FieldStore, Purpose, TreePath};
 pub use rules::{rows_keep_the_heap, rows_keep_the_names, rows_leave_the_gate};

@@ -10,6 +10,7 @@ use block_store::{Payload, Shape, payload_word};
 use never_heap::Command;
 
 // The register that becomes something.
+#[inline(always)]
 pub(crate) fn to_register(command: Command) -> u8
     requires { IsCommandInRange command }
     ensures is { result ≡ Operands.to_register command }
@@ -26,6 +27,7 @@ pub(crate) fn to_register(command: Command) -> u8
 }
 
 // The register that is read first.
+#[inline(always)]
 pub(crate) fn from_register(command: Command) -> u8
     requires { IsCommandInRange command }
     ensures is { result ≡ Operands.from_register command }
@@ -42,6 +44,7 @@ pub(crate) fn from_register(command: Command) -> u8
 }
 
 // The other register that is read, which is the last.
+#[inline(always)]
 pub(crate) fn other_register(command: Command) -> u8
     requires { IsCommandInRange command }
     ensures is { result ≡ Operands.other_register command }
@@ -86,6 +89,7 @@ pub(crate) fn constant_word(command: Command) -> u64
 }
 
 // The number of the field, which an object of this shape has.
+#[inline(always)]
 pub(crate) fn field_index(command: Command, shape: Shape) -> u32
     requires shape { IsShape shape }
     requires within { Operands.field_index command < shape_length shape }
@@ -96,6 +100,7 @@ pub(crate) fn field_index(command: Command, shape: Shape) -> u32
 }
 
 // The number of the field; the object may lack it.
+#[inline(always)]
 fn index_named(command: Command) -> u64
     ensures { result ≡ Operands.field_index command }
 {

@@ -24,7 +24,7 @@ use crate::operands::{
     constant_word, expected_register, field_index, from_register, other_register, to_register,
 };
 use crate::walks::{field_at, length_of, link_at, links_to};
-use crate::{FieldRow, FieldStore, Wanted, Way};
+use crate::{FieldRow, FieldStore, Purpose, TreePath};
 use block_store::{
     Name, Payload, PhaseWord, Places, Shape, Value, Width, read_payload, read_shape, read_wide,
 };
@@ -91,6 +91,7 @@ fn object_in(word: u64) -> Value
 }
 
 // The place of a register.
+#[inline(always)]
 fn register(places: &Places, thread: u32, r: u8) -> usize
     requires thread { IsThread places.now thread }
     requires register { r < REGISTERS }
@@ -182,18 +183,18 @@ fn first_row(command: Command) -> FieldRow
     match command {
         Command::New { .. } | Command::Arr { .. } => unreachable!(),
         Command::Set { .. } | Command::Nil { .. } => FieldRow::StoreConstant,
-        Command::Mov { .. } => loading(Wanted::Copied),
-        Command::Get { .. } | Command::Put { .. } | Command::Len { .. } => loading(Wanted::Object),
-        Command::Swap { .. } | Command::Cas { .. } => loading(Wanted::Object),
+        Command::Mov { .. } => loading(Purpose::Copied),
+        Command::Get { .. } | Command::Put { .. } | Command::Len { .. } => loading(Purpose::Object),
+        Command::Swap { .. } | Command::Cas { .. } => loading(Purpose::Object),
         Command::Idle { .. } => FieldRow::IdleLook,
-        Command::Same { .. } => loading(Wanted::First),
-        Command::Say { .. } => loading(Wanted::Shown),
+        Command::Same { .. } => loading(Purpose::First),
+        Command::Say { .. } => loading(Purpose::Shown),
     }
 }
 
 // The load of a register.
 #[inline(always)]
-fn loading(wanted: Wanted) -> FieldRow
+fn loading(wanted: Purpose) -> FieldRow
     ensures { result ≡ FieldRow.LoadRegister wanted }
 {
     FieldRow::LoadRegister { wanted }
@@ -201,15 +202,17 @@ fn loading(wanted: Wanted) -> FieldRow
 
 // Which register it is.
 #[inline(always)]
-fn register_wanted(command: Command, wanted: Wanted) -> u8
+fn register_wanted(command: Command, wanted: Purpose) -> u8
     requires { IsCommandInRange command }
     ensures is { result ≡ Rows.register_wanted command wanted }
     ensures low { result < 16 }
 {
     match wanted {
-        Wanted::Expected { .. } => expected_register(command),
-        Wanted::Stored { .. } | Wanted::Second { .. } => other_register(command),
-        Wanted::Copied | Wanted::Object | Wanted::First | Wanted::Shown => from_register(command),
+        Purpose::Expected { .. } => expected_register(command),
+        Purpose::Stored { .. } | Purpose::Second { .. } => other_register(command),
+        Purpose::Copied | Purpose::Object | Purpose::First | Purpose::Shown => from_register(
+            command,
+        ),
     }
 }
 
@@ -232,7 +235,7 @@ fn after_object(payload: Payload) -> FieldRow
 }
 
 // At the block of the field.
-fn at_block(pass: Pass, command: Command, way: Way, word: u64) -> FieldRow
+fn at_block(pass: Pass, command: Command, way: TreePath, word: u64) -> FieldRow
     requires { IsSome (payload_of word) }
     ensures { result ≡ Rows.at_block pass command way word }
 {
@@ -250,7 +253,7 @@ fn at_block(pass: Pass, command: Command, way: Way, word: u64) -> FieldRow
 }
 
 // The next link of the way, while there is one.
-fn on_way(places: &Places, pass: Pass, command: Command, way: Way, word: u64) -> FieldRow
+fn on_way(places: &Places, pass: Pass, command: Command, way: TreePath, word: u64) -> FieldRow
     requires word { IsSome (payload_of word) }
     requires shape { IsShape way.shape }
     requires index { operands.field_index command < shape_length way.shape }
@@ -264,10 +267,10 @@ fn on_way(places: &Places, pass: Pass, command: Command, way: Way, word: u64) ->
 }
 
 // The way at its first block.
-fn way_from(shape: Shape, block: u32) -> Way
+fn way_from(shape: Shape, block: u32) -> TreePath
     ensures { result ≡ Rows.way_from shape block }
 {
-    Way {
+    TreePath {
         shape,
         level: 0,
         block,
@@ -287,8 +290,8 @@ fn after_shape(places: &Places, pass: Pass, command: Command, block: u32, shape:
     let way = way_from(shape, block);
     match command {
         Get { i, .. } if i < length => on_way(places, pass, command, way, 0),
-        Put { i, .. } | Swap { i, .. } if i < length => loading(Wanted::Stored { way }),
-        Cas { i, .. } if i < length => loading(Wanted::Expected { way }),
+        Put { i, .. } | Swap { i, .. } if i < length => loading(Purpose::Stored { way }),
+        Cas { i, .. } if i < length => loading(Purpose::Expected { way }),
         Get { .. } | Put { .. } | Swap { .. } | Cas { .. } => answered(Reply::Range),
         New { .. } | Arr { .. } | Set { .. } | Nil { .. } => answered(Reply::Len(length)),
         Mov { .. } | Len { .. } | Same { .. } | Say { .. } | Idle { .. } => {
@@ -302,7 +305,7 @@ fn after_link(
     places: &Places,
     pass: Pass,
     command: Command,
-    way: Way,
+    way: TreePath,
     word: u64,
     block: u32,
 ) -> FieldRow
@@ -313,7 +316,7 @@ fn after_link(
         (operands.field_index command) }
     ensures { result ≡ Rows.on_way (extent places.now) pass command (Rows.way_on way block) word }
 {
-    let next = Way {
+    let next = TreePath {
         level: way.level + 1,
         block,
         ..way
@@ -387,7 +390,7 @@ fn after_store(store: FieldStore, read: u64) -> FieldRow
 }
 
 // The place of the next link on a way to the field of a command.
-fn link(places: &Places, command: Command, way: Way) -> usize
+fn link(places: &Places, command: Command, way: TreePath) -> usize
     requires walk { IsWalk places.now (operands.field_index command) way }
     ensures { result
         ≡ index (extent places.now) (PayloadOf way.block (Walks.link_at (extent places.now)
@@ -400,7 +403,7 @@ fn link(places: &Places, command: Command, way: Way) -> usize
 }
 
 // The place of that field, at its block.
-fn field(places: &Places, command: Command, way: Way) -> usize
+fn field(places: &Places, command: Command, way: TreePath) -> usize
     requires walk { IsWalk places.now (operands.field_index command) way }
     ensures { result
         ≡ index (extent places.now) (PayloadOf way.block (Walks.field_at (extent places.now)
@@ -423,8 +426,7 @@ fn step_at(row: FieldRow) -> Step
 }
 
 impl FieldRow {
-    /// Whether the deciding event was made: the one at which the command takes its place among the
-    /// commands of all threads.
+    /// Whether the command is past its linearization point.
     pub fn decided(&self) -> bool
         ensures { result ≡ field_decided self.now }
     {
@@ -542,6 +544,7 @@ impl FieldPass {
     }
 
     // A store in the command's register.
+    #[inline(always)]
     fn store(&self, places: &Places, word: u64) -> Op
         requires thread { IsThread places.now self.now.pass.thread }
         requires command { IsCommandInRange self.now.command }
@@ -554,6 +557,7 @@ impl FieldPass {
     }
 
     // A load of a register.
+    #[inline(always)]
     fn load(&self, places: &Places, r: u8) -> Op
         requires thread { IsThread places.now self.now.pass.thread }
         requires register { r < REGISTERS }
@@ -591,19 +595,19 @@ impl FieldPass {
 
     // After a register in which this word stands.
     #[inline(always)]
-    fn after_register(&self, places: &Places, wanted: Wanted, read: u64) -> FieldRow
+    fn after_register(&self, places: &Places, wanted: Purpose, read: u64) -> FieldRow
         requires word { IsSome (payload_of read) }
         requires fits { WantedFits places.now self.now.command wanted }
         ensures { result
             ≡ Rows.after_register (extent places.now) self.now.pass self.now.command wanted read }
     {
-        use Wanted::*;
+        use Purpose::*;
 
         match wanted {
             Copied => before_store(self.pass, FieldStore::Moved { word: read }),
             Object => after_object(payload_in(read)),
             Expected { way } => loading(Stored {
-                way: Way {
+                way: TreePath {
                     expected: read,
                     ..way
                 },
@@ -616,8 +620,8 @@ impl FieldPass {
     }
 
     /// One event: this memory makes the operation of `want`, and the part moves on by the word that
-    /// it read, which is one that its place can hold, and at a link a reference. A part that is over
-    /// stays as it is.
+    /// it read, which is one that its place can hold, and at a link a reference. A part that is
+    /// over stays as it is.
     #[inline(always)]
     pub fn event<M: Memory>(&mut self, places: &Places, memory: &mut M, shared: &M::Shared) -> Step
         requires fits { FieldFits places.now self.old }
@@ -634,7 +638,7 @@ impl FieldPass {
     {
         use FieldRow::*;
         use FieldStore::*;
-        use Wanted::*;
+        use Purpose::*;
 
         // The row is made anew in each arm, so that the compiler leads each on its own way.
         match self.row {
@@ -700,8 +704,34 @@ impl FieldPass {
         step_at(next)
     }
 
-    /// Whether the deciding event was made: the one at which the command takes its place among the
-    /// commands of all threads.
+    /// One event of a command at this row, as `event` makes it: the answer is the row after it.
+    /// The caller keeps the row, so a caller that knows its kind needs no choice.
+    #[inline(always)]
+    pub fn event_at<M: Memory>(
+        pass: Pass,
+        command: Command,
+        row: FieldRow,
+        places: &Places,
+        memory: &mut M,
+        shared: &M::Shared,
+    ) -> FieldRow
+        requires fits { FitsAt places.now pass command row }
+        requires may { M.may memory.old shared.now
+            (op_at (extent places.now) (Rows.row_want (extent places.now) pass command row)) }
+        requires reads { ReadsOnly M.acts memory.old shared.now
+            (op_at (extent places.now) (Rows.row_want (extent places.now) pass command row))
+            (ReadsAt places.now pass command row) }
+        ensures acted { ActsOnce M.acts memory.old shared.now
+            (op_at (extent places.now) (Rows.row_want (extent places.now) pass command row))
+            memory.new (λ w. result ≡ Rows.row_got (extent places.now) pass command row w) }
+        ensures fits { FitsAt places.now pass command result }
+    {
+        let part = FieldPass { pass, command, row };
+        let word = memory.act(shared, &part.operation(places, row));
+        part.after(places, row, word)
+    }
+
+    /// Whether the command is past its linearization point.
     pub fn decided(&self) -> bool
         ensures { result ≡ field_decided self.now.row }
     {

@@ -6,7 +6,7 @@ use never_heap::Reply;
 
 /// How far a thread has come on the way to a field.
 #[derive(Clone, Copy, Debug, PartialEq, Eq)]
-pub struct Way {
+pub struct TreePath {
     /// What the object is, and how long.
     pub shape: Shape,
     /// How many links were followed.
@@ -25,24 +25,24 @@ pub enum FieldStore {
     /// `get` and `swap`: the field's word, which shows this value, in its register.
     Pending { word: u64, value: Value },
     /// `put`: the word in the field.
-    InField { way: Way, word: u64 },
+    InField { way: TreePath, word: u64 },
     /// `swap`: the word in the field, whose own word goes to the register.
-    Exchanged { way: Way, word: u64 },
+    Exchanged { way: TreePath, word: u64 },
     /// `cas`: the word in the field, where that has the expected one.
-    Compared { way: Way, word: u64 },
+    Compared { way: TreePath, word: u64 },
 }
 
 /// What a command loads a register for: which one that is, the command says.
 #[derive(Clone, Copy, Debug, PartialEq, Eq)]
-pub enum Wanted {
+pub enum Purpose {
     /// `mov`: for the word that it copies.
     Copied,
     /// All that look at an object: for the object to which it should refer.
     Object,
     /// `cas`: for the word with which the field is compared.
-    Expected { way: Way },
+    Expected { way: TreePath },
     /// `put`, `swap` and `cas`: for the word that they store.
-    Stored { way: Way },
+    Stored { way: TreePath },
     /// `same`: for the first word.
     First,
     /// `same`: for the second word, to be compared with the first.
@@ -56,14 +56,14 @@ pub enum Wanted {
 #[derive(Clone, Copy, Debug, PartialEq, Eq)]
 pub enum FieldRow {
     /// Loads a register.
-    LoadRegister { wanted: Wanted },
+    LoadRegister { wanted: Purpose },
     /// All that look at an object: loads its shape, at its first block.
     LoadShape { block: u32 },
     /// All that go to a field: loads the next link on the way to it. Of `get` the word is 0, and of
     /// the others the one that they store.
-    LoadLink { way: Way, word: u64 },
+    LoadLink { way: TreePath, word: u64 },
     /// `get`: loads the field.
-    LoadField { way: Way },
+    LoadField { way: TreePath },
     /// `get`, `swap` and `say`: loads the owner of the block to which the word refers that they
     /// have loaded.
     LoadOwner { word: u64 },

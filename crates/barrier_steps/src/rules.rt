@@ -12,8 +12,8 @@ ghost use Rattle.block_store.specs.Places.{Extent, extent, Phase, Cursor, Colour
 ghost use Rattle.never_heap.specs.declared.Command.{Command};
 ghost use Rattle.never_heap.specs.Graphs.{Graph};
 ghost use Rattle.never_heap.specs.Histories.{HistoryItem};
-ghost use Rattle.kept_names.specs.Kept.{IsKept};
-ghost use Rattle.kept_names.specs.Pictures.{Task, Names, picture};
+ghost use Rattle.name_invariant.specs.Kept.{IsKept};
+ghost use Rattle.name_invariant.specs.Pictures.{Task, Names, picture};
 ghost use Rattle.heap_machine.specs.Holdings.{Holding, holds_nothing, sweep_held};
 ghost use Rattle.heap_machine.specs.Operations.{place_of, heap_after};
 ghost use Rattle.heap_machine.specs.PhaseKept.{PhaseKept};
@@ -49,10 +49,10 @@ pub fn rows_keep_the_heap()
 {}
 
 /// In the phase and cycle of its pass each event keeps what is kept of the names, where the
-/// thread's task is its row's, and then the next row's. At the deciding event the graph makes the
-/// command's step and the order gets its entry; else both stay. The block to which a loaded
-/// reference is to be stored is not Free. From the deciding event on the step's answer is due. Each
-/// event reads what it may read, where each word is one that its place can hold.
+/// thread's task is its row's, and then the next row's. At the linearization point the graph makes
+/// the command's step and the order gets its entry; else both stay. The block to which a loaded
+/// reference is to be stored is not Free. From the linearization point on the step's answer is due.
+/// Each event reads what it may read, where each word is one that its place can hold.
 pub fn rows_keep_the_names()
     ensures kept { (c : Config) (g : Graph) (order : List HistoryItem) (h : Heap) (names : Names)
         (tasks : ℕ → Task) (f : FieldState) → FieldFits c f → field_reply f.row ≡ None

@@ -7,7 +7,7 @@ ghost use Rattle.block_store.specs.Widths.{payloads};
 ghost use Rattle.barrier_steps.specs.Walks;
 ghost use Rattle.barrier_steps.specs.Walks.{shape_length};
 
-use crate::Way;
+use crate::TreePath;
 use array_trees::{depth_of, path_of};
 use block_store::{Places, Shape};
 use object_lists::walk_of;
@@ -34,7 +34,7 @@ pub(crate) fn links_to(places: &Places, shape: Shape, index: u32) -> u32
 }
 
 // The payload of the next link.
-pub(crate) fn link_at(places: &Places, way: Way, index: u32) -> u32
+pub(crate) fn link_at(places: &Places, way: TreePath, index: u32) -> u32
     requires shape { IsShape way.shape }
     requires index { index < shape_length way.shape }
     requires level { way.level ≤ Walks.links_to (extent places.now) way.shape index }
@@ -48,7 +48,7 @@ pub(crate) fn link_at(places: &Places, way: Way, index: u32) -> u32
 }
 
 // The payload of the field in its block.
-pub(crate) fn field_at(places: &Places, way: Way, index: u32) -> u32
+pub(crate) fn field_at(places: &Places, way: TreePath, index: u32) -> u32
     requires shape { IsShape way.shape }
     requires index { index < shape_length way.shape }
     ensures is { result ≡ Walks.field_at (extent places.now) way.shape index }

@@ -12,13 +12,13 @@ use Rattle.never_heap.specs.Graphs.{Graph, next_name}
 use Rattle.never_heap.specs.Histories.{HistoryItem, Did}
 use Rattle.never_heap.specs.Steps.{blocks_of, step}
 use Rattle.never_heap.proofs.StepAnswers.{blocks_answer, blocks_make}
-use Rattle.kept_names.specs.Kept.{IsKept}
-use Rattle.kept_names.specs.Pictures.{Names, Task, picture}
+use Rattle.name_invariant.specs.Kept.{IsKept}
+use Rattle.name_invariant.specs.Pictures.{Names, Task, picture}
 use Rattle.heap_machine.specs.Holdings.{Holding}
 use Rattle.heap_machine.specs.Operations.{place_of, heap_after}
 use Rattle.build_steps.specs.declared.rows.BuildRow.{BuildRow}
 use Rattle.build_steps.specs.declared.rows.BuildRow.TheVariants.{ReadCount, Publish}
-use Rattle.build_steps.specs.Ends.{is_counting, is_publishing}
+use Rattle.build_steps.specs.LinearizationPoints.{is_counting, is_publishing}
 use Rattle.build_steps.specs.Fits.{RowFits}
 use Rattle.build_steps.specs.Naming.{
   IsPictured,

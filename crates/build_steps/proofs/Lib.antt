@@ -1,5 +1,5 @@
 pub mod Parts
-pub mod Ranges
+pub mod RowsFit
 pub mod WantedPlaces
 pub mod Held
 pub mod ReuseRulesKept
@@ -8,7 +8,7 @@ pub mod PublishedObject
 pub mod MarkRulesKept
 pub mod Together
 pub mod Once
-pub mod Ends
+pub mod LinearizationPoints
 pub mod Order
 pub mod Shapes
 pub mod BuildOfState

@@ -16,12 +16,12 @@ use Rattle.block_store.proofs.Functions.{funext, bit_le}
 use Rattle.never_heap.specs.Graphs.{Graph, count_of}
 use Rattle.never_heap.specs.Histories.{HistoryItem}
 use Rattle.never_heap.specs.Steps.{length_made}
-use Rattle.shown_graph.specs.Layouts.{layout_blocks}
-use Rattle.kept_names.specs.Building.{Build, IsHeldOnce}
-use Rattle.kept_names.specs.Events.{reserved, IsFreeBlock}
-use Rattle.kept_names.specs.Kept.{IsKept}
-use Rattle.kept_names.specs.Pictures.{Names, Task, picture}
-use Rattle.kept_names.proofs.HeldBlocks.{some_is}
+use Rattle.graph_relation.specs.Layouts.{layout_blocks}
+use Rattle.name_invariant.specs.Building.{Build, IsHeldOnce}
+use Rattle.name_invariant.specs.Events.{reserved, IsFreeBlock}
+use Rattle.name_invariant.specs.Kept.{IsKept}
+use Rattle.name_invariant.specs.Pictures.{Names, Task, picture}
+use Rattle.name_invariant.proofs.HeldBlocks.{some_is}
 use Rattle.heap_machine.specs.FreeBlocks.{FreeHolding}
 use Rattle.heap_machine.specs.Holdings.{Holding, free_held}
 use Rattle.heap_machine.specs.Operations.{place_of, heap_after}
@@ -41,13 +41,13 @@ use Rattle.build_steps.specs.declared.rows.BuildRow.TheVariants.{
   Built,
   Refused,
 }
-use Rattle.build_steps.specs.Ends.{decides, is_counting, is_publishing}
+use Rattle.build_steps.specs.LinearizationPoints.{decides, is_counting, is_publishing}
 use Rattle.build_steps.specs.Fits.{RowFits}
 use Rattle.build_steps.specs.Naming.{IsPictured, build_of, built_object, made_kind, row_build, with_task_build, word_read}
 use Rattle.build_steps.specs.Objects.{block_at}
 use Rattle.build_steps.specs.Rows.{BuildState, after_collect, after_colour, after_payload, after_take, build_got, build_want, built_at, held_got, holds_first, list_of, row_got, row_holding, row_want}
 use Rattle.build_steps.proofs.BuildOfState.{sized, thread_low}
-use Rattle.build_steps.proofs.Ends.{either}
+use Rattle.build_steps.proofs.LinearizationPoints.{either}
 use Rattle.build_steps.proofs.Held.{first_has, times_first}
 use Rattle.build_steps.proofs.Pictures.{
   collects,
@@ -58,7 +58,7 @@ use Rattle.build_steps.proofs.Pictures.{
   writes_payload,
   writes_shape,
 }
-use Rattle.build_steps.proofs.Ranges.{at_last, at_more, length_more}
+use Rattle.build_steps.proofs.RowsFit.{at_last, at_more, length_more}
 use Rattle.build_steps.proofs.Parts.{has_blocks}
 use Rattle.build_steps.proofs.Shapes.{payload_made, shape_made}
 

@@ -11,7 +11,7 @@ use Rattle.build_steps.specs.declared.rows.BuildRow.TheVariants.{
   WritePayload,
   WriteColour,
 }
-use Rattle.build_steps.specs.Ends.{is_writing}
+use Rattle.build_steps.specs.LinearizationPoints.{is_writing}
 use Rattle.build_steps.specs.Fits.{RowFits, BuildFits}
 use Rattle.build_steps.specs.Rows.{BuildState, row_got, build_got}
 use Rattle.build_steps.specs.Standing.{IsNextWord}

@@ -19,17 +19,17 @@ use Rattle.never_heap.specs.declared.Entry.{Entry}
 use Rattle.never_heap.specs.declared.Reply.TheVariants as replies
 use Rattle.never_heap.specs.Graphs.{Graph, ObjectKind, count_of, next_name, with_object, with_register}
 use Rattle.never_heap.specs.Histories.{HistoryItem, Did, IsAnswered, after}
-use Rattle.shown_graph.specs.Events.{Loading, IsPrompt, unloaded}
-use Rattle.shown_graph.specs.Layouts.{layout_blocks}
-use Rattle.shown_graph.specs.Made.{new_object}
-use Rattle.kept_names.specs.Building.{Build, build_in, build_blocks, build_owner, build_shape, build_payload, IsHeldOnce}
-use Rattle.kept_names.specs.Events.{KeptEvent, apply, Guard, collected, making, reserved, IsBuilding, IsFreeBlock, IsWriting}
-use Rattle.kept_names.specs.Events.KeptEvent.{Answer, Reserve, Collect, WriteOwner, WriteShape, WritePayload, WriteColour, Publish}
-use Rattle.kept_names.specs.Kept.{IsKept}
-use Rattle.kept_names.specs.Pictures.{Names, Task, picture}
-use Rattle.kept_names.specs.States.{KeptState}
-use Rattle.kept_names.proofs.ChangedTasks.{build_changed}
-use Rattle.kept_names.proofs.Steps.{step_kept}
+use Rattle.graph_relation.specs.Events.{Loading, IsPrompt, unloaded}
+use Rattle.graph_relation.specs.Layouts.{layout_blocks}
+use Rattle.graph_relation.specs.Made.{new_object}
+use Rattle.name_invariant.specs.Building.{Build, build_in, build_blocks, build_owner, build_shape, build_payload, IsHeldOnce}
+use Rattle.name_invariant.specs.Events.{KeptEvent, apply, Guard, collected, making, reserved, IsBuilding, IsFreeBlock, IsWriting}
+use Rattle.name_invariant.specs.Events.KeptEvent.{Answer, Reserve, Collect, WriteOwner, WriteShape, WritePayload, WriteColour, Publish}
+use Rattle.name_invariant.specs.Kept.{IsKept}
+use Rattle.name_invariant.specs.Pictures.{Names, Task, picture}
+use Rattle.name_invariant.specs.States.{KeptState}
+use Rattle.name_invariant.proofs.ChangedTasks.{build_changed}
+use Rattle.name_invariant.proofs.Steps.{step_kept}
 use Rattle.build_steps.specs.Naming.{names_made, with_task_build}
 
 -- to picture a thread at the build that it is at changes nothing

@@ -61,7 +61,7 @@ use Rattle.build_steps.specs.Rows.{
   building,
 }
 use Rattle.build_steps.specs.Fits.{BuildFits}
-use Rattle.build_steps.specs.Ends.{is_publishing, is_built}
+use Rattle.build_steps.specs.LinearizationPoints.{is_publishing, is_built}
 use Rattle.build_steps.specs.Standing.{
   IsWhole,
   left_of,
@@ -74,7 +74,7 @@ use Rattle.build_steps.specs.Standing.{
 }
 use Rattle.build_steps.proofs.Held.{times_more}
 use Rattle.build_steps.proofs.Parts.{links_onward}
-use Rattle.build_steps.proofs.Ranges.{fits_next}
+use Rattle.build_steps.proofs.RowsFit.{fits_next}
 use Rattle.build_steps.proofs.WrittenBlocks.{whole_elsewhere, keeps_standing, first_stands}
 use Rattle.build_steps.proofs.WantedPlaces.{register_in_range}
 

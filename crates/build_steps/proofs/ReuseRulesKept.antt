@@ -105,7 +105,7 @@ use Rattle.build_steps.specs.Rows.{
 }
 use Rattle.build_steps.specs.Fits.{RowFits, BuildFits}
 use Rattle.build_steps.proofs.Held.{times_more, times_first, first_few, first_all}
-use Rattle.build_steps.proofs.Ranges.{length_more}
+use Rattle.build_steps.proofs.RowsFit.{length_more}
 use Rattle.build_steps.proofs.WantedPlaces.{own_first, list_low}
 
 -- a thread that builds claims nothing

@@ -2,5 +2,5 @@ pub mod Objects
 pub mod Rows
 pub mod Fits
 pub mod Standing
-pub mod Ends
+pub mod LinearizationPoints
 pub mod Naming

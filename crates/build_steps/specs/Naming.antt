@@ -31,12 +31,12 @@ use Rattle.never_heap.specs.declared.Reply.{Reply}
 use Rattle.never_heap.specs.Graphs.{Graph, ObjectKind, Record, Array, next_name}
 use Rattle.never_heap.specs.Histories.{HistoryItem}
 use Rattle.never_heap.specs.Steps.{length_made}
-use Rattle.shown_graph.specs.Events.{unloaded}
-use Rattle.shown_graph.specs.Made.{with_blocks}
-use Rattle.kept_names.specs.Building.{Build}
-use Rattle.kept_names.specs.Kept.{IsKept}
-use Rattle.kept_names.specs.Pictures.{Names, Task, picture}
-use Rattle.kept_names.specs.States.{with_name}
+use Rattle.graph_relation.specs.Events.{unloaded}
+use Rattle.graph_relation.specs.Made.{with_blocks}
+use Rattle.name_invariant.specs.Building.{Build}
+use Rattle.name_invariant.specs.Kept.{IsKept}
+use Rattle.name_invariant.specs.Pictures.{Names, Task, picture}
+use Rattle.name_invariant.specs.States.{with_name}
 use Rattle.heap_machine.specs.Holdings.{Holding}
 use Rattle.heap_machine.specs.Operations.{place_of}
 use Rattle.heap_machine.specs.ReuseKept.{ReuseKept}

@@ -25,7 +25,7 @@ ghost use Rattle.heap_machine.specs.PhaseKept.{PhaseKept};
 ghost use Rattle.heap_machine.specs.ReuseKept.{ReuseKept};
 ghost use Rattle.build_steps.specs.Rows.{BuildState, built_at, built_payload, made_place, build_want, build_got, build_step, build_over, build_reply, build_holding, building, full_cycle};
 ghost use Rattle.build_steps.specs.Fits.{BuildFits, BuildReads};
-ghost use Rattle.build_steps.specs.Ends.{is_counting, is_writing, is_publishing, is_built, is_refused, decides, is_last};
+ghost use Rattle.build_steps.specs.LinearizationPoints.{is_counting, is_writing, is_publishing, is_built, is_refused, decides, is_last};
 ghost use Rattle.build_steps.specs.Standing.{left_of, IsNextWord, IsWhole, Stands, HeldOnce, IsElsewhere, AllRead, build_after, heap_written};
 ghost use Rattle.build_steps.specs.Objects.{made_part, block_at};
 ghost use Rattle.build_steps.specs.declared.rows.BuildRow.TheVariants.{WritePayload};
@@ -179,7 +179,7 @@ pub fn held_blocks_are_distinct()
         → is_free (h (ColourOf (built_at s o))) ≡ true }
 {}
 
-/// There is a reply exactly once the deciding event was made, which is the last: the one that
+/// There is a reply exactly once the linearization point was made, which is the last: the one that
 /// reads a free count below the object's blocks, or the one that publishes. The first is answered
 /// full, with the cycle before the part's, or 1 in cycle 1; the other new, with the name of the
 /// thread and serial.

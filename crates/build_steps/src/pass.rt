@@ -433,7 +433,7 @@ impl BuildPass {
 
     // Moves on from this row, which is the part's, and of which the operation read the word.
     #[inline(always)]
-    #[tactic(auto, using(crate::proofs::Ranges::fits_next))]
+    #[tactic(auto, using(crate::proofs::RowsFit::fits_next))]
     fn moves(&mut self, row: BuildRow, places: &Places, word: u64) -> Step
         requires fits { BuildFits places.now self.old }
         requires row { self.old.row ≡ row }

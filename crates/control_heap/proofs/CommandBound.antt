@@ -16,12 +16,12 @@ use Rattle.never_heap.specs.Histories.{part, replay}
 use Rattle.never_heap.specs.RightWork.{units_told, units_owed}
 use Rattle.heap_system.specs.Lives.{sum_after, objects_of, most_units, most_objects}
 use Rattle.heap_system.specs.Units.{IsRight}
-use Rattle.heap_system.proofs.Told.{entries_right}
+use Rattle.heap_system.proofs.RunLaws.{entries_right}
 use Rattle.control_heap.proofs.GrownJobs.{HasRoomFor, sum_more, sum_last, owed_works}
 use Rattle.never_heap.specs.Steps.{blocks_of}
 use Rattle.never_heap.proofs.HistoryGrowth.{part_append}
 use Rattle.barrier_steps.specs.Operands.{is_idle}
-use Rattle.lone_bound.specs.Prices.{allocation_bound, idle_bound, other_bound}
+use Rattle.solo_bound.specs.Prices.{allocation_bound, idle_bound, other_bound}
 use Rattle.heap_system.specs.Parts.{Rest}
 use Rattle.heap_system.specs.declared.Turn.{Turn}
 use Rattle.heap_system.specs.declared.Turn.TheVariants.{Went, Done}

@@ -8,7 +8,7 @@ use Rattle.control_heap.specs.declared.counted.Counted.{Counted}
 use Rattle.control_heap.specs.Calls.{HasAsked, MayAnswer}
 use Rattle.control_heap.specs.Controls.{ControlOf}
 use Rattle.control_heap.specs.Counting.{HasCounted, counted_acts}
-use Rattle.heap_system.specs.Courses.{Ran}
+use Rattle.heap_system.specs.ThreadMemories.{Ran}
 use Rattle.heap_system.specs.Locals.{LocalState, begun, local_got}
 
 abbrev pub count_end : ℕ

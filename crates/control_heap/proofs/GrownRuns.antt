@@ -11,7 +11,7 @@ use Rattle.never_heap.specs.Histories.{HistoryItem, replay}
 use Rattle.never_heap.specs.RightWork.{units_owed, units_told}
 use Rattle.never_heap.specs.Steps.{blocks_of}
 use Rattle.heap_machine.specs.Operations.{op_at, op_place, words_after}
-use Rattle.heap_system.specs.Parts.{Part, Rest, Enter, Serve, Mark, Sweep, Build, Again, Idle, TurnOver, Leave}
+use Rattle.heap_system.specs.Parts.{Part, Rest, Enter, Serve, Mark, Sweep, Build, Retry, ToChange, PhaseChange, Leave}
 use Rattle.heap_system.specs.Locals.{LocalState, Effect, IsLocal, PartFits, command_of, entries_of, balance_got, made_got, effect, part_want, part_got, local_got, is_done, is_rest}
 use Rattle.heap_system.specs.Machines.{State, Run, IsJob, local_at, no_local, heap_in, word_read, next_effect, event_done, has_event, items_by, next, after_turns}
 use Rattle.heap_system.specs.Naming.{renamed}
@@ -37,9 +37,9 @@ looks l fits going = by l.part fits.part going
     by (Mark m) f e = inl f.1
     by (Sweep s) f e = inl f.1
     by (Build b) f e = inl f.1
-    by Again f e = inl f
-    by Idle f e = inl f.0
-    by (TurnOver g) f e = inl f.3
+    by Retry f e = inl f
+    by ToChange f e = inl f.0
+    by (PhaseChange g) f e = inl f.3
     by Leave f e = inr refl
 
 module _ (t : ℕ) (k : Command) where

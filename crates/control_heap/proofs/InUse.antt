@@ -23,12 +23,12 @@ use Rattle.never_heap.proofs.NameLists.{same_itself}
 use Rattle.never_heap.proofs.ReachSteps.{reachable_named}
 use Rattle.never_heap.proofs.StartGraph.{threads_of_start}
 use Rattle.never_heap.proofs.UnchangedBySteps.{replay_shape}
-use Rattle.shown_graph.specs.Events.{pending_registers}
-use Rattle.shown_graph.specs.Words.{block_words}
-use Rattle.shown_graph.proofs.WordReads.{blocks_apart}
-use Rattle.kept_names.specs.States.{Kept}
-use Rattle.kept_names.proofs.FlipAndStart.{reached_kept}
-use Rattle.kept_names.proofs.ReachedBlocks.{reached_solid}
+use Rattle.graph_relation.specs.Events.{pending_registers}
+use Rattle.graph_relation.specs.Words.{block_words}
+use Rattle.graph_relation.proofs.WordReads.{blocks_apart}
+use Rattle.name_invariant.specs.States.{Kept}
+use Rattle.name_invariant.proofs.FlipAndStart.{reached_kept}
+use Rattle.name_invariant.proofs.ReachedBlocks.{reached_solid}
 use Rattle.heap_machine.specs.FreeBlocks.{count_free}
 use Rattle.heap_system.specs.Machines.{Run, heap_in}
 use Rattle.heap_system.specs.Pictures.{kept_state, tasks_in}

@@ -10,10 +10,10 @@ use Rattle.never_heap.specs.Histories.{HistoryItem, Started, replay, starts_in}
 use Rattle.never_heap.specs.Reach.{reachable}
 use Rattle.never_heap.proofs.CycleGrowth.{graph_at_more, graph_at_next}
 use Rattle.never_heap.proofs.HistoryGrowth.{starts_append}
-use Rattle.kept_names.specs.Pictures.{Names}
+use Rattle.name_invariant.specs.Pictures.{Names}
 use Rattle.cycle_tally.specs.InUse.{graph_then}
-use Rattle.build_steps.specs.Ends.{is_publishing}
-use Rattle.heap_system.specs.Parts.{Part, Rest, Enter, Serve, Mark, Sweep, Build, Again, Idle, TurnOver, Leave}
+use Rattle.build_steps.specs.LinearizationPoints.{is_publishing}
+use Rattle.heap_system.specs.Parts.{Part, Rest, Enter, Serve, Mark, Sweep, Build, Retry, ToChange, PhaseChange, Leave}
 use Rattle.heap_system.specs.Locals.{Effect, Verdict, Open, AsStep, Refused, command_of, effect}
 use Rattle.heap_system.specs.Machines.{Run, IsAfterTurns, IsJob, after_turns, entries_by, has_event, heap_in, items_by, local_at, next, next_effect, opened, starts_by}
 use Rattle.heap_system.specs.Naming.{Naming, Same, Lost, Begun, Shaded, Made, renamed}
@@ -47,9 +47,9 @@ begun_open c (Serve f) w is = not_begun Same (effect c (Serve f) w).verdict refl
 begun_open c (Mark m) w is = refl
 begun_open c (Sweep s) w is = refl
 begun_open c (Build b) w is = not_begun (effect c (Build b) w).naming (effect c (Build b) w).verdict (begun_builds (is_publishing b.row) _) is
-begun_open c Again w is = refl
-begun_open c Idle w is = refl
-begun_open c (TurnOver g) w is = refl
+begun_open c Retry w is = refl
+begun_open c ToChange w is = refl
+begun_open c (PhaseChange g) w is = refl
 begun_open c Leave w is = refl
 
 entries_start_none : (c : Config) (t : ℕ) (k : Command) (work : ℕ) (order : List HistoryItem) (v : Verdict) → starts_in (entries_by c t k work order v) ≡ 0

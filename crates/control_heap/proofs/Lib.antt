@@ -4,7 +4,7 @@ pub mod CommandBound
 pub mod GrownRuns
 pub mod Histories
 pub mod Items
-pub mod Left
+pub mod LifeLeft
 pub mod OpeningRun
 pub mod Fitting
 pub mod KnownAtStart
@@ -17,3 +17,4 @@ pub mod GrownJobs
 pub mod ServeLoop
 pub mod Counts
 pub mod SeenRead
+pub mod StillUnused

@@ -12,7 +12,7 @@ use Rattle.never_heap.specs.declared.Command.{Command}
 use Rattle.never_heap.specs.Histories.{Started}
 use Rattle.heap_system.specs.Locals.{LocalState, at_start, works}
 use Rattle.heap_system.specs.Machines.{State, Run, IsJob, IsOpening, opened}
-use Rattle.heap_system.specs.Openings.{opening_heap}
+use Rattle.heap_system.specs.InitialHeaps.{opening_heap}
 use Rattle.control_heap.specs.Controls.{Stands, with_history}
 
 pub stands_first : {M : Type 0} (m : M) (c : Config) → IsInBounds c → IsAdmitted c → c.threads ≡ 1 → (ws : List ℕ) → length ws ≡ words_count (extent c) → ((p : Place) → in_range (extent c) p ≡ true → heap_of (extent c) ws p ≡ opening_heap c p)

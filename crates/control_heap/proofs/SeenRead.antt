@@ -10,18 +10,20 @@ use Rattle.block_store.specs.declared.TheConstants.{REGISTERS}
 use Rattle.block_store.specs.Heaps.{Heap, heap_of}
 use Rattle.block_store.specs.declared.Payload.TheVariants as payload_words
 use Rattle.block_store.proofs.PayloadWords.{payload-code}
-use Rattle.block_store.specs.Places.{ShapeOf, OwnerOf, extent}
+use Rattle.block_store.specs.Places.{PayloadOf, ShapeOf, OwnerOf, extent}
+use Rattle.block_store.specs.Registers.{register_block, register_slot}
 use Rattle.never_heap.specs.Graphs.{Graph, Object, ObjectKind, Record, Array, field_of, has_name, mutator_at, object_of, register_of}
 use Rattle.never_heap.specs.Histories.{replay}
-use Rattle.shown_graph.specs.Layouts.{kind_shape}
-use Rattle.shown_graph.specs.Shown.{IsValueOf, heads}
-use Rattle.shown_graph.specs.Words.{block_words, value_word}
-use Rattle.shown_graph.proofs.ObjectLayouts.{object_layout}
-use Rattle.shown_graph.proofs.WordReads.{owner_read}
+use Rattle.graph_relation.specs.Layouts.{kind_shape}
+use Rattle.graph_relation.specs.Shown.{IsValueOf, heads}
+use Rattle.graph_relation.specs.Words.{block_words, value_word}
+use Rattle.graph_relation.proofs.ObjectLayouts.{object_layout}
+use Rattle.graph_relation.proofs.WordReads.{owner_read}
 use Rattle.barrier_steps.specs.Rows.{object_in, object_or_nil, shape_in}
 use Rattle.barrier_steps.specs.Walks.{shape_length}
 use Rattle.heap_system.specs.Machines.{Run}
 use Rattle.control_heap.specs.Controls.{ControlOf, Stands}
+use Rattle.control_heap.specs.Images.{HasRun, Image}
 use Rattle.control_heap.specs.Readings.{block_read, field_read, payload_block, value_read}
 use Rattle.control_heap.specs.Seen.{HasSeen, IsSeen, IsSeenAt, fields_seen, kind_seen, value_seen, word_seen}
 use Rattle.control_heap.specs.declared.control.seen.Seen.{Seen}
@@ -184,20 +186,40 @@ module _ {M : Type 0} (s : ControlOf M) (r : Run) (st : Stands s r) where
   pub sixteen : length (mutator_at shown 0).registers ≡ 16
   sixteen = (shows s r st).sized.sixteen 0 (let one = st.single in omega (arith, one))
 
--- as the calls say it, of the value of the heap
-pub register_seen_now : {M : Type 0} (h now : ControlOf M) → h ≡ now → (q : ℕ) → q < REGISTERS → (x : Seen) → x ≡ word_seen (heap_of (extent h.config) h.words) (register_at h q)
-    → (r : Run) → Stands now r → (x.value ≡ register_of (replay now.config r.order) 0 q) × IsSeen r x
-register_seen_now h now same q ql x is r st =
-    subst (λ y. (z : Stands y r) → (x.value ≡ register_of (replay y.config r.order) 0 q) × IsSeen r x) same
-    (λ z. let t = register_seen h r z q ql in (ap value_seen is ∙ t.value, subst (IsSeen r) (sym is) t.seen)) st
+-- as the calls say it, of the value of an image
+abbrev pub seen_in : Image → ℕ → Seen
+seen_in i q = word_seen (heap_of (extent i.config) i.words) (heap_of (extent i.config) i.words (PayloadOf (register_block i.config.width 0 q) (register_slot i.config.width q)))
 
-pub fields_seen_now : {M : Type 0} (h now : ControlOf M) → h ≡ now → (x : ℕ) (xs : List Seen)
-    → xs ≡ fields_seen (extent h.config) (heap_of (extent h.config) h.words) (shape_in (heap_of (extent h.config) h.words (ShapeOf x))) x (shape_length (shape_in (heap_of (extent h.config) h.words (ShapeOf x))))
-    → (r : Run) (a : Name) → Stands now r → IsSeenAt r (Ref a) x → HasSeen r (object_of (replay now.config r.order) a) xs
-fields_seen_now h now same x xs is r a st at =
-    subst (λ y. (z : Stands y r) → HasSeen r (object_of (replay y.config r.order) a) xs) same (λ z. (fields_told h r z x a at xs is).0) st
+abbrev pub shape_word : Image → ℕ → ℕ
+shape_word i x = heap_of (extent i.config) i.words (ShapeOf x)
 
-pub kind_seen_now : {M : Type 0} (h now : ControlOf M) → h ≡ now → (x : ℕ) (f : Shape) → f ≡ shape_in (heap_of (extent h.config) h.words (ShapeOf x))
-    → (r : Run) (a : Name) → Stands now r → IsSeenAt r (Ref a) x → kind_seen f ≡ (object_of (replay now.config r.order) a).kind
-kind_seen_now h now same x f is r a st at =
-    subst (λ y. (z : Stands y r) → kind_seen f ≡ (object_of (replay y.config r.order) a).kind) same (λ z. kind_told h r z x a at f is) st
+abbrev pub all_seen_in : Image → ℕ → List Seen
+all_seen_in i x = fields_seen (extent i.config) (heap_of (extent i.config) i.words) (shape_in (shape_word i x)) x (shape_length (shape_in (shape_word i x)))
+
+pub register_seen_now : (i now : Image) → i ≡ now → (q : ℕ) → q < REGISTERS → (x : Seen) → x ≡ seen_in i q
+    → (r : Run) → HasRun now r → (x.value ≡ register_of (replay now.config r.order) 0 q) × IsSeen r x
+register_seen_now i now same q ql x is r has =
+    subst (λ (y : Image). x ≡ seen_in y q → (x.value ≡ register_of (replay y.config r.order) 0 q) × IsSeen r x) has.same
+    (λ told. let t = register_seen has.heap r has.stands q ql in (ap value_seen told ∙ t.value, subst (IsSeen r) (sym told) t.seen))
+    (is ∙ ap (λ y. seen_in y q) same)
+
+pub fields_seen_now : (i now : Image) → i ≡ now → (x : ℕ) (xs : List Seen) → xs ≡ all_seen_in i x
+    → (r : Run) (a : Name) → HasRun now r → IsSeenAt r (Ref a) x → HasSeen r (object_of (replay now.config r.order) a) xs
+fields_seen_now i now same x xs is r a has at =
+    subst (λ (y : Image). xs ≡ all_seen_in y x → HasSeen r (object_of (replay y.config r.order) a) xs) has.same
+    (λ told. (fields_told has.heap r has.stands x a at xs told).0)
+    (is ∙ ap (λ y. all_seen_in y x) same)
+
+pub kind_seen_now : (i now : Image) → i ≡ now → (x : ℕ) (f : Shape) → f ≡ shape_in (shape_word i x)
+    → (r : Run) (a : Name) → HasRun now r → IsSeenAt r (Ref a) x → kind_seen f ≡ (object_of (replay now.config r.order) a).kind
+kind_seen_now i now same x f is r a has at =
+    subst (λ (y : Image). f ≡ shape_in (shape_word y x) → kind_seen f ≡ (object_of (replay y.config r.order) a).kind) has.same
+    (λ told. kind_told has.heap r has.stands x a at f told)
+    (is ∙ ap (λ y. shape_in (shape_word y x)) same)
+
+-- of an image
+pub exists_in : (i : Image) (r : Run) (has : HasRun i r) (x : ℕ) (a : Name) → IsSeenAt r (Ref a) x → has_name (replay i.config r.order) a ≡ true
+exists_in i r has x a at = subst (λ (y : Image). has_name (replay y.config r.order) a ≡ true) has.same (exists has.heap r has.stands x a at)
+
+pub sixteen_in : (i : Image) (r : Run) → HasRun i r → length (mutator_at (replay i.config r.order) 0).registers ≡ 16
+sixteen_in i r has = subst (λ (y : Image). length (mutator_at (replay y.config r.order) 0).registers ≡ 16) has.same (sixteen has.heap r has.stands)

@@ -8,7 +8,7 @@ use Rattle.never_heap.specs.Bounds.{IsCommandInBounds}
 use Rattle.heap_machine.specs.Memories.{Acts}
 use Rattle.heap_machine.specs.Operations.{op_place, words_after, HasActed, MayAct}
 use Rattle.heap_machine.specs.declared.op.Op.{Op}
-use Rattle.heap_system.specs.Courses.{HasRunOn, IsGoing, MayRun, Ran}
+use Rattle.heap_system.specs.ThreadMemories.{HasRunOn, IsGoing, MayRun, Ran}
 use Rattle.heap_system.specs.declared.Turn.{Turn}
 use Rattle.heap_system.specs.Locals.{LocalState, LocalReads, begun, is_done, local_got, op_wanted}
 use Rattle.heap_system.specs.Machines.{Run}

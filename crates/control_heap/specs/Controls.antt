@@ -14,7 +14,7 @@ use Rattle.heap_machine.specs.Memories.{Acts}
 use Rattle.heap_machine.specs.Operations.{op_place, words_after}
 use Rattle.heap_system.specs.declared.Turn.TheVariants.{Went}
 use Rattle.heap_system.specs.Alone.{IsQuiet, after_alone, command_bound, command_near}
-use Rattle.heap_system.specs.Courses.{Ran}
+use Rattle.heap_system.specs.ThreadMemories.{Ran}
 use Rattle.heap_system.specs.Lives.{sum_after, objects_of, most_commands, most_objects, most_units}
 use Rattle.heap_system.specs.Locals.{LocalState, begun, is_done, local_got, op_wanted, works}
 use Rattle.heap_system.specs.Machines.{Run, IsAfterTurns, answer, local_in, opened}

@@ -3,7 +3,9 @@ pub mod Controls
 pub mod Counting
 pub mod Gauges
 pub mod Growth
+pub mod Images
 pub mod Readings
 pub mod Refusals
 pub mod WayBack
 pub mod Seen
+pub mod Unused

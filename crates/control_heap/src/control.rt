@@ -13,11 +13,12 @@ ghost use Rattle.block_store.specs.Places.{Place, ColourOf, extent, in_range, wo
 ghost use Rattle.heap_machine.specs.FreeBlocks.{count_free};
 ghost use Rattle.heap_system.specs.Lives.{objects_of, most_units, most_objects};
 ghost use Rattle.heap_system.specs.Machines.{Run};
-ghost use Rattle.heap_system.specs.Openings.{opening_heap};
+ghost use Rattle.heap_system.specs.InitialHeaps.{opening_heap};
 ghost use Rattle.control_heap.specs.Controls.{ControlOf, CanOpen, HasLeft, Stands, HasAnswered, HasMade, ServedBy, HasBegun, asked, units};
 ghost use Rattle.control_heap.specs.Calls.{MayAnswer};
 ghost use Rattle.control_heap.specs.Gauges.{live_or_made, most_operations};
 ghost use Rattle.control_heap.specs.Refusals.{IsOpenFault, IsRefused};
+ghost use Rattle.control_heap.specs.Unused.{IsUnused};
 
 mod reads;
 mod seen;
@@ -31,7 +32,7 @@ use heap_machine::Words;
 use heap_system::{Local, opening};
 use never_heap::{Command, Reply};
 use rate_plan::{PlanFault, plan};
-pub use seen::Seen;
+pub use seen::{Seen, Snapshot};
 use std::alloc::Global;
 use std::marker::Model;
 
@@ -118,6 +119,13 @@ fn objects_of(command: Command) -> u64
         Command::New { .. } | Command::Arr { .. } => 1,
         _ => 0,
     }
+}
+
+// Whether there are no commands yet, and this is the first cycle.
+fn is_first(commands: u64, cycle: u64) -> bool
+    ensures { IsTrue result ↔ ((commands ≡ 0) × (cycle ≡ 1)) }
+{
+    commands == 0 && cycle == 1
 }
 
 // Makes the thread's events until its command is done.
@@ -211,6 +219,13 @@ impl ControlHeap {
         ensures { (r : Run) → Stands self.now r → result ≡ starts_in r.order }
     {
         cycle_in(&self.config, &self.memory)
+    }
+
+    /// Whether it is as `open` made it: no command was done on it. Reads one word.
+    pub fn is_unused(&self) -> bool
+        ensures { IsTrue result ↔ IsUnused self.now }
+    {
+        is_first(self.count, self.cycle())
     }
 
     /// How many blocks are free. Reads one word.

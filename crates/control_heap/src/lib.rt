@@ -15,7 +15,7 @@ mod tests;
 #[cfg(test)]
 mod watch_tests;
 
-pub use control::{ControlHeap, OpenFault, Refused, Seen};
+pub use control::{ControlHeap, OpenFault, Refused, Seen, Snapshot};
 pub use counted::{Counted, operations_of};
 pub use faults::Fault;
 pub use laws::{

@@ -4,7 +4,7 @@ use Rattle.std.proofs.lemmas.Bool.{leb-true}
 use Rattle.block_store.specs.declared.Width.{Width}
 use Rattle.block_store.specs.declared.Width.TheVariants.{Four, Eight}
 use Rattle.block_store.specs.Configs.{IsInBounds}
-use Rattle.array_trees.specs.Openings.{opening_blocks}
+use Rattle.array_trees.specs.InitialHeaps.{opening_blocks}
 use Rattle.array_trees.specs.Trees.{tree}
 use Rattle.rate_plan.specs.Rates.{KeepsUp}
 use Rattle.never_heap.specs.declared.Reply.TheVariants as replies

@@ -10,13 +10,13 @@ use Rattle.never_heap.specs.Cycles.{graph_at}
 use Rattle.never_heap.specs.Given.{given}
 use Rattle.never_heap.specs.LiveBlocks.{live_blocks, object_blocks}
 use Rattle.never_heap.specs.Reach.{reachable}
-use Rattle.kept_names.specs.Building.{IsBuilt}
-use Rattle.kept_names.specs.Colouring.{IsDark}
-use Rattle.kept_names.specs.States.{KeptState}
-use Rattle.kept_names.specs.Kept.{IsKept}
-use Rattle.kept_names.specs.Events.KeptEvent.{Start}
-use Rattle.kept_names.specs.Events.{Guard}
-use Rattle.kept_names.proofs.ReachedBlocks.{marked_is}
+use Rattle.name_invariant.specs.Building.{IsBuilt}
+use Rattle.name_invariant.specs.Colouring.{IsDark}
+use Rattle.name_invariant.specs.States.{KeptState}
+use Rattle.name_invariant.specs.Kept.{IsKept}
+use Rattle.name_invariant.specs.Events.KeptEvent.{Start}
+use Rattle.name_invariant.specs.Events.{Guard}
+use Rattle.name_invariant.proofs.ReachedBlocks.{marked_is}
 use Rattle.cycle_tally.specs.Entries.{InThreads}
 use Rattle.cycle_tally.specs.InUse.{ReachedOrMade, IsCovered, count_free}
 use Rattle.cycle_tally.proofs.InUse.{few_in_use}

@@ -20,7 +20,7 @@ use Rattle.cycle_tally.specs.Tallies.{Spending, Tally, claims, units, given_now,
 use Rattle.cycle_tally.specs.Events.{Event, apply, run, Guarded}
 use Rattle.cycle_tally.specs.Entries.{entries_in, InThreads}
 use Rattle.cycle_tally.specs.Kept.{most_work, SpendingKept, live_before, TallyKept}
-use Rattle.cycle_tally.specs.Openings.{Opened}
+use Rattle.cycle_tally.specs.InitialHeaps.{Opened}
 use Rattle.cycle_tally.specs.Bounds.{AsksNothing, Bound}
 use Rattle.cycle_tally.proofs.Sums.{given_nought, no_claims}
 use Rattle.cycle_tally.proofs.CycleUnits.{one_less, few_units, all_given_now}

@@ -10,7 +10,7 @@ pub mod BlockLists
 pub mod MadeNames
 pub mod InUse
 pub mod KeptStart
-pub mod Openings
-pub mod Smalls
+pub mod InitialHeaps
+pub mod CountBounds
 pub mod GuardTests
 pub mod Example

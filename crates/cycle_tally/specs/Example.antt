@@ -12,7 +12,7 @@ use Rattle.never_heap.specs.declared.Reply.{Reply}
 use Rattle.never_heap.specs.declared.Reply.TheVariants as replies
 use Rattle.cycle_tally.specs.Tallies.{Tally}
 use Rattle.cycle_tally.specs.Events.{Event, Enter, Leave, SetCursor, Flip, Start, Paint, Scan, Claim, Pass, Clear, Credit, Reserve, Publish, Refuse, Answer, Next, run}
-use Rattle.cycle_tally.specs.Openings.{opening_tally}
+use Rattle.cycle_tally.specs.InitialHeaps.{opening_tally}
 
 -- ten blocks, of which six may be live
 abbrev pub small : Width → Config

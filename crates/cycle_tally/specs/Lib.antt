@@ -4,5 +4,5 @@ pub mod Events
 pub mod Kept
 pub mod Bounds
 pub mod InUse
-pub mod Openings
+pub mod InitialHeaps
 pub mod Example

@@ -1,6 +1,6 @@
-pub mod Ranges
+pub mod RowsFit
 pub mod GreyRuleKept
-pub mod Ends
+pub mod MarkUnits
 pub mod Tricolours
 pub mod Solids
 pub mod Together

@@ -16,17 +16,17 @@ use Rattle.heap_machine.specs.Operations.{place_of, heap_after}
 use Rattle.heap_machine.proofs.GreyBlocks.{scan_is_grey}
 use Rattle.never_heap.specs.Graphs.{Graph}
 use Rattle.never_heap.specs.Histories.{HistoryItem}
-use Rattle.shown_graph.specs.Events.{HasValue}
-use Rattle.kept_names.specs.Events.{loaded_word}
-use Rattle.kept_names.specs.Kept.{IsKept}
-use Rattle.kept_names.specs.Pictures.{Task, Names, picture}
-use Rattle.kept_names.specs.States.{KeptState}
-use Rattle.kept_names.proofs.ColourEvents.{reads_word, shades_read, blackens, shades_loaded}
-use Rattle.kept_names.proofs.ChangedTasks.{scan_changed}
-use Rattle.kept_names.proofs.KeptStates.{scanned}
+use Rattle.graph_relation.specs.Events.{HasValue}
+use Rattle.name_invariant.specs.Events.{loaded_word}
+use Rattle.name_invariant.specs.Kept.{IsKept}
+use Rattle.name_invariant.specs.Pictures.{Task, Names, picture}
+use Rattle.name_invariant.specs.States.{KeptState}
+use Rattle.name_invariant.proofs.ColourEvents.{reads_word, shades_read, blackens, shades_loaded}
+use Rattle.name_invariant.proofs.ChangedTasks.{scan_changed}
+use Rattle.name_invariant.proofs.KeptStates.{scanned}
 use Rattle.grey_steps.specs.declared.rows.GreyRow.{GreyRow}
 use Rattle.grey_steps.specs.declared.rows.GreyRow.TheVariants.{Take, Pop, ScanWord, Shade, Blacken, Put, Scanned, NothingGrey, TakeOwn, ShadeStored, PutOwn, Shaded}
-use Rattle.grey_steps.specs.Ends.{is_shading, block_stored}
+use Rattle.grey_steps.specs.MarkUnits.{is_shading, block_stored}
 use Rattle.grey_steps.specs.Fits.{RowFits, GreyFits}
 use Rattle.grey_steps.specs.Rows.{GreyState, list_of, row_want, row_got, after_take, after_word, after_scan, after_black, shaded_hand, grey_want, grey_got, grey_holding, holding_at}
 use Rattle.grey_steps.proofs.GreyRuleKept.{low_thread}

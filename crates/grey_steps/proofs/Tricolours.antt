@@ -16,8 +16,8 @@ use Rattle.heap_machine.specs.Tricolour.{TricolourHolding, no_tricolour, NotWhit
 use Rattle.heap_machine.proofs.Tricolours.{colours, HeldAt, held_as, held_colour, goes_on, lets_go, kept_colour}
 use Rattle.grey_steps.specs.declared.rows.GreyRow.{GreyRow}
 use Rattle.grey_steps.specs.declared.rows.GreyRow.TheVariants.{Take, Pop, ScanWord, Shade, Blacken, Put, Scanned, NothingGrey, TakeOwn, ShadeStored, PutOwn, Shaded}
-use Rattle.grey_steps.specs.Ends.{is_blackening, is_shading, grey_after}
-use Rattle.grey_steps.proofs.Ends.{shade_is_over, scan_is_over}
+use Rattle.grey_steps.specs.MarkUnits.{is_blackening, is_shading, grey_after}
+use Rattle.grey_steps.proofs.MarkUnits.{shade_is_over, scan_is_over}
 use Rattle.grey_steps.specs.Rows.{GreyState, list_of, row_want, row_got, after_word, after_take, after_scan, after_black, after_stored, shaded_hand, grey_want, grey_got, grey_over, grey_holding, holding_at, scanning, shading}
 use Rattle.grey_steps.specs.Fits.{RowFits, GreyFits}
 use Rattle.grey_steps.proofs.GreyRuleKept.{low_thread}

@@ -1,3 +1,3 @@
 pub mod Rows
 pub mod Fits
-pub mod Ends
+pub mod MarkUnits

@@ -19,7 +19,7 @@ ghost use Rattle.heap_machine.specs.Readings.{StoresHeld};
 ghost use Rattle.grey_steps.specs.Rows.{GreyState, list_of, grey_want, grey_got, grey_over, grey_unit, grey_nothing, holding_at, scanning, shading};
 ghost use Rattle.grey_steps.specs.Fits.{GreyFits, GreyReads};
 ghost use Rattle.grey_steps.specs.declared.rows.GreyRow.TheVariants.{Shaded};
-ghost use Rattle.grey_steps.specs.Ends.{is_blackening, is_putting, grey_after, begins_with_zeros};
+ghost use Rattle.grey_steps.specs.MarkUnits.{is_blackening, is_putting, grey_after, begins_with_zeros};
 
 /// The first states fit their heap, and a state that fits becomes one that fits. Such a state wants
 /// a place of the heap, adds and takes away nothing, and stores what the place can hold.

@@ -10,7 +10,7 @@ ghost use Rattle.heap_machine.specs.Operations.{op_at, CompareExchange};
 ghost use Rattle.heap_machine.specs.Memories.{ReadsOnly, ActsOnce};
 ghost use Rattle.grey_steps.specs.Rows;
 ghost use Rattle.grey_steps.specs.Rows.{GreyState, grey_want, grey_got, grey_step, grey_unit, grey_nothing, grey_over, scanning, shading};
-ghost use Rattle.grey_steps.specs.Ends.{is_blackening, grey_outcome};
+ghost use Rattle.grey_steps.specs.MarkUnits.{is_blackening, grey_outcome};
 ghost use Rattle.grey_steps.specs.Fits.{GreyFits, GreyReads};
 
 use crate::GreyRow;
@@ -404,7 +404,7 @@ impl GreyPass {
 
     // The event of this row, which is the part's.
     #[inline(always)]
-    #[tactic(auto, using(crate::proofs::Ranges::next_fits))]
+    #[tactic(auto, using(crate::proofs::RowsFit::next_fits))]
     fn makes<M: Memory>(
         &mut self,
         row: GreyRow,

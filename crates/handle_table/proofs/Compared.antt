@@ -3,7 +3,7 @@ use Rattle.std.proofs.Common.{◌≡◌, ℕ, ◌+◌, ◌*◌, ◌==◌, ◌&&�
 use Rattle.std.proofs.lemmas.Bool.{cases_eq}
 use Rattle.block_store.specs.declared.Name.{Name}
 use Rattle.block_store.specs.declared.Value.{Value}
-use Rattle.block_store.specs.declared.Value.TheVariants.{Nil, Int, Ref}
+use Rattle.block_store.specs.declared.Value.TheVariants.{Nil, Ref}
 use Rattle.never_heap.specs.declared.Reply.{Reply}
 use Rattle.never_heap.specs.declared.Reply.TheVariants.{Yes, No}
 use Rattle.never_heap.specs.Graphs.{Graph, Object}
@@ -12,28 +12,25 @@ use Rattle.handle_table.specs.Handles.{Matched, Found, Slot, holds, is_free, is_
 use Rattle.handle_table.proofs.Boxes.{box_name, Shows}
 
 -- boxes are the same where their handles are
-same_box : (u l t j : ℕ) → (u == t) && (2 * l + 2 == 2 * j + 2) ≡ (u == t) && (l == j)
+same_box : (u l t j : ℕ)
+    → (u == t) && (2 * l + 1 + 1 == 2 * j + 1 + 1) ≡ (u == t) && (l == j)
 same_box u l t j = ap (λ (b : Bool). (u == t) && b) (elim (cases_eq l j) [
-  | inl e ↦ eq-eqb (2 * l + 2) (2 * j + 2) (omega arith) ∙ sym (eq-eqb l j e)
-  | inr ne ↦ ne_eqb (2 * l + 2) (2 * j + 2) (λ e. ne (omega arith)) ∙ sym (ne_eqb l j ne)
+  | inl e ↦ eq-eqb _ _ (omega arith) ∙ sym (eq-eqb l j e)
+  | inr ne ↦ ne_eqb _ _ (λ e. ne (omega arith)) ∙ sym (ne_eqb l j ne)
 ])
 
 pub same_handle : (obj : Name → Object) (out : ℕ → ℕ) (x : Value) (slot : Slot) (t j : ℕ)
     → Shows obj out x slot → same_value x (Ref (box_name t j)) ≡ holds slot t j
 same_handle obj out Nil None t j s = refl
-same_handle obj out Nil (Some c) t j s = absurd s
-same_handle obj out (Int m) slot t j s = absurd s
-same_handle obj out (Ref a) None t j s = absurd s
 same_handle obj out (Ref a) (Some c) t j s =
     ap (λ (b : Name). same_value (Ref b) (Ref (box_name t j))) s.0 ∙ same_box c.0 c.1 t j
+same_handle obj out _ _ t j s = absurd s
 
 pub same_nil : (obj : Name → Object) (out : ℕ → ℕ) (x : Value) (slot : Slot)
     → Shows obj out x slot → same_value x Nil ≡ is_free slot
 same_nil obj out Nil None s = refl
-same_nil obj out Nil (Some c) s = absurd s
-same_nil obj out (Int m) slot s = absurd s
-same_nil obj out (Ref a) None s = absurd s
 same_nil obj out (Ref a) (Some c) s = refl
+same_nil obj out _ _ s = absurd s
 
 pub yes_of : (b : Bool) (g k : Graph)
     → is_yes (cond {A = Graph × Reply} b (k, Yes) (g, No)).1 ≡ b

@@ -8,7 +8,7 @@ use Rattle.array_trees.proofs.Counts.{few_shared}
 use Rattle.never_heap.specs.declared.Command.{Command}
 use Rattle.never_heap.specs.Bounds.{IsCommandInBounds}
 use Rattle.never_heap.specs.Jobs.{IsTraceInBounds, IsJobInBounds}
-use Rattle.never_heap.proofs.Ranges.{plain_fits}
+use Rattle.never_heap.proofs.CommandBounds.{plain_fits}
 use Rattle.operations.specs.Linearizations.{traces_of}
 use Rattle.operations.proofs.Pairs.{◌▸◌}
 use Rattle.handle_table.specs.declared.operation.Operation.{Operation}
@@ -27,7 +27,12 @@ module _ (n slots blocks t : ℕ) (few_slots : slots ≤ 512) (few_threads : t <
       record { range = omega arith; blocks = omega arith; units = omega arith; version = tt }
       ▸ plain_fits refl refl tt (omega (arith, all.0.2))
       ▸ plain_fits refl refl tt (omega arith)
-      ▸ record { range = omega (arith, all.0.0); blocks = omega arith; units = omega arith; version = tt }
+      ▸ record {
+        range = omega (arith, all.0.0);
+        blocks = omega arith;
+        units = omega arith;
+        version = tt;
+      }
       ▸ plain_fits refl refl tt (omega (arith, all.0.0))
       ▸ plain_fits refl refl tt (omega (arith, few_threads, few))
       ▸ plain_fits refl refl tt (omega (arith, all.0.0))
@@ -61,13 +66,11 @@ module _ (n slots blocks t : ℕ) (few_slots : slots ≤ 512) (few_threads : t <
   few_commands : (k : ℕ) (ops : List Operation) → length (commands_from t k ops) ≤ 9 * length ops
   few_commands k [] = omega arith
   few_commands k (said.Make h i x ∷ ops) = omega (arith, few_commands (k + 1) ops)
-  few_commands k (said.See h i ∷ ops) = omega (arith, few_commands (k + 0) ops)
-  few_commands k (said.Drop h i ∷ ops) = omega (arith, few_commands (k + 0) ops)
-  few_commands k (said.Take i ∷ ops) = omega (arith, few_commands (k + 0) ops)
-  few_commands k (said.Evict i ∷ ops) = omega (arith, few_commands (k + 0) ops)
+  few_commands k (op ∷ ops) = omega (arith, few_commands (k + 0) ops)
 
   trace_fits : (ops : List Operation) → IsScriptInRange slots ops
-      → IsTraceInBounds (handle_config n slots blocks) (map command_at (flat_map rows_of (deeds_of t ops)))
+      → IsTraceInBounds (handle_config n slots blocks)
+      (map command_at (flat_map rows_of (deeds_of t ops)))
   trace_fits ops s =
       subst (IsTraceInBounds (handle_config n slots blocks)) (sym (commands_are t 0 (λ h. 0) ops))
       (record {
@@ -88,7 +91,8 @@ all_fit n slots blocks u (ops ∷ scripts) few_slots few all = (
 pub jobs_fit : (n slots blocks : ℕ) (scripts : List (List Operation)) → 1 ≤ n → n ≤ 16
     → slots ≤ 512 → 1 ≤ blocks → blocks ≤ 65535 → length scripts ≡ n
     → AllByRecursion (IsScriptInRange slots) scripts
-    → IsJobInBounds (handle_config n slots blocks) (traces_of rows_of command_at (all_deeds 0 scripts))
+    → IsJobInBounds (handle_config n slots blocks)
+    (traces_of rows_of command_at (all_deeds 0 scripts))
 jobs_fit n slots blocks scripts some few few_slots some_block few_blocks count all = record {
   config = record {
     some_thread = some;
@@ -100,7 +104,8 @@ jobs_fit n slots blocks scripts some few few_slots some_block few_blocks count a
     object = omega arith;
     shared = omega (arith, few_slots);
   };
-  threads = length-map (all_deeds 0 scripts) (λ (ops : List Deed). map command_at (flat_map rows_of ops))
+  threads = length-map (all_deeds 0 scripts)
+      (λ (ops : List Deed). map command_at (flat_map rows_of ops))
       ∙ deeds_count 0 scripts ∙ count;
   each = all_fit n slots blocks 0 scripts few_slots (omega (arith, count, few)) all;
 }

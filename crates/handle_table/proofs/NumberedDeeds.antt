@@ -1,11 +1,15 @@
--- The deeds of scripts: of whom they are, how they are numbered, and which commands they have.
-use Rattle.std.proofs.Common.{◌≡◌, ℕ, zero, suc, ◌+◌, ◌<◌, inl, inr, cond, Option, Some, None, List, [], ◌∷◌, ◌++◌, length, map, slice_index_or, eq-eqb, ne_eqb, sym, refl, ap, ◌∙◌, subst, arith}
+-- The deeds of scripts: of whom they are, how they are numbered and stand behind their makes, and
+-- which commands they have.
+use Rattle.std.proofs.Common.{◌≡◌, ◌≢◌, ℕ, zero, suc, ◌+◌, ◌-◌, ◌<◌, ◌≤◌, ◌==◌, ◌&&◌, inl, inr, cond, true, Option, Some, None, List, [], ◌∷◌, ◌++◌, length, map, slice_index_or, sym, refl, ap, ◌∙◌, subst, arith}
 use Rattle.std.specs.Prelude.{flat_map}
+use Rattle.std.specs.List.{AllByRecursion}
 use Rattle.std.proofs.lemmas.Bool.{cases_eq}
 use Rattle.never_heap.specs.declared.Command.{Command}
+use Rattle.operations.specs.Linearizations.{Call}
+use Rattle.operations.proofs.Calls.{ops_of, ops_here, ops_there}
 use Rattle.handle_table.specs.declared.operation.Operation.{Operation}
 use Rattle.handle_table.specs.declared.operation.Operation.TheVariants as said
-use Rattle.handle_table.specs.Handles.{last_after, AreNumbered, numbered, deeds_of, all_deeds, slot_by, slot_behind, slot_of, AreInTurn, rows_of, command_at, commands_of, commands_from, sizes_of}
+use Rattle.handle_table.specs.Handles.{Deed, Make, See, Drop, Take, Evict, Answer, last_after, AreNumbered, numbered, deeds_of, all_deeds, slot_by, slot_behind, slot_of, AreInTurn, rows_of, command_at, commands_of, commands_from, sizes_of}
 
 -- the slot behind one operation more
 pub slot_more : (h : ℕ) (slot : Option ℕ) (before : List Operation) (op : Operation)
@@ -13,63 +17,152 @@ pub slot_more : (h : ℕ) (slot : Option ℕ) (before : List Operation) (op : Op
 slot_more h slot [] op = refl
 slot_more h slot (b ∷ before) op = slot_more h (slot_by h slot b) before op
 
--- each h of which a make is known has its number
-abbrev AreKnown : List Operation → (ℕ → ℕ) → Type 0
-AreKnown before last = (h i : ℕ) → slot_of h before ≡ Some i → 0 < last h
+-- the slot of make j of thread t
+abbrev pub made_in : ℕ → ℕ → Option ℕ → Deed → Option ℕ
+made_in t j slot (Make u l h i x) = cond ((u == t) && (l == j)) (Some i) slot
+made_in t j slot _ = slot
 
-known_more : (before : List Operation) (last new : ℕ → ℕ) (op : Operation)
-    → ((h i : ℕ) → slot_by h (slot_of h before) op ≡ Some i → 0 < new h)
-    → AreKnown (before ++ op ∷ []) new
-known_more before last new op k h i e = k h i (sym (slot_more h None before op) ∙ e)
+-- where this is the slot of make j of thread t, or there was none: it is made once, and what is
+-- about it comes behind its make and at its slot
+abbrev pub Stands : ℕ → ℕ → Option ℕ → Deed → Type 0
+Stands t j slot (Make u l h i x) = (u == t) && (l == j) ≡ true → slot ≡ None
+Stands t j slot (See u l h i) = (u == t) && (l == j) ≡ true → slot ≡ Some i
+Stands t j slot (Drop u l h i) = (u == t) && (l == j) ≡ true → slot ≡ Some i
+Stands t j slot _ = Unit {0}
 
-known_made : (before : List Operation) (last : ℕ → ℕ) (n g i x : ℕ) → AreKnown before last
-    → AreKnown (before ++ said.Make g i x ∷ []) (last_after last g (n + 1))
-known_made before last n g i x known = known_more before last (last_after last g (n + 1)) (said.Make g i x)
-    (λ h k e. elim (cases_eq g h) [
-      | inl y ↦ subst (λ b. 0 < cond b (n + 1) (last h)) (sym (eq-eqb g h y)) (omega arith)
-      | inr ne ↦ subst (λ b. 0 < cond b (n + 1) (last h)) (sym (ne_eqb g h ne))
-          (known h k (sym (ap (λ b. cond b (Some i) (slot_of h before)) (ne_eqb g h ne)) ∙ e))
-    ])
+abbrev pub AllStand : ℕ → ℕ → Option ℕ → List Deed → Type 0
+AllStand t j slot [] = Unit {0}
+AllStand t j slot (op ∷ ops) = Stands t j slot op × AllStand t j (made_in t j slot op) ops
 
-pub numbered_so : (slots t n : ℕ) (last : ℕ → ℕ) (before ops : List Operation)
-    → AreKnown before last → AreInTurn slots before ops
-    → AreNumbered slots t n last (numbered t n last ops)
-numbered_so slots t n last before [] known s = tt
-numbered_so slots t n last before (said.Make h i x ∷ ops) known s = (
-  (refl, refl, s.0.0, s.0.1),
-  numbered_so slots t (n + 1) (last_after last h (n + 1)) (before ++ said.Make h i x ∷ []) ops
-      (known_made before last n h i x known) s.1,
-)
-numbered_so slots t n last before (said.See h i ∷ ops) known s =
-    let made = known h i s.0.2 in (
-      (refl, omega (arith, made), s.0.0, s.0.1),
-      numbered_so slots t n last (before ++ said.See h i ∷ []) ops
-          (known_more before last last (said.See h i) known) s.1,
-    )
-numbered_so slots t n last before (said.Drop h i ∷ ops) known s =
-    let made = known h i s.0.2 in (
-      (refl, omega (arith, made), s.0.0, s.0.1),
-      numbered_so slots t n last (before ++ said.Drop h i ∷ []) ops
-          (known_more before last last (said.Drop h i) known) s.1,
-    )
-numbered_so slots t n last before (said.Take i ∷ ops) known s = (
-  s.0,
-  numbered_so slots t n last (before ++ said.Take i ∷ []) ops
-      (known_more before last last (said.Take i) known) s.1,
-)
-numbered_so slots t n last before (said.Evict i ∷ ops) known s = (
-  s.0,
-  numbered_so slots t n last (before ++ said.Evict i ∷ []) ops
-      (known_more before last last (said.Evict i) known) s.1,
-)
+-- a deed of thread w, which has fewer than m makes
+abbrev pub IsOwn : ℕ → ℕ → ℕ → Deed → Type 0
+IsOwn slots m w (Make u l h i x) = (u ≡ w) × (l < m) × (i < slots)
+IsOwn slots m w (See u l h i) = (u ≡ w) × (i < slots)
+IsOwn slots m w (Drop u l h i) = (u ≡ w) × (i < slots)
+IsOwn slots m w (Take i) = i < slots
+IsOwn slots m w (Evict i) = i < slots
 
--- operations that can stand have numbered deeds
-pub are_numbered : (slots t : ℕ) (ops : List Operation) → AreInTurn slots [] ops
-    → AreNumbered slots t 0 (λ h. 0) (deeds_of t ops)
-are_numbered slots t ops s = numbered_so slots t 0 (λ h. 0) [] ops (λ h i e. absurd (none i e)) s
-  where
-    none : (i : ℕ) → None ≡ Some i → ⊥
-    none i e = cc
+pub same_both : (t j : ℕ) → (t == t) && (j == j) ≡ true
+same_both t j = grind arith
+
+-- ---- behind n makes, of which the last of each h is known
+
+module _ (slots m t j : ℕ) where
+  abbrev pub Numbered : ℕ → (ℕ → ℕ) → Option ℕ → List Deed → Type 0
+  Numbered n last slot ops = AreNumbered slots t n last ops × AllStand t j slot ops
+      × AllByRecursion (IsOwn slots m t) ops
+
+  -- each h with a slot has a make, and the slot of make j is known behind it
+  record Knows (n : ℕ) (last : ℕ → ℕ) (slot : Option ℕ) (before : List Operation) : Type 0 where
+    early : n ≤ j → slot ≡ None
+    known : (h i : ℕ) → slot_of h before ≡ Some i
+        → (0 < last h) × (last h ≤ n) × (last h ≡ j + 1 → slot ≡ Some i)
+
+  still : (n : ℕ) (last : ℕ → ℕ) (slot : Option ℕ) (before : List Operation) (op : Operation)
+      → ((h : ℕ) (o : Option ℕ) → slot_by h o op ≡ o) → Knows n last slot before
+      → Knows n last slot (before ++ op ∷ [])
+  still n last slot before op quiet k = record {
+    early = k.early;
+    known = λ h i e.
+        k.known h i (sym (quiet h (slot_of h before)) ∙ sym (slot_more h None before op) ∙ e);
+  }
+
+  made_early : (n i : ℕ) (slot : Option ℕ) → (n ≤ j → slot ≡ None) → n + 1 ≤ j
+      → cond ((t == t) && (n == j)) (Some i) slot ≡ None
+  made_early n i slot early low = grind arith
+
+  made_known : (n g h i k l : ℕ) (was slot : Option ℕ)
+      → (was ≡ Some k → (0 < l) × (l ≤ n) × (l ≡ j + 1 → slot ≡ Some k))
+      → cond (g == h) (Some i) was ≡ Some k
+      → (0 < cond (g == h) (n + 1) l) × (cond (g == h) (n + 1) l ≤ n + 1)
+      × (cond (g == h) (n + 1) l ≡ j + 1 → cond ((t == t) && (n == j)) (Some i) slot ≡ Some k)
+  made_known n g h i k l was slot old e = grind arith
+
+  made : (n g i x : ℕ) (last : ℕ → ℕ) (slot : Option ℕ) (before : List Operation)
+      → Knows n last slot before
+      → Knows (n + 1) (last_after last g (n + 1)) (made_in t j slot (Make t n g i x))
+      (before ++ said.Make g i x ∷ [])
+  made n g i x last slot before k = record {
+    early = made_early n i slot k.early;
+    known = λ h q e. made_known n g h i q (last h) (slot_of h before) slot (k.known h q)
+        (sym (slot_more h None before (said.Make g i x)) ∙ e);
+  }
+
+  is_next : (n : ℕ) → (t == t) && (n == j) ≡ true → n ≤ j
+  is_next n e = grind arith
+
+  is_last : (l : ℕ) → 0 < l → (t == t) && (l - 1 == j) ≡ true → l ≡ j + 1
+  is_last l some e = grind arith
+
+  numbered_so : (n : ℕ) (last : ℕ → ℕ) (slot : Option ℕ) (before ops : List Operation)
+      → Knows n last slot before → n + length ops ≤ m → AreInTurn slots before ops
+      → Numbered n last slot (numbered t n last ops)
+  numbered_so n last slot before [] k few s = (tt, tt, tt)
+  numbered_so n last slot before (said.Make h i x ∷ ops) k few s =
+      let more = numbered_so (n + 1) (last_after last h (n + 1)) (made_in t j slot (Make t n h i x))
+      (before ++ said.Make h i x ∷ []) ops (made n h i x last slot before k)
+      (omega (arith, few)) s.1 in (
+        ((refl, refl, s.0.0, s.0.1), more.0),
+        (λ e. k.early (is_next n e), more.1),
+        ((refl, omega (arith, few), s.0.1), more.2),
+      )
+  numbered_so n last slot before (said.See h i ∷ ops) k few s =
+      let more = numbered_so n last slot (before ++ said.See h i ∷ []) ops
+      (still n last slot before (said.See h i) (λ g o. refl) k) (omega (arith, few)) s.1 in
+      let own = k.known h i s.0.2 in (
+        ((refl, omega (arith, own.0), s.0.0, s.0.1), more.0),
+        (λ e. own.2 (is_last (last h) own.0 e), more.1),
+        ((refl, s.0.1), more.2),
+      )
+  numbered_so n last slot before (said.Drop h i ∷ ops) k few s =
+      let more = numbered_so n last slot (before ++ said.Drop h i ∷ []) ops
+      (still n last slot before (said.Drop h i) (λ g o. refl) k) (omega (arith, few)) s.1 in
+      let own = k.known h i s.0.2 in (
+        ((refl, omega (arith, own.0), s.0.0, s.0.1), more.0),
+        (λ e. own.2 (is_last (last h) own.0 e), more.1),
+        ((refl, s.0.1), more.2),
+      )
+  numbered_so n last slot before (op ∷ ops) k few s =
+      let more = numbered_so n last slot (before ++ op ∷ []) ops
+      (still n last slot before op (λ g o. refl) k) (omega (arith, few)) s.1 in
+      ((s.0, more.0), (tt, more.1), (s.0, more.2))
+
+  -- the deeds of a script
+  pub so_numbered : (ops : List Operation) → length ops ≤ m → AreInTurn slots [] ops
+      → Numbered 0 (λ h. 0) None (deeds_of t ops)
+  so_numbered ops few s = numbered_so 0 (λ h. 0) None [] ops
+      (record { early = λ e. refl; known = λ h i e. absurd (none i e) }) (omega (arith, few)) s
+    where
+      none : (i : ℕ) → None ≡ Some i → ⊥
+      none i e = cc
+
+-- ---- an order, of which each thread's calls are its own
+
+abbrev pub deeds_in : List (Call Deed Answer) → List Deed
+deeds_in ds = map (λ (d : Call Deed Answer). d.operation) ds
+
+abbrev pub IsOwnCall : ℕ → ℕ → Call Deed Answer → Type 0
+IsOwnCall slots m d = IsOwn slots m d.thread d.operation
+
+module _ (t j slots m : ℕ) where
+  others : (w : ℕ) (op : Deed) (slot : Option ℕ) → IsOwn slots m w op → w ≢ t
+      → Stands t j slot op × (made_in t j slot op ≡ slot)
+  others w op slot own ne = grind arith
+
+  -- what stands in the thread stands in the order
+  pub all_stand : (ds : List (Call Deed Answer)) (slot : Option ℕ)
+      → AllByRecursion (IsOwnCall slots m) ds → AllStand t j slot (ops_of t ds)
+      → AllStand t j slot (deeds_in ds)
+  all_stand [] slot own s = tt
+  all_stand (d ∷ ds) slot own s = elim (cases_eq d.thread t) [
+    | inl e ↦ (let here = subst (AllStand t j slot) (ops_here d ds t e) s in
+        (here.0, all_stand ds (made_in t j slot d.operation) own.1 here.1))
+    | inr ne ↦ (let away = others d.thread d.operation slot own.0 ne in (
+      away.0,
+      subst (λ (o : Option ℕ). AllStand t j o (deeds_in ds)) (sym away.1)
+          (all_stand ds slot own.1 (subst (AllStand t j slot) (ops_there d ds t ne) s)),
+    ))
+  ]
 
 -- ---- the deeds of all threads
 
@@ -78,11 +171,13 @@ pub deeds_at : (u : ℕ) (scripts : List (List Operation)) (t : ℕ)
 deeds_at u [] t = refl
 deeds_at u (ops ∷ scripts) zero = ap (λ (k : ℕ). deeds_of k ops) (omega arith)
 deeds_at u (ops ∷ scripts) (suc t) =
-    deeds_at (u + 1) scripts t ∙ ap (λ (k : ℕ). deeds_of k (slice_index_or scripts t [])) (omega arith)
+    deeds_at (u + 1) scripts t
+    ∙ ap (λ (k : ℕ). deeds_of k (slice_index_or scripts t [])) (omega arith)
 
 pub deeds_of_thread : (scripts : List (List Operation)) (t : ℕ)
     → slice_index_or (all_deeds 0 scripts) t [] ≡ deeds_of t (slice_index_or scripts t [])
-deeds_of_thread scripts t = deeds_at 0 scripts t ∙ ap (λ (k : ℕ). deeds_of k (slice_index_or scripts t [])) (omega arith)
+deeds_of_thread scripts t =
+    deeds_at 0 scripts t ∙ ap (λ (k : ℕ). deeds_of k (slice_index_or scripts t [])) (omega arith)
 
 pub deeds_count : (u : ℕ) (scripts : List (List Operation))
     → length (all_deeds u scripts) ≡ length scripts
@@ -94,7 +189,8 @@ pub all_numbered : (slots : ℕ) (scripts : List (List Operation))
     → AreNumbered slots t 0 (λ h. 0) (slice_index_or (all_deeds 0 scripts) t [])
 all_numbered slots scripts inside t =
     subst (AreNumbered slots t 0 (λ h. 0)) (sym (deeds_of_thread scripts t))
-    (are_numbered slots t (slice_index_or scripts t []) (inside t))
+    (so_numbered slots (length (slice_index_or scripts t [])) t 0 (slice_index_or scripts t [])
+    (omega arith) (inside t)).0
 
 -- ---- their commands
 
@@ -104,17 +200,8 @@ commands_are t n last [] = refl
 commands_are t n last (said.Make h i x ∷ ops) =
     ap (λ (l : List Command). commands_of t n (said.Make h i x) ++ l)
     (commands_are t (n + 1) (last_after last h (n + 1)) ops)
-commands_are t n last (said.See h i ∷ ops) =
-    ap (λ (l : List Command). commands_of t n (said.See h i) ++ l)
-    (commands_are t n last ops ∙ ap (λ (k : ℕ). commands_from t k ops) (omega arith))
-commands_are t n last (said.Drop h i ∷ ops) =
-    ap (λ (l : List Command). commands_of t n (said.Drop h i) ++ l)
-    (commands_are t n last ops ∙ ap (λ (k : ℕ). commands_from t k ops) (omega arith))
-commands_are t n last (said.Take i ∷ ops) =
-    ap (λ (l : List Command). commands_of t n (said.Take i) ++ l)
-    (commands_are t n last ops ∙ ap (λ (k : ℕ). commands_from t k ops) (omega arith))
-commands_are t n last (said.Evict i ∷ ops) =
-    ap (λ (l : List Command). commands_of t n (said.Evict i) ++ l)
+commands_are t n last (op ∷ ops) =
+    ap (λ (l : List Command). commands_of t n op ++ l)
     (commands_are t n last ops ∙ ap (λ (k : ℕ). commands_from t k ops) (omega arith))
 
 -- and how many these are
@@ -123,7 +210,4 @@ pub sizes_are : (t n : ℕ) (last : ℕ → ℕ) (ops : List Operation)
 sizes_are t n last [] = refl
 sizes_are t n last (said.Make h i x ∷ ops) =
     omega (arith, sizes_are t (n + 1) (last_after last h (n + 1)) ops)
-sizes_are t n last (said.See h i ∷ ops) = omega (arith, sizes_are t n last ops)
-sizes_are t n last (said.Drop h i ∷ ops) = omega (arith, sizes_are t n last ops)
-sizes_are t n last (said.Take i ∷ ops) = omega (arith, sizes_are t n last ops)
-sizes_are t n last (said.Evict i ∷ ops) = omega (arith, sizes_are t n last ops)
+sizes_are t n last (op ∷ ops) = omega (arith, sizes_are t n last ops)

@@ -6,7 +6,8 @@ use Rattle.never_heap.specs.Licensed.{NoFulls}
 use Rattle.never_heap.specs.Runs.{IsRun}
 use Rattle.operations.specs.Applications.{ops_in}
 use Rattle.operations.specs.Linearizations.{Call, calls_of, answers_told, replies_in, traces_of, IsLinearization}
-use Rattle.operations.proofs.Applied.{Owes, ordered, as_many_replies}
+use Rattle.operations.proofs.Applied.{Owes, applied, as_many_replies}
+use Rattle.operations.proofs.LinearizedRuns.{linearized}
 use Rattle.operations.proofs.Pairs.{◌▸◌}
 use Rattle.operations.proofs.Tables.{nowhere, spot_of, IsProper}
 use Rattle.handle_table.specs.declared.operation.Operation.{Operation}
@@ -19,33 +20,27 @@ use Rattle.handle_table.proofs.SlotTable.{kept, weights}
 pub whole : (op : Deed) (rows : List Row)
     → ops_in decides (rows_of op ++ rows) ≡ op ∷ ops_in decides rows
 whole (Make t j q i x) rows = refl
-whole (See t j q i) rows = refl
-whole (Drop t j q i) rows = refl
-whole (Take i) rows = refl
-whole (Evict i) rows = refl
+whole _ rows = refl
 
 -- nothing is known before the first row of a script
 at_first : (slots : ℕ) (ops : List Deed) (c : Slot)
     → spot_of (kept slots) (flat_map rows_of ops) c ≡ nowhere
 at_first slots [] c = refl
 at_first slots (Make t j q i x ∷ ops) c = refl
-at_first slots (See t j q i ∷ ops) c = refl
-at_first slots (Drop t j q i ∷ ops) c = refl
-at_first slots (Take i ∷ ops) c = refl
-at_first slots (Evict i ∷ ops) c = refl
+at_first slots (op ∷ ops) c = refl
 
 proper : (slots t n : ℕ) (last : ℕ → ℕ) (ops : List Deed) → AreNumbered slots t n last ops
     → IsProper (kept slots) t (record { done = n; last = last }) (flat_map rows_of ops)
 proper s t n last [] low = tt
 proper s t n last (Make u j q i x ∷ ops) low =
     let f = low.0 in
-    (f, λ c. refl) ▸ (f, λ c. refl) ▸ (f, λ c. refl) ▸ (f, λ c. refl) ▸ (f, λ c. refl)
+    (tt, λ c. refl) ▸ (tt, λ c. refl) ▸ (tt, λ c. refl) ▸ (f, λ c. refl) ▸ (f, λ c. refl)
     ▸ (f, λ c. refl) ▸ (f, λ c. refl) ▸ (f, λ c. refl) ▸ (f, at_first s ops)
     ▸ proper s t (n + 1) (last_after last q (n + 1)) ops low.1
 proper s t n last (See u j q i ∷ ops) low =
     (low.0, λ c. refl) ▸ (low.0, at_first s ops) ▸ proper s t n last ops low.1
 proper s t n last (Drop u j q i ∷ ops) low =
-    (low.0, λ c. refl) ▸ (low.0, at_first s ops) ▸ proper s t n last ops low.1
+    (tt, λ c. refl) ▸ (low.0, at_first s ops) ▸ proper s t n last ops low.1
 proper s t n last (Take i ∷ ops) low =
     (low.0, λ c. refl) ▸ (tt, λ c. refl) ▸ (tt, λ c. refl) ▸ (tt, at_first s ops)
     ▸ proper s t n last ops low.1
@@ -77,7 +72,8 @@ slots_owe n slots blocks scripts count numbered = record {
 pub slots_are_kept : (n slots blocks rate : ℕ) (scripts : List (List Operation))
     (h : List HistoryItem) → length scripts ≡ n
     → ((t : ℕ) → AreInTurn slots [] (slice_index_or scripts t []))
-    → IsRun (handle_config n slots blocks) rate (traces_of rows_of command_at (all_deeds 0 scripts)) h
+    → IsRun (handle_config n slots blocks) rate
+    (traces_of rows_of command_at (all_deeds 0 scripts)) h
     → (order : List (Call Deed Answer))
     × IsLinearization rows_of decides ends answer slots_after (empty_slots slots)
     (all_deeds 0 scripts) h order
@@ -87,16 +83,18 @@ pub slots_are_kept : (n slots blocks rate : ℕ) (scripts : List (List Operation
 slots_are_kept n slots blocks rate scripts h count inside run =
     let c = handle_config n slots blocks in
     let deeds = all_deeds 0 scripts in
-    let all = ordered (kept slots) c rows_of deeds (slots_owe n slots blocks deeds
-    (deeds_count 0 scripts ∙ count) (all_numbered slots scripts inside)) rate h run in (
+    let all = linearized (applied (kept slots) c rows_of deeds (slots_owe n slots blocks deeds
+    (deeds_count 0 scripts ∙ count) (all_numbered slots scripts inside))) rate h run in (
       all.0,
       all.1,
       λ t.
           let same = deeds_of_thread scripts t in
           by_chunks t 0 (λ h. 0) (slice_index_or scripts t []) (replies_in t h)
-          (calls_of t all.0) (all.1.each t ∙ same)
-          (all.1.told t ∙ ap (λ (ops : List Deed). answers_told ends [] (flat_map rows_of ops)
-          (replies_in t h)) same)
+          (calls_of t all.0) (
+            all.1.each t ∙ same,
+            all.1.told t ∙ ap (λ (ops : List Deed).
+                answers_told ends [] (flat_map rows_of ops) (replies_in t h)) same,
+          )
           (subst (λ (ops : List Deed). length (flat_map rows_of ops) ≤ length (replies_in t h)) same
           (omega (arith, as_many_replies c rate rows_of command_at deeds h run t))),
       all.2,

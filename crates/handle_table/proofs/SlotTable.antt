@@ -4,7 +4,7 @@ use Rattle.operations.proofs.Records.{reply_by}
 use Rattle.operations.proofs.Tables.{Sym, Empty, Number, Own, Shown, Meant, Hold, Is, Has, Spot, nowhere, making, telling, Table}
 use Rattle.operations.proofs.Weights.{Weights, light_own, all_light}
 use Rattle.handle_table.specs.Handles.{Deed, Answer, Matched, Found, Slot, id, holds, shown, answer, slots_after, Row, NewItem, SetNumber, PutNumber, NewBox, PutItem, SetId, PutId, Clean, Claim, Look, Compare, Calm, Release, Fetch, Blank, Withdraw, TellId, TellItem, TellNumber, command_at, decides, ends, last_after}
-use Rattle.handle_table.proofs.Boxes.{Shows, Other, Item, Means, shows_move, means_move, box_shape, rest, limit, weigh, rests_light, handle_limit, of_shown, of_meant}
+use Rattle.handle_table.proofs.Boxes.{Shows, Other, Item, Means, shows_move, means_move, box_shape, two, rest, limit, weigh, rests_light, handle_limit, of_shown, of_meant}
 
 abbrev follow : Row → Option Row
 follow (NewItem u j h i x) = Some (SetNumber u j h i x)
@@ -31,10 +31,6 @@ item_in x = (2, Is (Number x)) ∷ (1, Is (Own 0)) ∷ []
 abbrev pub box_in : ℕ → ℕ → List (ℕ × Hold Slot Other)
 box_in h x = (4 + h, Is (Own 1)) ∷ item_in x
 
--- the item and its box, before and after the box refers to the item
-abbrev pub two : ℕ → Sym → Sym → List (List Sym)
-two x v w = (Number x ∷ []) ∷ (v ∷ w ∷ []) ∷ []
-
 abbrev pub before : Row → Slot → Spot Answer Slot Other
 before (SetNumber u j h i x) c = making ((1, Is (Own 0)) ∷ []) ((Empty ∷ []) ∷ [])
 before (PutNumber u j h i x) c = making (item_in x) ((Empty ∷ []) ∷ [])
@@ -45,14 +41,16 @@ before (PutId u j h i x) c = making ((2, Is (Number (id u j))) ∷ box_in h x) (
 before (Clean u j h i x) c =
     making ((2, Is (Number (id u j))) ∷ box_in h x) (two x (Own 0) (Number (id u j)))
 before (Claim u j h i x) c =
-    making ((2, Is Empty) ∷ (2, Is (Number (id u j))) ∷ box_in h x) (two x (Own 0) (Number (id u j)))
+    making ((2, Is Empty) ∷ (2, Is (Number (id u j))) ∷ box_in h x)
+    (two x (Own 0) (Number (id u j)))
 before (Compare u j h i) c = telling ((1, Has (Shown c)) ∷ []) (Matched (holds c u j)) []
 before (Release u j h i) c = making ((2, Is Empty) ∷ []) []
 before (Withdraw i) c = making ((1, Is Empty) ∷ []) []
 before TellId c = telling ((1, Has (Shown c)) ∷ []) (Found (shown c)) []
 before TellItem c =
     telling ((1, Has (Shown c)) ∷ []) (Found (shown c)) (reply_by (box_shape c) 1 ∷ [])
-before TellNumber c = telling ((3, Has (Meant (Item c))) ∷ (1, Has (Shown c)) ∷ []) (Found (shown c))
+before TellNumber c =
+    telling ((3, Has (Meant (Item c))) ∷ (1, Has (Shown c)) ∷ []) (Found (shown c))
     (reply_by (box_shape c) 1 ∷ reply_by (box_shape c) 0 ∷ [])
 before _ c = nowhere
 
@@ -77,9 +75,6 @@ abbrev pub IsLast : ℕ → ℕ → Makes → ℕ → ℕ → ℕ → ℕ → Ty
 IsLast slots t l u j h i = (u ≡ t) × (l.last h ≡ j + 1) × (h < 8) × (i < slots)
 
 abbrev Fits : ℕ → ℕ → Makes → Row → Type 0
-Fits s t l (NewItem u j h i x) = IsMine s t l u j h i
-Fits s t l (SetNumber u j h i x) = IsMine s t l u j h i
-Fits s t l (PutNumber u j h i x) = IsMine s t l u j h i
 Fits s t l (NewBox u j h i x) = IsMine s t l u j h i
 Fits s t l (PutItem u j h i x) = IsMine s t l u j h i
 Fits s t l (SetId u j h i x) = IsMine s t l u j h i
@@ -88,7 +83,6 @@ Fits s t l (Clean u j h i x) = IsMine s t l u j h i
 Fits s t l (Claim u j h i x) = IsMine s t l u j h i
 Fits s t l (Look u j h i) = IsLast s t l u j h i
 Fits s t l (Compare u j h i) = IsLast s t l u j h i
-Fits s t l (Calm u j h i) = IsLast s t l u j h i
 Fits s t l (Release u j h i) = IsLast s t l u j h i
 Fits s t l (Fetch i) = i < s
 Fits s t l (Withdraw i) = i < s

@@ -16,7 +16,7 @@ use Rattle.heap_machine.specs.Holdings.{Holding, sweep_held}
 use Rattle.heap_machine.specs.Operations.{Exchange, heap_after}
 use Rattle.heap_machine.specs.ReuseKept.{ReuseKept}
 use Rattle.heap_machine.specs.Sweeping.{no_claim}
-use Rattle.heap_machine.specs.Turning.{turns_over, turning_gating, MayTurn}
+use Rattle.heap_machine.specs.ChangingPhase.{turns_over, changing_gating, MayTurn}
 use Rattle.heap_machine.specs.declared.gate.GateRow.{GateRow}
 use Rattle.heap_machine.specs.declared.gate.GateRow.TheVariants.{Look, Enter, Entered, Leave, Left, CloseLook, Close, CheckList, SetCursor, Flip, Reopen, ShadeRoot, PutRoots, Start, TurnedOver, StartedCycle, KeptOut}
 use Rattle.heap_machine.specs.declared.pass.Pass.{Pass}
@@ -79,23 +79,23 @@ module _ (e : Extent) (h : Heap) (hs : ℕ → Holding) (k : ReuseKept e h hs) w
   passing_keeps _ away f some = absurd cc
 
   -- and where the gate is closed
-  pub turning_keeps : (gs : ℕ → Gating) → GateOf e.threads (h Phase) gs → (t : ℕ) → t < e.threads
-      → (r : GateRow) → turns_over r ≡ true → GateFits r → gs t ≡ turning_gating r
-      → (is_closing (turning_gating r).stand ≡ true → NoClaims)
+  pub changing_keeps : (gs : ℕ → Gating) → GateOf e.threads (h Phase) gs → (t : ℕ) → t < e.threads
+      → (r : GateRow) → turns_over r ≡ true → GateFits r → gs t ≡ changing_gating r
+      → (is_closing (changing_gating r).stand ≡ true → NoClaims)
       → ((p : Pass) → r ≡ Flip p → h Cursor ≡ 1) → MayTurn e r h
       → ReuseKept e (heap_after h (gate_want e.width r)) hs
-  turning_keeps gs g t low (Close p seen) is f at none first may = closes p seen (nobody seen f.1.empty)
-  turning_keeps gs g t low (SetCursor p) is f at none first may =
+  changing_keeps gs g t low (Close p seen) is f at none first may = closes p seen (nobody seen f.1.empty)
+  changing_keeps gs g t low (SetCursor p) is f at none first may =
       let of = g.passes t low (ap (λ (w : Gating). is_outside w.stand) at) in
       let mark : is_sweep (h Phase) ≡ false = sym of.1 ∙ ap (λ (w : Gating). w.sweep) at ∙ f.mark in
       reuse_cursor e h hs k 1 (none refl) mark (omega arith, omega arith)
-  turning_keeps gs g t low (Flip p) is f at none first may =
+  changing_keeps gs g t low (Flip p) is f at none first may =
       reuse_turns e h hs k (open_word p.cycle true) (none refl) (λ _. first p refl)
-  turning_keeps gs g t low (Reopen p) is f at none first may =
+  changing_keeps gs g t low (Reopen p) is f at none first may =
       let parts = open_parts p.cycle false in
       reuse_turns e h hs k (open_word p.cycle false) (none refl)
       (λ sweep. absurd (let z : false ≡ true = sym parts.1 ∙ sweep in cc))
-  turning_keeps gs g t low (ShadeRoot p u hand) is f at none first may =
+  changing_keeps gs g t low (ShadeRoot p u hand) is f at none first may =
       let of = g.passes t low (ap (λ (w : Gating). is_outside w.stand) at) in
       let cycle : p.cycle ≡ cycle_of (h Phase) = sym (ap (λ (w : Gating). w.cycle) at) ∙ of.0 in
       reuse_colour e h hs k (root_block e.width u) (grey_word hand)
@@ -103,15 +103,15 @@ module _ (e : Extent) (h : Heap) (hs : ℕ → Holding) (k : ReuseKept e h hs) w
         grey-white hand (cycle_of (h Phase)),
         λ z. black-white p.cycle (sym may ∙ z ∙ ap white_word (sym cycle)),
       ))
-  turning_keeps gs g t low (PutRoots p hand) is f at none first may =
+  changing_keeps gs g t low (PutRoots p hand) is f at none first may =
       reuse_other e h hs k (Exchange (GreyList p.thread) hand) refl
-  turning_keeps gs g t low (Start p) is f at none first may =
+  changing_keeps gs g t low (Start p) is f at none first may =
       let parts = open_parts (p.cycle + 1) false in
       reuse_turns e h hs k (open_word (p.cycle + 1) false) (none refl)
       (λ sweep. absurd (let z : false ≡ true = sym parts.1 ∙ sweep in cc))
-  turning_keeps gs g t low (CloseLook p) is f at none first may = k
-  turning_keeps gs g t low (CheckList p u) is f at none first may = k
-  turning_keeps gs g t low TurnedOver is f at none first may = k
-  turning_keeps gs g t low (StartedCycle y) is f at none first may = k
-  turning_keeps gs g t low KeptOut is f at none first may = k
-  turning_keeps gs g t low _ is f at none first may = absurd cc
+  changing_keeps gs g t low (CloseLook p) is f at none first may = k
+  changing_keeps gs g t low (CheckList p u) is f at none first may = k
+  changing_keeps gs g t low TurnedOver is f at none first may = k
+  changing_keeps gs g t low (StartedCycle y) is f at none first may = k
+  changing_keeps gs g t low KeptOut is f at none first may = k
+  changing_keeps gs g t low _ is f at none first may = absurd cc

@@ -15,7 +15,7 @@ use Rattle.heap_machine.specs.Operations.{place_of, Fits}
 use Rattle.heap_machine.specs.Readings.{IsPhaseWord, CanHold, StoresHeld}
 use Rattle.heap_machine.specs.Passes.{IsPass}
 use Rattle.heap_machine.specs.Gates.{gate_want, gate_got, is_of_pass, is_empty, closed_by, IsAt, GateFits, GateAt}
-use Rattle.heap_machine.specs.Turning.{turns_over, HasRoom}
+use Rattle.heap_machine.specs.ChangingPhase.{turns_over, HasRoom}
 use Rattle.heap_machine.specs.declared.gate.GateRow.{GateRow}
 use Rattle.heap_machine.specs.declared.gate.GateRow.TheVariants.{Look, Enter, Entered, Leave, CloseLook, Close, CheckList, SetCursor, Flip, Reopen, ShadeRoot, PutRoots, Start, TurnedOver, StartedCycle, KeptOut}
 use Rattle.heap_machine.specs.declared.pass.Pass.{Pass}
@@ -111,7 +111,7 @@ open_held y s low =
 grey_held : (c : Config) (hand : ℕ) → hand ≤ 65535 → hand ≤ c.blocks → IsSome (colour_of (grey_word hand)) × (link (grey_word hand) ≤ c.blocks)
 grey_held c hand small low = (rw (colour-code (Grey hand) small) refl, rw (link-grey hand) low)
 
--- what a part that turns the phase over stores is what its place can hold
+-- what a part that changes the phase stores is what its place can hold
 pub gate_stores : (c : Config) (r : GateRow) → turns_over r ≡ true → GateFits r → GateAt c r → HasRoom r → StoresHeld c (gate_want c.width r)
 gate_stores c (CloseLook p) e f a room = tt
 gate_stores c (Close p seen) e f a room = closed_held seen f.1.word

@@ -14,8 +14,8 @@ pub mod FreeBlocks
 pub mod SweepRule
 pub mod ReuseRules
 pub mod GateReuse
-pub mod TurningRules
-pub mod TurningKnown
+pub mod ChangingPhaseRules
+pub mod ChangingPhaseKnown
 pub mod RootsBeforeStart
 pub mod OpeningFreeList
 pub mod FreeLost

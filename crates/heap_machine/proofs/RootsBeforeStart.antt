@@ -7,7 +7,7 @@ use Rattle.block_store.specs.Places.{GreyList, ColourOf}
 use Rattle.block_store.specs.Registers.{root_block}
 use Rattle.heap_machine.specs.Operations.{Exchange}
 use Rattle.heap_machine.specs.Gates.{gate_want, gate_got, is_of_pass, is_empty, look_to_close, root_shaded, IsSwept}
-use Rattle.heap_machine.specs.Turning.{CanClose, gate_after, root_before}
+use Rattle.heap_machine.specs.ChangingPhase.{CanClose, gate_after, root_before}
 use Rattle.heap_machine.specs.declared.gate.GateRow.{GateRow}
 use Rattle.heap_machine.specs.declared.gate.GateRow.TheVariants.{CloseLook, Close, ShadeRoot, PutRoots, Start, StartedCycle, KeptOut}
 use Rattle.heap_machine.specs.declared.pass.Pass.{Pass}

@@ -1,4 +1,4 @@
--- The part that turns the phase over keeps the gate, and looks at every list.
+-- The part that changes the phase keeps the gate, and looks at every list.
 use Rattle.std.proofs.Common.{◌≡◌, ℕ, zero, suc, ◌+◌, ◌-◌, ◌<◌, Bool, true, false, not, cond, eqb, ltb, refl, arith, subst, sym, ap, ◌∙◌, inl, inr, eqb-true, eq-eqb, ne_eqb, List, [], ◌∷◌, ◌++◌, replicate, Some}
 use Rattle.std.proofs.lemmas.Bool.{cases_Bool, cases_eq, and_parts, lt-ltb, le-ltb}
 use Rattle.block_store.specs.declared.Width.{Width}
@@ -10,7 +10,7 @@ use Rattle.block_store.specs.Registers.{root_block}
 use Rattle.heap_machine.specs.Gating.{Outside, Closing, is_outside, Gating, GateOf, closed_word}
 use Rattle.heap_machine.specs.Operations.{Load, Exchange, place_of, heap_after}
 use Rattle.heap_machine.specs.Gates.{gate_want, gate_got, gate_started, is_of_pass, is_empty, look_to_close, closed_by, list_checked, root_shaded, IsIdle, SeenEmpty, GateFits}
-use Rattle.heap_machine.specs.Turning.{turns_over, in_pass, turning_gating, lists_read, CanClose, gate_after}
+use Rattle.heap_machine.specs.ChangingPhase.{turns_over, in_pass, changing_gating, lists_read, CanClose, gate_after}
 use Rattle.heap_machine.specs.declared.gate.GateRow.{GateRow}
 use Rattle.heap_machine.specs.declared.gate.GateRow.TheVariants.{Enter, Leave, CloseLook, Close, CheckList, SetCursor, Flip, Reopen, ShadeRoot, PutRoots, Start, TurnedOver, StartedCycle, KeptOut}
 use Rattle.heap_machine.specs.declared.pass.Pass.{Pass}
@@ -43,13 +43,13 @@ either P true p q h k = h
 either P false p q h k = k
 
 abbrev IsOut : GateRow → Type 0
-IsOut r = (turning_gating r).stand ≡ Outside
+IsOut r = (changing_gating r).stand ≡ Outside
 
 looks_out : (p : Pass) (w : ℕ) → IsOut (look_to_close p w)
 looks_out p w = either IsOut (is_of_pass p w) (cond (is_empty w) (Close p w) KeptOut) KeptOut (either IsOut (is_empty w) (Close p w) KeptOut refl refl) refl
 
 abbrev IsAt : Gating → GateRow → Type 0
-IsAt g r = turning_gating r ≡ g
+IsAt g r = changing_gating r ≡ g
 
 checks_closing : (p : Pass) (u w : ℕ) → IsAt (in_pass p Closing) (list_checked p u w)
 checks_closing p u w =
@@ -63,18 +63,18 @@ shades_closing W p u = either (IsAt (in_pass p Closing)) (ltb (u + 1) p.threads)
 
 module _ (W : Width) (n : ℕ) (h : Heap) (gs : ℕ → Gating) (k : GateOf n (h Phase) gs) (t : ℕ) (tl : t < n) where
   -- a thread outside stays there
-  stays_out : (r r' : GateRow) → IsOut r → IsOut r' → gs t ≡ turning_gating r → GateOf n (h Phase) (changed gs t (turning_gating r'))
+  stays_out : (r r' : GateRow) → IsOut r → IsOut r' → gs t ≡ changing_gating r → GateOf n (h Phase) (changed gs t (changing_gating r'))
   stays_out r r' out out' is =
-      let same : (turning_gating r').stand ≡ (gs t).stand = out' ∙ sym out ∙ sym (ap (λ (g : Gating). g.stand) is) in
-      gate_stays n (h Phase) gs k t tl (turning_gating r') same (λ e. (let z : true ≡ false = sym (ap is_outside out') ∙ e in cc))
+      let same : (changing_gating r').stand ≡ (gs t).stand = out' ∙ sym out ∙ sym (ap (λ (g : Gating). g.stand) is) in
+      gate_stays n (h Phase) gs k t tl (changing_gating r') same (λ e. (let z : true ≡ false = sym (ap is_outside out') ∙ e in cc))
 
   -- the thread that has closed the gate goes on
-  stays_closing : (p : Pass) (r r' : GateRow) → IsAt (in_pass p Closing) r → IsAt (in_pass p Closing) r' → gs t ≡ turning_gating r → GateOf n (h Phase) (changed gs t (turning_gating r'))
+  stays_closing : (p : Pass) (r r' : GateRow) → IsAt (in_pass p Closing) r → IsAt (in_pass p Closing) r' → gs t ≡ changing_gating r → GateOf n (h Phase) (changed gs t (changing_gating r'))
   stays_closing p r r' at at' is =
-      let same : turning_gating r' ≡ gs t = at' ∙ sym at ∙ sym is in
-      gate_stays n (h Phase) gs k t tl (turning_gating r') (ap (λ (g : Gating). g.stand) same) (λ _. (ap (λ (g : Gating). g.cycle) same, ap (λ (g : Gating). g.sweep) same))
+      let same : changing_gating r' ≡ gs t = at' ∙ sym at ∙ sym is in
+      gate_stays n (h Phase) gs k t tl (changing_gating r') (ap (λ (g : Gating). g.stand) same) (λ _. (ap (λ (g : Gating). g.cycle) same, ap (λ (g : Gating). g.sweep) same))
 
-  closes : (p : Pass) (seen : ℕ) → SeenEmpty p seen → gs t ≡ in_pass p Outside → GateOf n (cond (eqb (h Phase) seen) (put_at h Phase (closed_word seen)) h Phase) (changed gs t (turning_gating (cond (eqb (h Phase) seen) (closed_by p) KeptOut)))
+  closes : (p : Pass) (seen : ℕ) → SeenEmpty p seen → gs t ≡ in_pass p Outside → GateOf n (cond (eqb (h Phase) seen) (put_at h Phase (closed_word seen)) h Phase) (changed gs t (changing_gating (cond (eqb (h Phase) seen) (closed_by p) KeptOut)))
   closes p seen f is = elim (cases_Bool (eqb (h Phase) seen)) [
     | inl won ↦
         let e : h Phase ≡ seen = eqb-true _ _ won in
@@ -85,20 +85,20 @@ module _ (W : Width) (n : ℕ) (h : Heap) (gs : ℕ → Gating) (k : GateOf n (h
     | inr lost ↦ rw lost (stays_out (Close p seen) KeptOut refl refl is)
   ]
 
-  pub turning_kept : (r : GateRow) → turns_over r ≡ true → GateFits r → gs t ≡ turning_gating r → GateOf n (heap_after h (gate_want W r) Phase) (changed gs t (turning_gating (gate_got W r (h (place_of (gate_want W r))))))
-  turning_kept (CloseLook p) e f is = stays_out (CloseLook p) (look_to_close p (h Phase)) refl (looks_out p (h Phase)) is
-  turning_kept (Close p seen) e f is = closes p seen f.1 is
-  turning_kept (CheckList p u) e f is = stays_closing p (CheckList p u) (list_checked p u (h (GreyList u))) refl (checks_closing p u (h (GreyList u))) is
-  turning_kept (SetCursor p) e f is = stays_closing p (SetCursor p) (Flip p) refl refl is
-  turning_kept (Flip p) e f is = gate_opens n (h Phase) gs k t tl (turning_gating TurnedOver) p.cycle true (ap (λ (g : Gating). g.stand) is) refl
-  turning_kept (Reopen p) e f is = gate_opens n (h Phase) gs k t tl (turning_gating TurnedOver) p.cycle false (ap (λ (g : Gating). g.stand) is) refl
-  turning_kept (ShadeRoot p u hand) e f is = stays_closing p (ShadeRoot p u hand) (root_shaded W p u) refl (shades_closing W p u) is
-  turning_kept (PutRoots p hand) e f is = stays_closing p (PutRoots p hand) (Start p) refl refl is
-  turning_kept (Start p) e f is = gate_opens n (h Phase) gs k t tl (turning_gating (StartedCycle (p.cycle + 1))) (p.cycle + 1) false (ap (λ (g : Gating). g.stand) is) refl
-  turning_kept TurnedOver e f is = stays_out TurnedOver TurnedOver refl refl is
-  turning_kept (StartedCycle y) e f is = stays_out (StartedCycle y) (StartedCycle y) refl refl is
-  turning_kept KeptOut e f is = stays_out KeptOut KeptOut refl refl is
-  turning_kept _ e f is = absurd cc
+  pub changing_kept : (r : GateRow) → turns_over r ≡ true → GateFits r → gs t ≡ changing_gating r → GateOf n (heap_after h (gate_want W r) Phase) (changed gs t (changing_gating (gate_got W r (h (place_of (gate_want W r))))))
+  changing_kept (CloseLook p) e f is = stays_out (CloseLook p) (look_to_close p (h Phase)) refl (looks_out p (h Phase)) is
+  changing_kept (Close p seen) e f is = closes p seen f.1 is
+  changing_kept (CheckList p u) e f is = stays_closing p (CheckList p u) (list_checked p u (h (GreyList u))) refl (checks_closing p u (h (GreyList u))) is
+  changing_kept (SetCursor p) e f is = stays_closing p (SetCursor p) (Flip p) refl refl is
+  changing_kept (Flip p) e f is = gate_opens n (h Phase) gs k t tl (changing_gating TurnedOver) p.cycle true (ap (λ (g : Gating). g.stand) is) refl
+  changing_kept (Reopen p) e f is = gate_opens n (h Phase) gs k t tl (changing_gating TurnedOver) p.cycle false (ap (λ (g : Gating). g.stand) is) refl
+  changing_kept (ShadeRoot p u hand) e f is = stays_closing p (ShadeRoot p u hand) (root_shaded W p u) refl (shades_closing W p u) is
+  changing_kept (PutRoots p hand) e f is = stays_closing p (PutRoots p hand) (Start p) refl refl is
+  changing_kept (Start p) e f is = gate_opens n (h Phase) gs k t tl (changing_gating (StartedCycle (p.cycle + 1))) (p.cycle + 1) false (ap (λ (g : Gating). g.stand) is) refl
+  changing_kept TurnedOver e f is = stays_out TurnedOver TurnedOver refl refl is
+  changing_kept (StartedCycle y) e f is = stays_out (StartedCycle y) (StartedCycle y) refl refl is
+  changing_kept KeptOut e f is = stays_out KeptOut KeptOut refl refl is
+  changing_kept _ e f is = absurd cc
 
   -- the thread that has closed the gate has the cycle and phase of the word
   pub closing_pass : (p : Pass) → gs t ≡ in_pass p Closing → (p.cycle ≡ cycle_of (h Phase)) × (p.sweep ≡ is_sweep (h Phase))
@@ -116,32 +116,32 @@ module _ (W : Width) (n : ℕ) (h : Heap) (gs : ℕ → Gating) (k : GateOf n (h
     | inr lost ↦ rw lost (refl, refl)
   ]
 
-  pub turning_cycle : (r : GateRow) → turns_over r ≡ true → GateFits r → gs t ≡ turning_gating r → ((p : Pass) → r ≡ Start p → ⊥) → cycle_of (heap_after h (gate_want W r) Phase) ≡ cycle_of (h Phase)
-  turning_cycle (Enter seen) e f is other = absurd cc
-  turning_cycle Leave e f is other = absurd cc
-  turning_cycle (Close p seen) e f is other = (let none = empty_gate seen f.1.empty in let same = close_phase seen none.1 in same.0)
-  turning_cycle (Flip p) e f is other = (let parts = open_parts p.cycle true in let of = closing_pass p is in parts.3 ∙ of.0)
-  turning_cycle (Reopen p) e f is other = (let parts = open_parts p.cycle false in let of = closing_pass p is in parts.3 ∙ of.0)
-  turning_cycle (Start p) e f is other = absurd (other p refl)
-  turning_cycle _ e f is other = refl
+  pub changing_cycle : (r : GateRow) → turns_over r ≡ true → GateFits r → gs t ≡ changing_gating r → ((p : Pass) → r ≡ Start p → ⊥) → cycle_of (heap_after h (gate_want W r) Phase) ≡ cycle_of (h Phase)
+  changing_cycle (Enter seen) e f is other = absurd cc
+  changing_cycle Leave e f is other = absurd cc
+  changing_cycle (Close p seen) e f is other = (let none = empty_gate seen f.1.empty in let same = close_phase seen none.1 in same.0)
+  changing_cycle (Flip p) e f is other = (let parts = open_parts p.cycle true in let of = closing_pass p is in parts.3 ∙ of.0)
+  changing_cycle (Reopen p) e f is other = (let parts = open_parts p.cycle false in let of = closing_pass p is in parts.3 ∙ of.0)
+  changing_cycle (Start p) e f is other = absurd (other p refl)
+  changing_cycle _ e f is other = refl
 
-  pub turning_phase : (r : GateRow) → turns_over r ≡ true → GateFits r → gs t ≡ turning_gating r → ((p : Pass) → r ≡ Flip p → ⊥) → ((p : Pass) → r ≡ Start p → ⊥) → is_sweep (heap_after h (gate_want W r) Phase) ≡ is_sweep (h Phase)
-  turning_phase (Enter seen) e f is other more = absurd cc
-  turning_phase Leave e f is other more = absurd cc
-  turning_phase (Close p seen) e f is other more = (let none = empty_gate seen f.1.empty in let same = close_phase seen none.1 in same.1)
-  turning_phase (Flip p) e f is other more = absurd (other p refl)
-  turning_phase (Reopen p) e f is other more = (let parts = open_parts p.cycle false in let of = closing_pass p is in parts.1 ∙ sym f.mark ∙ of.1)
-  turning_phase (Start p) e f is other more = absurd (more p refl)
-  turning_phase _ e f is other more = refl
+  pub changing_phase : (r : GateRow) → turns_over r ≡ true → GateFits r → gs t ≡ changing_gating r → ((p : Pass) → r ≡ Flip p → ⊥) → ((p : Pass) → r ≡ Start p → ⊥) → is_sweep (heap_after h (gate_want W r) Phase) ≡ is_sweep (h Phase)
+  changing_phase (Enter seen) e f is other more = absurd cc
+  changing_phase Leave e f is other more = absurd cc
+  changing_phase (Close p seen) e f is other more = (let none = empty_gate seen f.1.empty in let same = close_phase seen none.1 in same.1)
+  changing_phase (Flip p) e f is other more = absurd (other p refl)
+  changing_phase (Reopen p) e f is other more = (let parts = open_parts p.cycle false in let of = closing_pass p is in parts.1 ∙ sym f.mark ∙ of.1)
+  changing_phase (Start p) e f is other more = absurd (more p refl)
+  changing_phase _ e f is other more = refl
 
-  pub flip_phase : (p : Pass) → GateFits (Flip p) → gs t ≡ turning_gating (Flip p) → (is_sweep (h Phase) ≡ false) × (is_sweep (heap_after h (gate_want W (Flip p)) Phase) ≡ true) × (inside_of (h Phase) ≡ 0) × ((u : ℕ) → u < n → (t ≡ u → ⊥) → (gs u).stand ≡ Outside)
+  pub flip_phase : (p : Pass) → GateFits (Flip p) → gs t ≡ changing_gating (Flip p) → (is_sweep (h Phase) ≡ false) × (is_sweep (heap_after h (gate_want W (Flip p)) Phase) ≡ true) × (inside_of (h Phase) ≡ 0) × ((u : ℕ) → u < n → (t ≡ u → ⊥) → (gs u).stand ≡ Outside)
   flip_phase p f is =
       let parts = open_parts p.cycle true in
       let of = closing_pass p is in
       let closing = gate_closing n (h Phase) gs k t tl (ap (λ (g : Gating). g.stand) is) in
       (sym of.1 ∙ f.mark, parts.1, closing.1, closing.2)
 
-  pub start_phase : (p : Pass) → GateFits (Start p) → gs t ≡ turning_gating (Start p)
+  pub start_phase : (p : Pass) → GateFits (Start p) → gs t ≡ changing_gating (Start p)
       → (is_sweep (h Phase) ≡ true) × (is_sweep (heap_after h (gate_want W (Start p)) Phase) ≡ false)
       × (cycle_of (heap_after h (gate_want W (Start p)) Phase) ≡ cycle_of (h Phase) + 1)
       × (gate_started (gate_got W (Start p) (h Phase)) ≡ Some (cycle_of (h Phase) + 1))

@@ -2,7 +2,7 @@ pub mod Operations
 pub mod Readings
 pub mod Passes
 pub mod Gates
-pub mod Turning
+pub mod ChangingPhase
 pub mod Chains
 pub mod Gating
 pub mod Grey

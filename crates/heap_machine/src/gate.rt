@@ -1,5 +1,5 @@
 //! The gate: a thread goes in where the gate is not closed, and is counted in the phase word while
-//! it is inside. A thread outside closes it where nobody is inside, to turn the phase over or to
+//! it is inside. A thread outside closes it where nobody is inside, to change the phase or to
 //! start the next cycle.
 
 ghost use Rattle.std.specs.Prelude.{◌+◌, false, true, ◌≡◌, ◌<◌, ◌≤◌, ◌-◌, ◌^◌, IfSome};
@@ -9,7 +9,7 @@ ghost use Rattle.heap_machine.specs.Passes.{IsPass};
 ghost use Rattle.heap_machine.specs.Readings.{CanHold, IsPhaseWord};
 ghost use Rattle.heap_machine.specs.Gates.{gate_want, gate_got, going_got, gate_step, gate_entered, gate_started, GateFits, GateAt, SeenOpen};
 
-use crate::turnover::{
+use crate::phase_changes::{
     check, close, flip, list_checked, look_to_close, put_roots, reopen, root_shaded, shade_root,
     start, tried_to_close,
 };

@@ -22,7 +22,7 @@ ghost use Rattle.heap_machine.specs.Holdings.{Holding};
 ghost use Rattle.heap_machine.specs.HeapKept.{HeapKept, is_ruled, CanColour, CanRefer};
 ghost use Rattle.heap_machine.specs.Gating.{Gating, GateOf, Outside, Inside, Closing, is_outside, closed_word, open_word};
 ghost use Rattle.heap_machine.specs.Gates.{gate_want, gate_got, gate_started, GateFits, GateAt, IsIdle};
-ghost use Rattle.heap_machine.specs.Turning.{turns_over, turning_gating, lists_read, gate_after, CanClose, HasRoom};
+ghost use Rattle.heap_machine.specs.ChangingPhase.{turns_over, changing_gating, lists_read, gate_after, CanClose, HasRoom};
 ghost use Rattle.heap_machine.specs.declared.gate.GateRow.{GateRow};
 ghost use Rattle.heap_machine.specs.declared.pass.Pass.{Pass};
 
@@ -108,40 +108,40 @@ pub fn gate_rows_stay_in_the_heap()
         → HasRoom r → StoresHeld c (gate_want c.width r) }
 {}
 
-/// Each event of a part that turns the phase over or starts a cycle keeps that the phase word
+/// Each event of a part that changes the phase or starts a cycle keeps that the phase word
 /// counts the threads inside, while the other threads stay where they are. Its thread has closed
 /// the gate from the event that closes it to the one that opens it again.
 pub fn turn_over_keeps_the_gate()
     ensures { (W : Width) (n : ℕ) (h : Heap) (gs : ℕ → Gating) → GateOf n (h Phase) gs
         → (t : ℕ) → t < n
-        → (r : GateRow) → turns_over r ≡ true → GateFits r → gs t ≡ turning_gating r
-        → GateOf n (heap_after h (gate_want W r) Phase) (changed gs t (turning_gating (gate_got W r
+        → (r : GateRow) → turns_over r ≡ true → GateFits r → gs t ≡ changing_gating r
+        → GateOf n (heap_after h (gate_want W r) Phase) (changed gs t (changing_gating (gate_got W r
         (h (place_of (gate_want W r)))))) }
 {}
 
-/// Of the events of a part that turns the phase over or starts a cycle only the flip and the start
+/// Of the events of a part that changes the phase or starts a cycle only the flip and the start
 /// change the phase word's cycle or phase: the flip the phase, from Mark to Sweep, and the start
 /// both, to Mark of the next cycle. At both nobody is inside, and each other thread is outside.
 pub fn phase_changes_at_the_flip_and_the_start()
     ensures cycle { (W : Width) (n : ℕ) (h : Heap) (gs : ℕ → Gating) → GateOf n (h Phase) gs
         → (t : ℕ) → t < n
-        → (r : GateRow) → turns_over r ≡ true → GateFits r → gs t ≡ turning_gating r
+        → (r : GateRow) → turns_over r ≡ true → GateFits r → gs t ≡ changing_gating r
         → ((p : Pass) → r ≢ GateRow.Start p)
         → cycle_of (heap_after h (gate_want W r) Phase) ≡ cycle_of (h Phase) }
     ensures phase { (W : Width) (n : ℕ) (h : Heap) (gs : ℕ → Gating) → GateOf n (h Phase) gs
         → (t : ℕ) → t < n
-        → (r : GateRow) → turns_over r ≡ true → GateFits r → gs t ≡ turning_gating r
+        → (r : GateRow) → turns_over r ≡ true → GateFits r → gs t ≡ changing_gating r
         → ((p : Pass) → r ≢ GateRow.Flip p) → ((p : Pass) → r ≢ GateRow.Start p)
         → is_sweep (heap_after h (gate_want W r) Phase) ≡ is_sweep (h Phase) }
     ensures flip { (W : Width) (n : ℕ) (h : Heap) (gs : ℕ → Gating) → GateOf n (h Phase) gs
         → (t : ℕ) → t < n → (p : Pass)
-        → GateFits (GateRow.Flip p) → gs t ≡ turning_gating (GateRow.Flip p)
+        → GateFits (GateRow.Flip p) → gs t ≡ changing_gating (GateRow.Flip p)
         → (is_sweep (h Phase) ≡ false)
         × (is_sweep (heap_after h (gate_want W (GateRow.Flip p)) Phase) ≡ true)
         × (inside_of (h Phase) ≡ 0) × ((u : ℕ) → u < n → (t ≡ u → ⊥) → (gs u).stand ≡ Outside) }
     ensures start { (W : Width) (n : ℕ) (h : Heap) (gs : ℕ → Gating) → GateOf n (h Phase) gs
         → (t : ℕ) → t < n → (p : Pass)
-        → GateFits (GateRow.Start p) → gs t ≡ turning_gating (GateRow.Start p)
+        → GateFits (GateRow.Start p) → gs t ≡ changing_gating (GateRow.Start p)
         → (is_sweep (h Phase) ≡ true)
         × (is_sweep (heap_after h (gate_want W (GateRow.Start p)) Phase) ≡ false)
         × (cycle_of (heap_after h (gate_want W (GateRow.Start p)) Phase) ≡ cycle_of (h Phase) + 1)
@@ -149,7 +149,7 @@ pub fn phase_changes_at_the_flip_and_the_start()
         × (inside_of (h Phase) ≡ 0) × ((u : ℕ) → u < n → (t ≡ u → ⊥) → (gs u).stand ≡ Outside) }
 {}
 
-/// A part that turns the phase over comes to the flip exactly where it read 0 from the grey list of
+/// A part that changes the phase comes to the flip exactly where it read 0 from the grey list of
 /// each thread, after it had read one word of an empty gate of its cycle and phase twice, and so
 /// had closed it; and behind the lists it set the cursor to 1. At the first list that is not empty
 /// it opens the gate again. All of this is of a Mark pass.

@@ -1,5 +1,5 @@
 //! The shared words of a heap: one atomic operation on one of them, and the part of a thread's work
-//! that goes in and out at the gate, or closes it and turns the phase over, one operation at a
+//! that goes in and out at the gate, or closes it and changes the phase, one operation at a
 //! time. And the rules that every part of a thread's work keeps: where grey blocks stand, that no
 //! black block refers to a white one, that only Free blocks refer to Free ones, where Free blocks
 //! stand, and what of them the sweep has claimed and passed.
@@ -10,9 +10,9 @@ mod laws;
 mod memory;
 mod op;
 mod pass;
+mod phase_changes;
+mod phase_laws;
 mod reuse;
-mod turning;
-mod turnover;
 mod words;
 
 pub use gate::{Gate, GateRow, entering};
@@ -26,14 +26,14 @@ pub use laws::{
 pub use memory::{Given, Memory};
 pub use op::Op;
 pub use pass::Pass;
+pub use phase_laws::{
+    closed_gates_keep_others_out, gate_rows_keep_each_word, gate_rows_keep_the_rules,
+    nothing_is_grey_at_the_flip, start_shades_every_root, what_the_closing_thread_knows,
+};
 pub use reuse::{
     free_blocks_stand_at_the_opening, free_blocks_stand_once, free_lists_are_lost_at_a_put,
     gate_rows_keep_reuse, rules_hold_by_the_phase, sweep_claims_do_not_overlap,
     what_keeps_free_blocks, what_keeps_reuse, what_keeps_the_sweep,
-};
-pub use turning::{
-    closed_gates_keep_others_out, gate_rows_keep_each_word, gate_rows_keep_the_rules,
-    nothing_is_grey_at_the_flip, start_shades_every_root, what_the_closing_thread_knows,
 };
 pub use words::Words;
 

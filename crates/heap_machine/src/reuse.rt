@@ -17,7 +17,7 @@ ghost use Rattle.heap_machine.specs.PhaseKept.{PhaseKept};
 ghost use Rattle.heap_machine.specs.ReuseKept.{ReuseKept, is_of_reuse};
 ghost use Rattle.heap_machine.specs.Gates.{gate_want, GateFits};
 ghost use Rattle.heap_machine.specs.Gating.{Gating, GateOf, is_closing};
-ghost use Rattle.heap_machine.specs.Turning.{turns_over, turning_gating, MayTurn};
+ghost use Rattle.heap_machine.specs.ChangingPhase.{turns_over, changing_gating, MayTurn};
 ghost use Rattle.heap_machine.specs.declared.gate.GateRow.{GateRow};
 ghost use Rattle.heap_machine.specs.declared.pass.Pass.{Pass};
 
@@ -246,7 +246,7 @@ pub fn what_keeps_reuse()
 {}
 
 /// The events of the gate keep both rules: to go in and out, where the phase word counts a thread
-/// inside; and to close the gate, and turn the phase over or start a cycle, where nothing is
+/// inside; and to close the gate, and change the phase or start a cycle, where nothing is
 /// claimed while it is closed, the cursor is at the first block before the flip, and a root that
 /// becomes grey was black.
 pub fn gate_rows_keep_reuse()
@@ -256,8 +256,8 @@ pub fn gate_rows_keep_reuse()
         → ReuseKept e (heap_after h (gate_want e.width r)) hs }
     ensures turns { (e : Extent) (h : Heap) (hs : ℕ → Holding) → ReuseKept e h hs
         → (gs : ℕ → Gating) → GateOf e.threads (h Phase) gs → (t : ℕ) → t < e.threads
-        → (r : GateRow) → turns_over r ≡ true → GateFits r → gs t ≡ turning_gating r
-        → (is_closing (turning_gating r).stand ≡ true
+        → (r : GateRow) → turns_over r ≡ true → GateFits r → gs t ≡ changing_gating r
+        → (is_closing (changing_gating r).stand ≡ true
         → (u : ℕ) → u < e.threads → sweep_held (hs u) ≡ no_claim)
         → ((p : Pass) → r ≡ GateRow.Flip p → h Cursor ≡ 1) → MayTurn e r h
         → ReuseKept e (heap_after h (gate_want e.width r)) hs }

@@ -4,7 +4,8 @@ pub mod OneUpToNames
 pub mod Again
 pub mod Loop
 pub mod LoopsOf
-pub mod Planning
+pub mod PlanLists
+pub mod Turns
 pub mod Tested
 pub mod RenamedGraphs
 pub mod Following

@@ -15,6 +15,6 @@ pub use command_laws::{commands_keep_names, names_take_no_blocks};
 pub use faults::{ReadError, SaveFault};
 pub use laws::{names_follow_one_another, pictures_are_built};
 pub use picture::{Item, Kind, Picture};
-pub use plans::plan;
+pub use plans::{Planning, plan};
 pub use reading::decode;
 pub use writing::encode;

@@ -15,3 +15,4 @@ pub mod PairPlaces
 pub mod TableCalls
 pub mod TableChains
 pub mod MapCalls
+pub mod Renewed

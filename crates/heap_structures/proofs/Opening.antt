@@ -24,9 +24,9 @@ use Rattle.control_heap.specs.Calls.{HasAsked, HasTold}
 use Rattle.control_heap.specs.Controls.{Control, Stands, units}
 use Rattle.control_heap.specs.declared.faults.Fault.{Fault}
 use Rattle.control_heap.specs.declared.faults.Fault.TheVariants as faults
-use Rattle.asked_graph.specs.Asked.{HasDone, HasDoneAll, HasUsed}
-use Rattle.asked_graph.specs.Shown.{Follows, Goes, HasMetNoFull, IsSmall, Leaves, Shows, graph_told}
-use Rattle.asked_graph.proofs.GraphAnswers.{follows_ok, goes_ok, never_ok}
+use Rattle.graph_view.specs.Asked.{HasDone, HasDoneAll, HasUsed}
+use Rattle.graph_view.specs.Shown.{Follows, Goes, HasMetNoFull, IsSmall, Leaves, Shows, graph_told}
+use Rattle.graph_view.proofs.GraphAnswers.{follows_ok, goes_ok, never_ok}
 use Rattle.heap_structures.specs.declared.cells.Cells.{Cells}
 use Rattle.heap_structures.specs.Cells.{IsCells, IsPlaced, Spares}
 use Rattle.heap_structures.specs.Heaps.{Any, Small, Always, Has, Sight}

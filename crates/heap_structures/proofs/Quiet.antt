@@ -13,9 +13,9 @@ use Rattle.never_heap.proofs.StepAnswers.{others_have_none, owes_told, step_not_
 use Rattle.heap_system.specs.Lives.{objects_of}
 use Rattle.heap_system.specs.Machines.{Run}
 use Rattle.control_heap.specs.Controls.{Control, Stands}
-use Rattle.asked_graph.specs.Asked.{HasDone, HasDoneAll, HasUsed}
-use Rattle.asked_graph.specs.Shown.{Follows, Goes, HasMetNoFull, IsSmall, Leaves, Shows, graph_told}
-use Rattle.asked_graph.proofs.GraphAnswers.{follows_ok, goes_ok, never_ok}
+use Rattle.graph_view.specs.Asked.{HasDone, HasDoneAll, HasUsed}
+use Rattle.graph_view.specs.Shown.{Follows, Goes, HasMetNoFull, IsSmall, Leaves, Shows, graph_told}
+use Rattle.graph_view.proofs.GraphAnswers.{follows_ok, goes_ok, never_ok}
 use Rattle.heap_structures.proofs.CellLone.{lone_graphs}
 use Rattle.heap_structures.proofs.CellMoves.{IsLone}
 use Rattle.heap_structures.specs.Heaps.{Any, Small, Always, Has, IsQuiet, Sight, Took}

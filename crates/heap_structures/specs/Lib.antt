@@ -7,3 +7,4 @@ pub mod Alarms
 pub mod Pairs
 pub mod Tables
 pub mod Maps
+pub mod Renewed

@@ -9,6 +9,7 @@ ghost use Rattle.heap_structures.specs.Heaps.{Has, HasRoom, Sight};
 ghost use Rattle.heap_structures.specs.Opened.{MayOpen, NotOpened, Opens};
 ghost use Rattle.heap_structures.specs.Rings.{IsRound};
 ghost use Rattle.heap_structures.specs.declared.alarms.Alarm.{Alarm};
+ghost use Rattle.heap_structures.specs.Renewed.{ShowsAgain};
 
 use crate::Cells;
 use crate::cells::made;
@@ -188,6 +189,21 @@ impl AlarmList {
         ensures { (g : Graph) (xs : List Alarm) → IsAlarms g self.now xs → result ≡ length xs }
     {
         self.count
+    }
+
+    /// The list on a heap that has the graph of its own heap up to names, as one does that
+    /// renews it, or into which it was saved and loaded.
+    /// It shows the same there. It reads a register, and executes no command.
+    pub fn renewed(&self, other: &ControlHeap) -> AlarmList
+        ensures same { HasPlace (alarm_cells result) (alarm_cells self.now).base
+            (alarm_cells self.now).spare (alarm_cells self.now).size }
+        ensures shows { ShowsAgain (λ _ xs. xs)
+            (λ g xs. IsAlarms g self.now xs) (λ z xs. IsAlarms z result xs) other.now }
+    {
+        AlarmList {
+            cells: self.cells.renewed(other),
+            count: self.count,
+        }
     }
 
     /// Its array and registers.

@@ -4,17 +4,20 @@ ghost use Rattle.std.specs.Prelude.{◌≡◌, ◌≢◌, ◌<◌, ◌≤◌, �
 ghost use Rattle.block_store.specs.declared.Value.{Value};
 ghost use Rattle.block_store.specs.declared.Value.TheVariants.{Int, Nil};
 ghost use Rattle.never_heap.specs.Graphs.{Graph};
+ghost use Rattle.heap_pictures.specs.UpToNames.{AreOneUpToNames};
+ghost use Rattle.graph_view.specs.Shown.{Leaves};
 ghost use Rattle.heap_structures.specs.declared.cells.Cells.{Cells};
 ghost use Rattle.heap_structures.specs.Cells.{HasPlace, IsCells, held};
 ghost use Rattle.heap_structures.specs.Heaps.{Does, Fills, Has, Ready, Sight, Takes};
 ghost use Rattle.heap_structures.specs.Opened.{MayOpen, NotOpened, Opens, OpensNils};
+ghost use Rattle.heap_structures.specs.Renewed.{renamed_values, with_array};
 ghost use Rattle.heap_structures.specs.Rings.{IsNoTarget};
 
 use crate::laws::quiet_commands_keep_graphs;
 use crate::places::REGISTERS;
-use asked_graph::lives_add_up;
 use block_store::{Name, Value};
 use control_heap::{ControlHeap, Fault, histories_are_right};
+use graph_view::lives_add_up;
 use rt_limit::live_grows;
 
 /// An array of `size` values. Register `base` refers to it; register `spare` is the structure's
@@ -54,6 +57,22 @@ impl Cells {
         ensures { result ≡ self.now.size }
     {
         self.size
+    }
+
+    /// The array on a heap that has the graph of its own heap up to names.
+    pub(crate) fn renewed(&self, other: &ControlHeap) -> Cells
+        ensures same { HasPlace result self.now.base self.now.spare self.now.size }
+        ensures named { (g z : Graph) (vs : List Value) (one : AreOneUpToNames g z)
+            → IsCells g self.now vs → Leaves other.now z
+            → result ≡ with_array self.now (one.to self.now.array) }
+    {
+        let mut cells = *self;
+        if self.base < REGISTERS {
+            if let Value::Ref(array) = other.register(self.base) {
+                cells.array = array;
+            }
+        }
+        cells
     }
 
     /// Whether a value may be loaded into register `d`.

@@ -8,15 +8,15 @@ ghost use Rattle.never_heap.specs.declared.Command.{Command};
 ghost use Rattle.never_heap.specs.Graphs.{Graph};
 ghost use Rattle.never_heap.specs.Steps.{step};
 ghost use Rattle.control_heap.specs.Controls.{Control};
-ghost use Rattle.asked_graph.specs.Asked.{HasDone};
+ghost use Rattle.graph_view.specs.Asked.{HasDone};
 ghost use Rattle.heap_structures.specs.declared.cells.Cells.{Cells};
 ghost use Rattle.heap_structures.specs.Cells.{IsNone, Spares};
 ghost use Rattle.heap_structures.specs.Heaps.{Has, IsQuiet, Sight, Took};
 ghost use Rattle.heap_structures.specs.Rings.{IsRound};
 
-use asked_graph::lives_add_up;
 use block_store::Width;
 use control_heap::histories_are_right;
+use graph_view::lives_add_up;
 use never_heap::Command;
 use rt_limit::live_grows;
 

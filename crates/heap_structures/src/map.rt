@@ -11,6 +11,7 @@ ghost use Rattle.heap_structures.specs.Maps.{Changes, GivesPair, Inserts, IsLoad
 ghost use Rattle.heap_structures.specs.Opened.{MayOpen, NotOpened, Opens};
 ghost use Rattle.heap_structures.specs.Pairs.{Pair, value_of, without};
 ghost use Rattle.heap_structures.specs.Tables.{IsTable};
+ghost use Rattle.heap_structures.specs.Renewed.{ShowsAgain, renamed_pairs};
 
 use crate::Cells;
 use crate::cells::made;
@@ -186,6 +187,21 @@ impl Map {
         ensures { (g : Graph) (xs : List Pair) → IsMap g self.now xs → result ≡ length xs }
     {
         self.count
+    }
+
+    /// The map on a heap that has the graph of its own heap up to names, as one does that
+    /// renews it, or into which it was saved and loaded.
+    /// It shows the same there. It reads a register, and executes no command.
+    pub fn renewed(&self, other: &ControlHeap) -> Map
+        ensures same { HasPlace (map_cells result) (map_cells self.now).base
+            (map_cells self.now).spare (map_cells self.now).size }
+        ensures shows { ShowsAgain renamed_pairs
+            (λ g xs. IsMap g self.now xs) (λ z xs. IsMap z result xs) other.now }
+    {
+        Map {
+            cells: self.cells.renewed(other),
+            count: self.count,
+        }
     }
 
     /// Its array and registers.

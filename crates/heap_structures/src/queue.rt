@@ -7,6 +7,7 @@ ghost use Rattle.heap_structures.specs.Cells.{HasPlace, held};
 ghost use Rattle.heap_structures.specs.Heaps.{DoesOrStops, Has, Sight};
 ghost use Rattle.heap_structures.specs.Opened.{MayOpen, NotOpened, Opens};
 ghost use Rattle.heap_structures.specs.Rings.{Adds, IsNoTarget, IsQueue, Pops, queue_cells};
+ghost use Rattle.heap_structures.specs.Renewed.{ShowsAgain, renamed_values};
 
 use crate::Cells;
 use crate::cells::made;
@@ -103,6 +104,22 @@ impl Queue {
         ensures { (g : Graph) (xs : List Value) → IsQueue g self.now xs → result ≡ length xs }
     {
         self.count
+    }
+
+    /// The queue on a heap that has the graph of its own heap up to names, as one does that
+    /// renews it, or into which it was saved and loaded.
+    /// It shows the same there. It reads a register, and executes no command.
+    pub fn renewed(&self, other: &ControlHeap) -> Queue
+        ensures same { HasPlace (queue_cells result) (queue_cells self.now).base
+            (queue_cells self.now).spare (queue_cells self.now).size }
+        ensures shows { ShowsAgain renamed_values
+            (λ g xs. IsQueue g self.now xs) (λ z xs. IsQueue z result xs) other.now }
+    {
+        Queue {
+            cells: self.cells.renewed(other),
+            first: self.first,
+            count: self.count,
+        }
     }
 
     /// Its array and registers.

@@ -8,6 +8,7 @@ ghost use Rattle.heap_structures.specs.Circles.{last_of};
 ghost use Rattle.heap_structures.specs.Heaps.{DoesOrStops, Has, Sight};
 ghost use Rattle.heap_structures.specs.Opened.{MayOpen, NotOpened, Opens};
 ghost use Rattle.heap_structures.specs.Rings.{Gives, IsNoTarget, IsRing, ring_cells};
+ghost use Rattle.heap_structures.specs.Renewed.{ShowsAgain, renamed_values};
 
 use crate::Cells;
 use crate::cells::made;
@@ -103,6 +104,22 @@ impl Ring {
         ensures { (g : Graph) (xs : List Value) → IsRing g self.now xs → result ≡ length xs }
     {
         self.count
+    }
+
+    /// The ring on a heap that has the graph of its own heap up to names, as one does that
+    /// renews it, or into which it was saved and loaded.
+    /// It shows the same there. It reads a register, and executes no command.
+    pub fn renewed(&self, other: &ControlHeap) -> Ring
+        ensures same { HasPlace (ring_cells result) (ring_cells self.now).base
+            (ring_cells self.now).spare (ring_cells self.now).size }
+        ensures shows { ShowsAgain renamed_values
+            (λ g xs. IsRing g self.now xs) (λ z xs. IsRing z result xs) other.now }
+    {
+        Ring {
+            cells: self.cells.renewed(other),
+            first: self.first,
+            count: self.count,
+        }
     }
 
     /// Its array and registers.

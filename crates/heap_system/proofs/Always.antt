@@ -14,7 +14,7 @@ use Rattle.never_heap.specs.Histories.{Started, replay}
 use Rattle.never_heap.proofs.StartGraph.{count_of_start}
 use Rattle.heap_machine.specs.Gating.{Gating, is_outside, is_inside, is_closing}
 use Rattle.heap_machine.specs.Holdings.{holds_nothing}
-use Rattle.kept_names.specs.Pictures.{no_task}
+use Rattle.name_invariant.specs.Pictures.{no_task}
 use Rattle.work_account.proofs.Balances.{opened_sound}
 use Rattle.never_heap.specs.declared.Command.TheVariants as commands
 use Rattle.never_heap.specs.RightWork.{units_told}
@@ -23,12 +23,12 @@ use Rattle.heap_system.specs.Parts.{Part, Rest}
 use Rattle.heap_system.specs.Locals.{LocalState, command_of, no_pass, at_start, task}
 use Rattle.heap_system.specs.Machines.{State, no_local, local_at, event_done, has_event, next_effect, items_by, Run, next, after_turns, starts_from, IsOpening, IsJob, opened, IsRunOf, heap_in}
 use Rattle.heap_system.specs.Naming.{renamed, opening_names}
-use Rattle.heap_system.specs.Openings.{opening_phase}
+use Rattle.heap_system.specs.InitialHeaps.{opening_phase}
 use Rattle.heap_system.specs.Pictures.{gating, holding, gates_in, holdings_in, tasks_in}
 use Rattle.heap_system.specs.Systems.{units_of}
 use Rattle.heap_system.proofs.Grounds.{opening_held}
 use Rattle.heap_system.proofs.Kept.{LocalKept, Kept}
-use Rattle.heap_system.proofs.Openings.{opening_rules, opening_names_kept}
+use Rattle.heap_system.proofs.InitialHeaps.{opening_rules, opening_names_kept}
 use Rattle.heap_system.proofs.PartLaws.{PartLaws}
 use Rattle.heap_system.proofs.OwedAndPaid.{each_at}
 use Rattle.heap_system.proofs.SeenAndKept.{lead}

@@ -12,15 +12,15 @@ use Rattle.never_heap.specs.Histories.{replay}
 use Rattle.heap_machine.specs.Gates.{gate_want}
 use Rattle.heap_machine.specs.Gating.{Gating, Inside, is_closing, open_word}
 use Rattle.heap_machine.specs.Operations.{Exchange, heap_after}
-use Rattle.heap_machine.specs.Turning.{turning_gating}
+use Rattle.heap_machine.specs.ChangingPhase.{changing_gating}
 use Rattle.heap_machine.specs.declared.gate.GateRow.{GateRow}
 use Rattle.heap_machine.specs.declared.gate.GateRow.TheVariants as gates
 use Rattle.heap_machine.specs.declared.pass.Pass.{Pass}
 use Rattle.heap_machine.proofs.Gatings.{closed_phase, entered_phase, left_phase, open_parts}
-use Rattle.heap_machine.proofs.TurningKnown.{none_at_flip}
+use Rattle.heap_machine.proofs.ChangingPhaseKnown.{none_at_flip}
 use Rattle.heap_machine.proofs.Turnovers.{empty_gate}
 use Rattle.grey_steps.specs.Rows as marking
-use Rattle.grey_steps.specs.Ends.{is_putting}
+use Rattle.grey_steps.specs.MarkUnits.{is_putting}
 use Rattle.grey_steps.specs.declared.rows.GreyRow.{GreyRow}
 use Rattle.grey_steps.specs.declared.rows.GreyRow.TheVariants as greys
 use Rattle.grey_steps.proofs.Reuses.{leaves_phase}
@@ -28,7 +28,7 @@ use Rattle.barrier_steps.specs.declared.rows.FieldRow.{FieldRow}
 use Rattle.barrier_steps.specs.declared.rows.FieldRow.TheVariants as fields
 use Rattle.barrier_steps.proofs.PhaseRulesKept.{field_phase}
 use Rattle.sweep_steps.specs.Rows as sweeping
-use Rattle.sweep_steps.specs.Ends as sweep_ends
+use Rattle.sweep_steps.specs.SweepUnits as sweep_ends
 use Rattle.sweep_steps.specs.declared.rows.SweepRow.{SweepRow}
 use Rattle.sweep_steps.specs.declared.rows.SweepRow.TheVariants as sweeps
 use Rattle.sweep_steps.proofs.FreedBlocks.{leaves_others}
@@ -36,10 +36,10 @@ use Rattle.build_steps.specs.Rows as building
 use Rattle.build_steps.specs.declared.rows.BuildRow.{BuildRow}
 use Rattle.build_steps.specs.declared.rows.BuildRow.TheVariants as builds
 use Rattle.build_steps.proofs.Together.{phase_stays}
-use Rattle.kept_names.specs.Colouring.{IsShadedRoot}
-use Rattle.kept_names.specs.Reached.{IsReachedBlock}
-use Rattle.kept_names.proofs.ReachedBlocks.{flipped_black, started_black}
-use Rattle.heap_system.specs.Parts.{Part, Rest, Enter, Serve, Mark, Sweep, Build, Again, Idle, TurnOver, Leave}
+use Rattle.name_invariant.specs.Colouring.{IsShadedRoot}
+use Rattle.name_invariant.specs.Reached.{IsReachedBlock}
+use Rattle.name_invariant.proofs.ReachedBlocks.{flipped_black, started_black}
+use Rattle.heap_system.specs.Parts.{Part, Rest, Enter, Serve, Mark, Sweep, Build, Retry, ToChange, PhaseChange, Leave}
 use Rattle.build_steps.specs.Rows.{BuildState}
 use Rattle.heap_system.specs.Locals.{part_want, is_rest, is_done, command_of}
 use Rattle.heap_system.specs.Machines.{Run, IsJob, local_at, heap_in, has_event, event_done, turned}
@@ -48,7 +48,7 @@ use Rattle.heap_system.specs.Rounds.{puts_grey, puts_free, puts_rest, puts_shade
 use Rattle.heap_system.proofs.Kept.{Kept}
 use Rattle.heap_system.proofs.LawsOf.{laws_of}
 use Rattle.heap_system.proofs.PartLaws.{AtPart}
-use Rattle.heap_system.proofs.SeenAndKept.{IsEntering, IsTurning, PartKept, Seen}
+use Rattle.heap_system.proofs.SeenAndKept.{IsEntering, IsChangingPhase, PartKept, Seen}
 use Rattle.heap_system.proofs.KeptByTurns.{seen, at_part, heap_new}
 use Rattle.heap_system.proofs.parts.ClosedGate.{shut, in_phase, alone, turning, own_cycle, sweep, no_white, all_shaded}
 
@@ -66,14 +66,14 @@ field_row : (c : Config) (t : ℕ) (p : Pass) (k : Command) (r : FieldRow) → p
 field_row c t p k (fields.Shade r store) own e = grey_row (payloads c.width) t p.thread p.threads p.cycle r own e
 field_row c t p k _ own e = absurd cc
 
-gate_row : (c : Config) (t : ℕ) (q : Pass) (g : GateRow) → IsTurning q g → q.thread ≡ t → puts_roots g ≡ true → PutsGrey c t (TurnOver g)
+gate_row : (c : Config) (t : ℕ) (q : Pass) (g : GateRow) → IsChangingPhase q g → q.thread ≡ t → puts_roots g ≡ true → PutsGrey c t (PhaseChange g)
 gate_row c t q (gates.PutRoots p hand) kept own e = (ap (λ v. Exchange (GreyList v) hand) (ap (λ (x : Pass). x.thread) kept.0 ∙ own), refl)
 gate_row c t q _ kept own e = absurd cc
 
 puts_on_grey : (c : Config) (g : Graph) (t : ℕ) (q : Pass) (k : Command) (p : Part) → PartKept c g t q k p → puts_grey p ≡ true → PutsGrey c t p
 puts_on_grey c g t q k (Serve f) kept e = field_row c t f.pass f.command f.row kept.thread e
 puts_on_grey c g t q k (Mark m) kept e = grey_row (payloads c.width) t m.pass.thread m.pass.threads m.pass.cycle m.row kept.thread e
-puts_on_grey c g t q k (TurnOver a) kept e = gate_row c t q a kept.0 kept.1 e
+puts_on_grey c g t q k (PhaseChange a) kept e = gate_row c t q a kept.0 kept.1 e
 puts_on_grey c g t q k _ kept e = absurd cc
 
 -- And where it puts its hand in its own free list.
@@ -111,7 +111,7 @@ module _ (c : Config) (s : Seen c) where
     | inr e ↦ rw e (refl, refl)
   ]
 
-  closes : (p : Pass) (seen : ℕ) → AtPart c s (TurnOver (gates.Close p seen)) → StaysIn (heap_after s.heap (gate_want c.width (gates.Close p seen)) Phase) (s.heap Phase)
+  closes : (p : Pass) (seen : ℕ) → AtPart c s (PhaseChange (gates.Close p seen)) → StaysIn (heap_after s.heap (gate_want c.width (gates.Close p seen)) Phase) (s.heap Phase)
   closes p seen at = elim (cases_Bool (eqb (s.heap Phase) seen)) [
     | inl e ↦ rw e (
         let same : s.heap Phase ≡ seen = eqb-true (s.heap Phase) seen e in
@@ -120,23 +120,23 @@ module _ (c : Config) (s : Seen c) where
     | inr e ↦ rw e (refl, refl)
   ]
 
-  opens : (p : Pass) → AtPart c s (TurnOver (gates.Reopen p)) → StaysIn (open_word p.cycle false) (s.heap Phase)
+  opens : (p : Pass) → AtPart c s (PhaseChange (gates.Reopen p)) → StaysIn (open_word p.cycle false) (s.heap Phase)
   opens p at =
       let phase = in_phase c s (gates.Reopen p) at refl in
       let parts = open_parts p.cycle false in
       (parts.3 ∙ ap (λ (r : Pass). r.cycle) at.part.0.0 ∙ phase.0, parts.1 ∙ sym at.part.0.1 ∙ phase.1)
 
-  turning_stays : (g : GateRow) → AtPart c s (TurnOver g) → flips_or_starts g ≡ false → StaysIn (heap_after s.heap (part_want c (TurnOver g)) Phase) (s.heap Phase)
-  turning_stays (gates.CloseLook p) at e = (refl, refl)
-  turning_stays (gates.Close p seen) at e = closes p seen at
-  turning_stays (gates.CheckList p u) at e = (refl, refl)
-  turning_stays (gates.SetCursor p) at e = (refl, refl)
-  turning_stays (gates.Reopen p) at e = opens p at
-  turning_stays (gates.ShadeRoot p u hand) at e = (refl, refl)
-  turning_stays (gates.PutRoots p hand) at e = (refl, refl)
-  turning_stays (gates.Flip p) at e = absurd cc
-  turning_stays (gates.Start p) at e = absurd cc
-  turning_stays _ at e = absurd at.part.0
+  changing_stays : (g : GateRow) → AtPart c s (PhaseChange g) → flips_or_starts g ≡ false → StaysIn (heap_after s.heap (part_want c (PhaseChange g)) Phase) (s.heap Phase)
+  changing_stays (gates.CloseLook p) at e = (refl, refl)
+  changing_stays (gates.Close p seen) at e = closes p seen at
+  changing_stays (gates.CheckList p u) at e = (refl, refl)
+  changing_stays (gates.SetCursor p) at e = (refl, refl)
+  changing_stays (gates.Reopen p) at e = opens p at
+  changing_stays (gates.ShadeRoot p u hand) at e = (refl, refl)
+  changing_stays (gates.PutRoots p hand) at e = (refl, refl)
+  changing_stays (gates.Flip p) at e = absurd cc
+  changing_stays (gates.Start p) at e = absurd cc
+  changing_stays _ at e = absurd at.part.0
 
   entering_stays : (g : GateRow) → IsEntering g → StaysIn (heap_after s.heap (part_want c (Enter g)) Phase) (s.heap Phase)
   entering_stays gates.Look kept = (refl, refl)
@@ -150,9 +150,9 @@ module _ (c : Config) (s : Seen c) where
   part_stays (Mark m) at e = same_in _ _ (leaves_phase s.heap m.pass.thread m.pass.threads m.pass.cycle m.row)
   part_stays (Sweep p) at e = same_in _ _ (leaves_others s.heap p Phase refl)
   part_stays (Build b) at e = same_in _ _ (phase_stays c s.heap b)
-  part_stays Again at e = less (ap (λ (x : Gating). x.stand) at.gating)
-  part_stays Idle at e = less (ap (λ (x : Gating). x.stand) at.gating)
-  part_stays (TurnOver g) at e = turning_stays g at e
+  part_stays Retry at e = less (ap (λ (x : Gating). x.stand) at.gating)
+  part_stays ToChange at e = less (ap (λ (x : Gating). x.stand) at.gating)
+  part_stays (PhaseChange g) at e = changing_stays g at e
   part_stays Leave at e = less (ap (λ (x : Gating). x.stand) at.gating)
 
 module _ (c : Config) (traces : List (List Command)) (job : IsJob c traces) (r : Run) (k : Kept c traces r) (t : ℕ) (tl : t < c.threads) where
@@ -186,17 +186,17 @@ module _ (c : Config) (traces : List (List Command)) (job : IsJob c traces) (r :
     | inr going ↦ subst (λ h. StaysIn (h Phase) (heap_in c r.state Phase)) (sym (turned_heap going)) (part_stays c here (local_at c r.state t).part (at (local_at c r.state t).part refl) e)
   ]
 
-  -- one that turns the phase over
-  module _ (g : GateRow) (is : (local_at c r.state t).part ≡ TurnOver g) where
+  -- one that changes the phase
+  module _ (g : GateRow) (is : (local_at c r.state t).part ≡ PhaseChange g) where
     turned_over : heap_in c (turned c t r.state) ≡ heap_after (heap_in c r.state) (gate_want c.width g)
     turned_over = turned_heap (ap (λ p. is_rest p && eqb (length (local_at c r.state t).log) (length (local_at c r.state t).trace)) is) ∙ ap (λ p. heap_after (heap_in c r.state) (part_want c p)) is
 
-    pub nobody_inside : is_closing (turning_gating g).stand ≡ true → (is_closed (heap_in c r.state Phase) ≡ true) × (inside_of (heap_in c r.state Phase) ≡ 0)
-    nobody_inside closing = (let s = shut c here g (at (TurnOver g) is) closing in (s.0, s.1))
+    pub nobody_inside : is_closing (changing_gating g).stand ≡ true → (is_closed (heap_in c r.state Phase) ≡ true) × (inside_of (heap_in c r.state Phase) ≡ 0)
+    nobody_inside closing = (let s = shut c here g (at (PhaseChange g) is) closing in (s.0, s.1))
 
-  module _ (p : Pass) (is : (local_at c r.state t).part ≡ TurnOver (gates.Flip p)) where
-    flips_at : AtPart c here (TurnOver (gates.Flip p))
-    flips_at = at (TurnOver (gates.Flip p)) is
+  module _ (p : Pass) (is : (local_at c r.state t).part ≡ PhaseChange (gates.Flip p)) where
+    flips_at : AtPart c here (PhaseChange (gates.Flip p))
+    flips_at = at (PhaseChange (gates.Flip p)) is
 
     phase_at : ((local_at c r.state t).pass.cycle ≡ cycle_of (heap_in c r.state Phase)) × ((local_at c r.state t).pass.sweep ≡ is_sweep (heap_in c r.state Phase))
     phase_at = in_phase c here (gates.Flip p) flips_at refl
@@ -213,9 +213,9 @@ module _ (c : Config) (traces : List (List Command)) (job : IsJob c traces) (r :
     pub flip_black : (x : ℕ) → IsReachedBlock c (kept_state c r) x → heap_in c r.state (ColourOf x) ≡ black_word (cycle_of (heap_in c r.state Phase))
     flip_black x reached = flipped_black c (kept_state c r) k.names x (flip_mark, alone c here (gates.Flip p) flips_at refl, flip_grey, λ y j black jl. (k.rules.tricolour flip_mark).black y j black jl) reached
 
-  module _ (p : Pass) (is : (local_at c r.state t).part ≡ TurnOver (gates.Start p)) where
-    starts_at : AtPart c here (TurnOver (gates.Start p))
-    starts_at = at (TurnOver (gates.Start p)) is
+  module _ (p : Pass) (is : (local_at c r.state t).part ≡ PhaseChange (gates.Start p)) where
+    starts_at : AtPart c here (PhaseChange (gates.Start p))
+    starts_at = at (PhaseChange (gates.Start p)) is
 
     pub start_sweep : is_sweep (heap_in c r.state Phase) ≡ true
     start_sweep = sweep c here p starts_at
@@ -229,14 +229,14 @@ module _ (c : Config) (traces : List (List Command)) (job : IsJob c traces) (r :
     pub start_black : (x : ℕ) → is_free (heap_in c r.state (ColourOf x)) ≡ false → (heap_in c r.state (ColourOf x) ≡ black_word (cycle_of (heap_in c r.state Phase))) ⊎ IsShadedRoot c.width c.threads r.names.shaded x
     start_black x solid = started_black c (kept_state c r) k.names x (start_sweep, alone c here (gates.Start p) starts_at refl, start_white, all_shaded c here p starts_at) solid
 
-  turning_alone : (g : GateRow) → (local_at c r.state t).part ≡ TurnOver g → flips_or_starts g ≡ true → (is_closed (heap_in c r.state Phase) ≡ true) × (inside_of (heap_in c r.state Phase) ≡ 0)
-  turning_alone (gates.Flip p) is e = nobody_inside (gates.Flip p) is refl
-  turning_alone (gates.Start p) is e = nobody_inside (gates.Start p) is refl
-  turning_alone _ is e = absurd cc
+  changing_alone : (g : GateRow) → (local_at c r.state t).part ≡ PhaseChange g → flips_or_starts g ≡ true → (is_closed (heap_in c r.state Phase) ≡ true) × (inside_of (heap_in c r.state Phase) ≡ 0)
+  changing_alone (gates.Flip p) is e = nobody_inside (gates.Flip p) is refl
+  changing_alone (gates.Start p) is e = nobody_inside (gates.Start p) is refl
+  changing_alone _ is e = absurd cc
 
   pub turns_alone : turns_phase (local_at c r.state t).part ≡ true → (is_closed (heap_in c r.state Phase) ≡ true) × (inside_of (heap_in c r.state Phase) ≡ 0)
   turns_alone e = by (local_at c r.state t).part refl e
     where
       by : (p : Part) → (local_at c r.state t).part ≡ p → turns_phase p ≡ true → (is_closed (heap_in c r.state Phase) ≡ true) × (inside_of (heap_in c r.state Phase) ≡ 0)
-      by (TurnOver g) is e = turning_alone g is e
+      by (PhaseChange g) is e = changing_alone g is e
       by _ is e = absurd cc

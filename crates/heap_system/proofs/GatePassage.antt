@@ -22,9 +22,9 @@ use Rattle.heap_machine.proofs.Gatings.{gate_leaves, inside_some}
 use Rattle.heap_machine.proofs.Held.{held_put}
 use Rattle.heap_machine.proofs.PhaseRules.{phase_stays}
 use Rattle.barrier_steps.specs.Fits.{IsThread}
-use Rattle.kept_names.specs.Kept.{IsKept}
-use Rattle.kept_names.specs.Pictures.{Names, Task, no_task, picture}
-use Rattle.sweep_steps.specs.Ends.{unpassed}
+use Rattle.name_invariant.specs.Kept.{IsKept}
+use Rattle.name_invariant.specs.Pictures.{Names, Task, no_task, picture}
+use Rattle.sweep_steps.specs.SweepUnits.{unpassed}
 use Rattle.heap_system.specs.Parts.{Part, Rest}
 use Rattle.heap_system.specs.Locals.{plain, pass_got, entries_of, task, unit_to_come, PartFits, IsRoomy}
 use Rattle.heap_system.specs.Pictures.{gating, holding, waiting}

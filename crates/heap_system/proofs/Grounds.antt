@@ -1,4 +1,5 @@
--- The opening's grey blocks are the roots, each alone in its list; the blocks of its arrays are not Free; each place has a word that it can hold; and each payload refers to a block of the arrays.
+-- The opening's grey blocks are the roots, each alone in its list; the blocks of its arrays are not
+-- Free; each place has a word that it can hold; and each payload refers to a block of the arrays.
 use Rattle.std.proofs.Common.{◌≡◌, ℕ, zero, suc, ◌+◌, ◌-◌, ◌<◌, ◌≤◌, Bool, true, false, cond, ◌&&◌, eqb, leb, ltb, eqb-true, leb-true, ltb-true, eq-eqb, ne_eqb, lt-ltb, le-ltb, le-leb, Option, Some, IsSome, [], ◌∷◌, refl, sym, ap, ◌∙◌, subst, arith, inl, inr}
 use Rattle.std.proofs.lemmas.Bool.{cases_Bool, cases_eq, cases_lt, and_parts, and_from}
 use Rattle.block_store.specs.declared.Config.{Config}
@@ -36,14 +37,14 @@ use Rattle.array_trees.proofs.Counts.{few_shared, many}
 use Rattle.array_trees.proofs.RegisterArrays.{array_of}
 use Rattle.never_heap.specs.Graphs.{start_graph, shared_name, register_of}
 use Rattle.never_heap.proofs.StartGraph.{register_of_start}
-use Rattle.shown_graph.specs.Words.{part_word, value_word}
-use Rattle.shown_graph.specs.Openings.{register_word, shared_word}
-use Rattle.array_trees.specs.Openings.{opening_blocks}
+use Rattle.graph_relation.specs.Words.{part_word, value_word}
+use Rattle.graph_relation.specs.InitialHeaps.{register_word, shared_word}
+use Rattle.array_trees.specs.InitialHeaps.{opening_blocks}
 use Rattle.block_store.specs.Counts.{total}
 use Rattle.heap_machine.specs.Grey.{GreyHolding, no_grey, Stands, GreyKept}
 use Rattle.heap_machine.specs.Readings.{CanHold, IsPhaseWord, IsHeld}
 use Rattle.block_store.proofs.Functions.{total_none}
-use Rattle.heap_system.specs.Openings.{is_root, opening_colour, opening_heap}
+use Rattle.heap_system.specs.InitialHeaps.{is_root, opening_colour, opening_heap}
 
 some_is : {A : Type 0} (o : Option A) (x : A) → o ≡ Some x → IsSome o
 some_is o x e = subst (λ p. IsSome p) (sym e) refl

@@ -12,8 +12,8 @@ use Rattle.barrier_steps.specs.declared.rows.FieldRow.{FieldRow}
 use Rattle.barrier_steps.specs.declared.rows.FieldRow.TheVariants as rows
 use Rattle.barrier_steps.specs.declared.rows.FieldStore.{FieldStore}
 use Rattle.barrier_steps.specs.declared.rows.FieldStore.TheVariants as stores
-use Rattle.barrier_steps.specs.declared.rows.Wanted.{Wanted}
-use Rattle.barrier_steps.specs.declared.rows.Wanted.TheVariants as wants
+use Rattle.barrier_steps.specs.declared.rows.Purpose.{Purpose}
+use Rattle.barrier_steps.specs.declared.rows.Purpose.TheVariants as wants
 use Rattle.barrier_steps.specs.Deciding.{is_deciding}
 use Rattle.barrier_steps.specs.Fits.{is_store_of, is_wanted_by, is_row_of}
 use Rattle.barrier_steps.specs.Rows.{field_reply, field_decided, row_got}
@@ -24,7 +24,7 @@ pub record Looks (e : Extent) (p : Pass) (k : Command) (r : FieldRow) (w : ℕ) 
   pub replied : field_reply (row_got e p k r w) ≡ Some reply
 
 -- it loads no register, and stores nothing
-loads_none : (u : ℕ) (wanted : Wanted) → is_wanted_by (Idle u) wanted ≡ true → ⊥
+loads_none : (u : ℕ) (wanted : Purpose) → is_wanted_by (Idle u) wanted ≡ true → ⊥
 loads_none u wants.Copied own = cc
 loads_none u _ own = cc
 

@@ -12,9 +12,9 @@ use Rattle.never_heap.specs.Histories.{HistoryItem, replay, part, work_in}
 use Rattle.heap_machine.specs.Gating.{GateOf}
 use Rattle.heap_machine.specs.PhaseKept.{PhaseKept}
 use Rattle.heap_machine.specs.Readings.{IsHeld}
-use Rattle.kept_names.specs.Kept.{IsKept}
-use Rattle.kept_names.specs.Pictures.{Names}
-use Rattle.sweep_steps.specs.Ends.{unpassed}
+use Rattle.name_invariant.specs.Kept.{IsKept}
+use Rattle.name_invariant.specs.Pictures.{Names}
+use Rattle.sweep_steps.specs.SweepUnits.{unpassed}
 use Rattle.heap_system.specs.Locals.{LocalState, command_of, owed, works, IsLocal}
 use Rattle.heap_system.specs.Machines.{Run, local_at, heap_in}
 use Rattle.heap_system.specs.Pictures.{holding, entries_waiting, gates_in, holdings_in, kept_state}

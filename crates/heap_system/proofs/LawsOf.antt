@@ -1,6 +1,6 @@
 -- The laws of each part: one line a part.
 use Rattle.block_store.specs.declared.Config.{Config}
-use Rattle.heap_system.specs.Parts.{Part, Rest, Enter, Serve, Mark, Sweep, Build, Again, Idle, TurnOver, Leave}
+use Rattle.heap_system.specs.Parts.{Part, Rest, Enter, Serve, Mark, Sweep, Build, Retry, ToChange, PhaseChange, Leave}
 use Rattle.heap_system.proofs.PartLaws.{PartLaws}
 use Rattle.heap_system.proofs.parts.Rest.{rest_laws}
 use Rattle.heap_system.proofs.parts.Enter.{enter_laws}
@@ -8,9 +8,9 @@ use Rattle.heap_system.proofs.parts.Serve.{serve_laws}
 use Rattle.heap_system.proofs.parts.Mark.{mark_laws}
 use Rattle.heap_system.proofs.parts.Sweep.{sweep_laws}
 use Rattle.heap_system.proofs.parts.Build.{build_laws}
-use Rattle.heap_system.proofs.parts.Again.{again_laws}
-use Rattle.heap_system.proofs.parts.Idle.{idle_laws}
-use Rattle.heap_system.proofs.parts.TurnOver.{turn_over_laws}
+use Rattle.heap_system.proofs.parts.Retry.{again_laws}
+use Rattle.heap_system.proofs.parts.ToChange.{idle_laws}
+use Rattle.heap_system.proofs.parts.PhaseChange.{turn_over_laws}
 use Rattle.heap_system.proofs.parts.Leave.{leave_laws}
 
 pub laws_of : (c : Config) (p : Part) → PartLaws c p
@@ -20,7 +20,7 @@ laws_of c (Serve f) = serve_laws c f
 laws_of c (Mark m) = mark_laws c m
 laws_of c (Sweep s) = sweep_laws c s
 laws_of c (Build b) = build_laws c b
-laws_of c Again = again_laws c
-laws_of c Idle = idle_laws c
-laws_of c (TurnOver g) = turn_over_laws c g
+laws_of c Retry = again_laws c
+laws_of c ToChange = idle_laws c
+laws_of c (PhaseChange g) = turn_over_laws c g
 laws_of c Leave = leave_laws c

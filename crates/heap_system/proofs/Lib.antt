@@ -11,15 +11,16 @@ pub mod OrderGrowth
 pub mod LocalAfterEvent
 pub mod KeptByTurns
 pub mod Grounds
-pub mod Openings
+pub mod InitialHeaps
 pub mod GatePassage
 pub mod parts
 pub mod LawsOf
 pub mod Always
+pub mod AtOnce
 pub mod SystemStart
 pub mod Rooms
 pub mod TurnFacts
-pub mod Told
+pub mod RunLaws
 pub mod LoadedBlocks
 mod IdleLook
 pub mod FlipAndStart

@@ -10,16 +10,16 @@ use Rattle.never_heap.specs.declared.Command.{Command}
 use Rattle.never_heap.specs.declared.Command.TheVariants as commands
 use Rattle.never_heap.specs.Graphs.{register_of}
 use Rattle.never_heap.specs.Histories.{replay}
-use Rattle.shown_graph.specs.Events.{ObjectLoad, ValueLoad, ObjectIs, ValueIs, is_pending}
-use Rattle.shown_graph.specs.Shown.{IsValueOf}
-use Rattle.kept_names.specs.Building.{Build, NotHeld}
-use Rattle.kept_names.specs.Colouring.{IfRefers, IsBlockOf, IsShadedRoot}
-use Rattle.kept_names.specs.Kept.{IsKept}
-use Rattle.kept_names.specs.States.{KeptState, sizes, Kept as KeptNames}
-use Rattle.kept_names.specs.Reached.{IsReachedBlock}
-use Rattle.kept_names.proofs.HeldBlocks.{some_is}
-use Rattle.kept_names.proofs.ReachedBlocks.{reached_black, dark_refers}
-use Rattle.kept_names.proofs.KeptStates.{kept_not_held, value_refers}
+use Rattle.graph_relation.specs.Events.{ObjectLoad, ValueLoad, ObjectIs, ValueIs, is_pending}
+use Rattle.graph_relation.specs.Shown.{IsValueOf}
+use Rattle.name_invariant.specs.Building.{Build, NotHeld}
+use Rattle.name_invariant.specs.Colouring.{IfRefers, IsBlockOf, IsShadedRoot}
+use Rattle.name_invariant.specs.Kept.{IsKept}
+use Rattle.name_invariant.specs.States.{KeptState, sizes, Kept as KeptNames}
+use Rattle.name_invariant.specs.Reached.{IsReachedBlock}
+use Rattle.name_invariant.proofs.HeldBlocks.{some_is}
+use Rattle.name_invariant.proofs.ReachedBlocks.{reached_black, dark_refers}
+use Rattle.name_invariant.proofs.KeptStates.{kept_not_held, value_refers}
 use Rattle.barrier_steps.specs.Fits.{is_store_of, is_row_of}
 use Rattle.barrier_steps.specs.Operands.{to_register, takes_field, answers_value}
 use Rattle.barrier_steps.specs.Projection.{store_loading, row_loading, carried_load}
@@ -28,8 +28,8 @@ use Rattle.barrier_steps.specs.declared.rows.FieldRow.{FieldRow}
 use Rattle.barrier_steps.specs.declared.rows.FieldRow.TheVariants as fields
 use Rattle.barrier_steps.specs.declared.rows.FieldStore.{FieldStore}
 use Rattle.barrier_steps.specs.declared.rows.FieldStore.TheVariants as stores
-use Rattle.barrier_steps.specs.declared.rows.Wanted.{Wanted}
-use Rattle.barrier_steps.specs.declared.rows.Wanted.TheVariants as wants
+use Rattle.barrier_steps.specs.declared.rows.Purpose.{Purpose}
+use Rattle.barrier_steps.specs.declared.rows.Purpose.TheVariants as wants
 use Rattle.heap_system.specs.Parts.{Part, Serve}
 use Rattle.heap_system.specs.Loaded.{IsLoadedBlock, IsOfValue, IsTaking}
 use Rattle.heap_system.specs.Locals.{PartFits, task, command_of}
@@ -94,7 +94,8 @@ module _ (c : Config) (s : KeptState) (k : IsKept c s) where
   spared_refers sweep x j (inl black) jl = dark_refers c s k sweep x j (inr black) jl
   spared_refers sweep x j (inr root) jl = dark_refers c s k sweep x j (inl (shaded_grey sweep x root)) jl
 
--- A pending register is the one that a `get` or a `swap` is about to store, behind its deciding event.
+-- A pending register is the one that a `get` or a `swap` is about to store, after its linearization
+-- point.
 carries_none : (k : Command) (word q : ℕ) → is_pending (carried_load k word) q ≡ false
 carries_none (commands.Put s i v) word q = refl
 carries_none (commands.Swap s i v) word q = refl
@@ -104,7 +105,7 @@ carries_none _ word q = refl
 abbrev Gets : Command → FieldRow → ℕ → Type 0
 Gets k row q = (takes_field k ≡ true) × (to_register k ≡ q) × (field_decided row ≡ true)
 
-register_gets : (e : Extent) (k : Command) (wanted : Wanted) (q : ℕ) → is_pending (row_loading e k (fields.LoadRegister wanted)).value q ≡ true → Gets k (fields.LoadRegister wanted) q
+register_gets : (e : Extent) (k : Command) (wanted : Purpose) (q : ℕ) → is_pending (row_loading e k (fields.LoadRegister wanted)).value q ≡ true → Gets k (fields.LoadRegister wanted) q
 register_gets e k (wants.Second word) q is = absurd cc
 register_gets e k _ q is = absurd cc
 

@@ -19,17 +19,17 @@ use Rattle.heap_machine.specs.Operations.{Operation, Load, Exchange, CompareExch
 use Rattle.heap_machine.specs.Sweeping.{claims}
 use Rattle.heap_machine.specs.declared.gate.GateRow.{GateRow}
 use Rattle.heap_machine.specs.declared.gate.GateRow.TheVariants as gates
-use Rattle.grey_steps.specs.Ends.{is_blackening}
-use Rattle.sweep_steps.specs.Ends.{row_passes}
+use Rattle.grey_steps.specs.MarkUnits.{is_blackening}
+use Rattle.sweep_steps.specs.SweepUnits.{row_passes}
 use Rattle.sweep_steps.specs.Rows.{row_want, sweep_want, sweep_holding}
 use Rattle.sweep_steps.specs.declared.rows.SweepRow.{SweepRow}
 use Rattle.sweep_steps.specs.declared.rows.SweepRow.TheVariants as sweeps
-use Rattle.build_steps.specs.Ends.{is_publishing}
+use Rattle.build_steps.specs.LinearizationPoints.{is_publishing}
 use Rattle.cycle_tally.specs.Bounds.{Bound, IsSwept}
 use Rattle.cycle_tally.specs.Tallies.{Spending, Tally, units_now, made_now}
 use Rattle.cycle_tally.specs.Tallies as tallying
 use Rattle.cycle_tally.proofs.Laws.{bound_of}
-use Rattle.heap_system.specs.Parts.{Part, Mark, Sweep, Build, TurnOver}
+use Rattle.heap_system.specs.Parts.{Part, Mark, Sweep, Build, PhaseChange}
 use Rattle.heap_system.specs.Costs.{units_so_far}
 use Rattle.heap_system.specs.Cycles.{is_at_block, scans_block, passes_block, times_that, is_behind}
 use Rattle.heap_system.specs.Locals.{Verdict, Open, AsStep, Refused, effect, part_want, command_of, is_done}
@@ -48,7 +48,7 @@ use Rattle.heap_system.proofs.TallyLaw.{TallyLaw, Counted, scans_at, passes_at}
 use Rattle.heap_system.proofs.KeptByTurns.{seen, at_part, effect_here, new_run, next_is, word_is}
 use Rattle.heap_system.proofs.parts.ClosedGate.{in_phase, behind_last}
 use Rattle.heap_system.proofs.parts.InPass.{pass_is, grey_or_black}
-use Rattle.heap_system.proofs.tallies.TurnOver.{empty}
+use Rattle.heap_system.proofs.tallies.PhaseChange.{empty}
 
 -- what is one or none is so where nothing else makes it one
 exactly : (n k : ℕ) (b : Bool) → n + k ≡ bit b → n ≡ bit (b && eqb k 0)
@@ -111,7 +111,7 @@ no_unit c (Sweep q) w e = absurd cc
 no_unit c _ w e = refl
 
 module _ (c : Config) (rate : ℕ) (s : Seen c) where
-  swept_row : (g : GateRow) (at : AtPart c s (TurnOver g)) (before : Tally) → Counted c rate s (TurnOver g) before → (effect c (TurnOver g) (word_at c s (TurnOver g))).naming ≡ Begun → IsSwept c before
+  swept_row : (g : GateRow) (at : AtPart c s (PhaseChange g)) (before : Tally) → Counted c rate s (PhaseChange g) before → (effect c (PhaseChange g) (word_at c s (PhaseChange g))).naming ≡ Begun → IsSwept c before
   swept_row (gates.Start q) at before k e = record {
     sweep = k.of.sweep ∙ sym (in_phase c s (gates.Start q) at refl).1 ∙ at.part.0.1;
     cursor = (let last = behind_last c s q at in omega (arith, k.of.cursor, last));
@@ -120,7 +120,7 @@ module _ (c : Config) (rate : ℕ) (s : Seen c) where
   swept_row _ at before k e = absurd cc
 
   swept_at : (p : Part) (at : AtPart c s p) (before : Tally) → Counted c rate s p before → (effect c p (word_at c s p)).naming ≡ Begun → IsSwept c before
-  swept_at (TurnOver g) at before k e = swept_row g at before k e
+  swept_at (PhaseChange g) at before k e = swept_row g at before k e
   swept_at (Build b) at before k e = absurd (never_begun (is_publishing b.row) _ e)
   swept_at _ at before k e = absurd cc
 

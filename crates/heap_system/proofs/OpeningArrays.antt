@@ -21,11 +21,11 @@ use Rattle.array_trees.proofs.Arrays.{tree_layout}
 use Rattle.array_trees.proofs.Counts.{few_shared, many}
 use Rattle.never_heap.specs.Graphs.{start_graph, shared_name, register_of}
 use Rattle.never_heap.proofs.StartGraph.{register_of_start}
-use Rattle.shown_graph.specs.Words.{value_word, part_word}
-use Rattle.shown_graph.specs.Made.{link_word}
-use Rattle.shown_graph.specs.Openings.{opening_at, shared_block, register_word, shared_word}
-use Rattle.array_trees.specs.Openings.{opening_blocks}
-use Rattle.heap_system.specs.Openings.{opening_heap}
+use Rattle.graph_relation.specs.Words.{value_word, part_word}
+use Rattle.graph_relation.specs.Made.{link_word}
+use Rattle.graph_relation.specs.InitialHeaps.{opening_at, shared_block, register_word, shared_word}
+use Rattle.array_trees.specs.InitialHeaps.{opening_blocks}
+use Rattle.heap_system.specs.InitialHeaps.{opening_heap}
 
 linked_part : (p : Part) (q : ℕ) → link_in p ≡ Some q → p ≡ Link q
 linked_part (Link o) q e = ap Link cc

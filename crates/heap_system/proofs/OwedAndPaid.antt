@@ -24,11 +24,11 @@ use Rattle.never_heap.specs.RightWork.{units_told, units_owed}
 use Rattle.cycle_tally.specs.Kept.{most_work}
 use Rattle.never_heap.specs.Steps.{blocks_of}
 use Rattle.never_heap.proofs.StepAnswers.{blocks_make}
-use Rattle.never_heap.proofs.Ranges as ranges
+use Rattle.never_heap.proofs.CommandBounds as ranges
 use Rattle.heap_machine.specs.Gates.{gate_got, closed_by, is_going_in, is_of_pass, is_empty, GateFits, GateAt}
 use Rattle.heap_machine.proofs.GateRows.{gate_fits}
 use Rattle.heap_machine.specs.Passes.{IsPass}
-use Rattle.heap_machine.specs.Turning.{turns_over}
+use Rattle.heap_machine.specs.ChangingPhase.{turns_over}
 use Rattle.heap_machine.specs.declared.pass.Pass.{Pass}
 use Rattle.heap_machine.specs.declared.gate.GateRow.{GateRow}
 use Rattle.heap_machine.specs.declared.gate.GateRow.TheVariants as gates
@@ -36,16 +36,16 @@ use Rattle.barrier_steps.specs.Rows.{FieldState, at_first_row}
 use Rattle.barrier_steps.specs.Fits.{IsThread}
 use Rattle.barrier_steps.proofs.FieldRows.{first_fits}
 use Rattle.grey_steps.specs.Rows.{scanning}
-use Rattle.grey_steps.proofs.Ranges.{scan_fits}
+use Rattle.grey_steps.proofs.RowsFit.{scan_fits}
 use Rattle.sweep_steps.specs.Rows.{SweepState, sweep_got, sweep_over, step_to, sweeping}
 use Rattle.sweep_steps.specs.declared.rows.SweepRow.{SweepRow}
 use Rattle.sweep_steps.specs.declared.rows.SweepRow.TheVariants as sweeps
-use Rattle.sweep_steps.proofs.Ranges as sweeping_ranges
+use Rattle.sweep_steps.proofs.RowsFit as sweeping_ranges
 use Rattle.build_steps.specs.Rows.{BuildState, building}
-use Rattle.build_steps.proofs.Ranges as building_ranges
+use Rattle.build_steps.proofs.RowsFit as building_ranges
 use Rattle.work_account.specs.Accounts.{Balance, AccountState, entered}
 use Rattle.heap_system.specs.declared.local.Local.TheInside.{Inside}
-use Rattle.heap_system.specs.Parts.{part_at, Part, Rest, Enter, Serve, Mark, Sweep, Build, TurnOver, Leave}
+use Rattle.heap_system.specs.Parts.{part_at, Part, Rest, Enter, Serve, Mark, Sweep, Build, PhaseChange, Leave}
 use Rattle.heap_system.specs.Machines.{IsJob}
 use Rattle.heap_system.specs.Lives.{IsLife, sum_after, objects_of, most_units, most_objects}
 use Rattle.heap_system.specs.Locals.{LocalState, command_behind, IsLocal, PartFits, PartReads, IsRoomy, IsAllMade, errand_of, answered, command_of, owed, pass_by, is_last, is_rest, unit_to_come, works, entry_of, made_got, balance_over, paid_part, begun}
@@ -256,12 +256,12 @@ swept_last s w = here (sweep_got s w).row
     here _ = refl
 
 -- a part that turns over goes on
-pub turned_on : (l : LocalState) (g n : GateRow) (w : ℕ) (c : Config) → IsLocal l → PartReads l.config l.part w → l.part ≡ TurnOver g → c ≡ l.config → n ≡ gate_got c.width g w → GateAt c n → IsLocal (record l { part = TurnOver n })
+pub turned_on : (l : LocalState) (g n : GateRow) (w : ℕ) (c : Config) → IsLocal l → PartReads l.config l.part w → l.part ≡ PhaseChange g → c ≡ l.config → n ≡ gate_got c.width g w → GateAt c n → IsLocal (record l { part = PhaseChange n })
 turned_on l g n w c k reads at same is there =
     let was = subst (λ (p : Part). PartFits l.config (length l.log) (length l.trace) l.pass p) at k.part in
     let read = subst (λ (p : Part). PartReads l.config p w) at reads in
     let next : n ≡ gate_got l.config.width g w = is ∙ ap (λ (x : Config). gate_got x.width g w) same in
-    begins l l.pass (TurnOver n) k (subst GateFits (sym next) (gate_fits l.config g w was.0 read), subst (λ x. GateAt x n) same there, ap turns_over next ∙ turns_on l.config.width g w was.2, was.3) (omega (arith, k.paid)) tt tt
+    begins l l.pass (PhaseChange n) k (subst GateFits (sym next) (gate_fits l.config g w was.0 read), subst (λ x. GateAt x n) same there, ap turns_over next ∙ turns_on l.config.width g w was.2, was.3) (omega (arith, k.paid)) tt tt
 
 -- a thread on its way in has a command
 pub on_way_low : (l : LocalState) (g : GateRow) → IsLocal l → l.part ≡ Enter g → length l.log < length l.trace

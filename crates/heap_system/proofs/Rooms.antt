@@ -1,5 +1,5 @@
--- Runs of one job by one list of turns: they are one run but for the rooms of the threads, since no event
--- looks at a room.
+-- Runs of one job by one list of turns: they are one run but for the rooms of the threads, since no
+-- event looks at a room.
 use Rattle.std.proofs.Common.{◌≡◌, ℕ, zero, suc, ◌+◌, ◌*◌, ◌-◌, ◌/◌, ◌%◌, ◌<◌, ◌≤◌, Bool, true, false, cond, eqb, ltb, lt-ltb, le-ltb, le-leb, ne_eqb, subst, Option, Some, None, not, ◌&&◌, List, [], ◌∷◌, ◌++◌, length, get_or, set, map, refl, sym, ap, ◌∙◌, arith, inl, inr}
 use Rattle.std.proofs.Math.ListN.{get_or-map}
 use Rattle.std.proofs.lemmas.Bool.{cases_lt}
@@ -23,14 +23,14 @@ use Rattle.barrier_steps.specs.Rows.{field_reply, field_got}
 use Rattle.grey_steps.specs.Rows.{grey_got, grey_over, grey_nothing}
 use Rattle.sweep_steps.specs.Rows.{sweep_got, sweep_over, sweep_nothing}
 use Rattle.build_steps.specs.Rows.{BuildState, build_got, build_reply}
-use Rattle.heap_system.specs.Parts.{Part, Rest, Enter, Serve, Mark, Sweep, Build, Again, Idle, TurnOver, Leave}
+use Rattle.heap_system.specs.Parts.{Part, Rest, Enter, Serve, Mark, Sweep, Build, Retry, ToChange, PhaseChange, Leave}
 use Rattle.build_steps.specs.declared.rows.BuildRow.{BuildRow}
 use Rattle.never_heap.specs.RightWork.{units_told}
 use Rattle.heap_system.specs.Locals.{LocalState, Effect, Errand, View, command_of, errand_of, entries_of, spent_got, balance_got, made_got, pass_got, effect, view, first_part, if_entered, if_over, if_replied, is_last, part_got, local_got, is_done, is_rest, pass_by, at_start}
 use Rattle.heap_system.specs.Machines.{State, Run, local_at, no_local, heap_in, word_read, next_effect, event_done, has_event, turned, items_by, decided, names_after, next, after_turns, starts_from, opened, IsOpening, IsRunOf}
 use Rattle.heap_system.specs.Naming.{renamed, opening_names}
 use Rattle.heap_system.specs.Systems.{logs_of}
-use Rattle.kept_names.specs.Pictures.{Names}
+use Rattle.name_invariant.specs.Pictures.{Names}
 use Rattle.never_heap.specs.Histories.{HistoryItem, Started, replay}
 use Rattle.heap_system.specs.Rooms.{part_without_room, without_room, threads_without_room}
 use Rattle.heap_system.proofs.SystemStart.{one_rate}
@@ -168,9 +168,9 @@ got_room c t e q (Sweep s) w = let n = sweep_got s w in over_room (sweep_over n.
 got_room c t e q (Build b) w =
     ap (λ y. if_replied y (Build (build_got (extent c) (emptied b) w))) (ap build_reply (built_room (extent c) b w) ∙ reply_room (build_got (extent c) b w))
     ∙ replied_room (build_reply (build_got (extent c) b w)) _ _ (ap Build (built_room (extent c) b w))
-got_room c t e q Again w = refl
-got_room c t e q Idle w = refl
-got_room c t e q (TurnOver g) w = cond_room (is_last (gate_step g w)) (Enter gates.Look) (TurnOver (gate_got c.width g w)) _ _ refl refl
+got_room c t e q Retry w = refl
+got_room c t e q ToChange w = refl
+got_room c t e q (PhaseChange g) w = cond_room (is_last (gate_step g w)) (Enter gates.Look) (PhaseChange (gate_got c.width g w)) _ _ refl refl
 got_room c t e q Leave w = refl
 
 local_room : (l : LocalState) (w : ℕ) → local_got (without_room l) w ≡ without_room (local_got l w)

@@ -18,7 +18,7 @@ use Rattle.cycle_tally.specs.Kept.{most_given}
 use Rattle.cycle_tally.specs.Tallies.{units, made_now}
 use Rattle.cycle_tally.proofs.Laws.{bound_of}
 use Rattle.cycle_tally.proofs.BlockLists.{total_plus}
-use Rattle.cycle_tally.proofs.Smalls.{counts_small}
+use Rattle.cycle_tally.proofs.CountBounds.{counts_small}
 use Rattle.heap_system.specs.Parts.{Part}
 use Rattle.heap_system.specs.Costs.{units_so_far}
 use Rattle.heap_system.specs.Locals.{LocalState, works}
@@ -30,7 +30,7 @@ use Rattle.heap_system.proofs.PartLaws.{PartLaws}
 use Rattle.heap_system.proofs.OwedAndPaid.{worked_low, paid_low}
 use Rattle.heap_system.proofs.RunTally.{RunTallied, run_tallied, spent_is}
 use Rattle.heap_system.proofs.TallyLaw.{TallyLaw}
-use Rattle.heap_system.proofs.Told.{rest_settled}
+use Rattle.heap_system.proofs.RunLaws.{rest_settled}
 use Rattle.heap_system.proofs.KeptByTurns.{total_most}
 
 -- the work of an order is that of its parts

@@ -10,20 +10,20 @@ use Rattle.heap_machine.specs.declared.Step.TheVariants as steps
 use Rattle.heap_machine.specs.declared.op.Op.{Op}
 use Rattle.heap_machine.specs.Memories.{Acts}
 use Rattle.grey_steps.specs.Fits.{GreyFits}
-use Rattle.grey_steps.specs.Ends.{is_blackening, grey_outcome}
+use Rattle.grey_steps.specs.MarkUnits.{is_blackening, grey_outcome}
 use Rattle.grey_steps.specs.Rows.{GreyState, grey_got, grey_step, grey_over, grey_nothing, grey_unit}
 use Rattle.sweep_steps.specs.Fits.{SweepFits}
-use Rattle.sweep_steps.specs.Ends.{sweep_outcome}
+use Rattle.sweep_steps.specs.SweepUnits.{sweep_outcome}
 use Rattle.sweep_steps.specs.Rows.{SweepState, sweep_got, sweep_over, sweep_nothing}
 use Rattle.never_heap.specs.RightWork.{units_owed, units_told}
 use Rattle.work_account.specs.Accounts.{AccountState}
 use Rattle.heap_system.specs.declared.local.Local.TheInside.{Inside}
 use Rattle.heap_system.specs.declared.Turn.{Turn}
 use Rattle.heap_system.specs.declared.Turn.TheVariants.{Went}
-use Rattle.heap_system.specs.Parts.{Part, Mark, Sweep, Again, Idle}
+use Rattle.heap_system.specs.Parts.{Part, Mark, Sweep, Retry, ToChange}
 use Rattle.heap_system.specs.declared.rows.Row.{Row}
 use Rattle.heap_system.specs.declared.rows.Row.TheVariants as rows
-use Rattle.heap_system.specs.Courses.{goes_on, HasRunIn, MayRun}
+use Rattle.heap_system.specs.ThreadMemories.{goes_on, HasRunIn, MayRun}
 use Rattle.heap_system.specs.Locals.{LocalState, IsAllMade, IsLocal, IsPassAt, IsRoomy, PartFits, command_behind, is_done, op_wanted, balance_on, spent_got, command_of, if_over, is_last, local_got, owed, part_step, turn_of, unit_to_come}
 use Rattle.heap_system.proofs.OwedAndPaid.{part_of, view_of, swept_last}
 use Rattle.heap_system.proofs.UnitMade.{counted_local, mark_owes, over_local, over_part, swept_fits, swept_owes, ties}
@@ -127,18 +127,18 @@ went_on _ e = absurd cc
 
 -- a row behind this step, as the code keeps it
 pub behind_at : (i : Inside) (last none : Bool) (row r : Row) (q : Part)
-    → r ≡ cond last (cond none rows.Idle rows.Again) row → over_part i row ≡ q
+    → r ≡ cond last (cond none rows.ToChange rows.Retry) row → over_part i row ≡ q
     → over_part i r ≡ if_over last none q
 behind_at i last none row r q is at = ap (over_part i) is ∙ by last none
   where
-    by : (b c : Bool) → over_part i (cond b (cond c rows.Idle rows.Again) row) ≡ if_over b c q
+    by : (b c : Bool) → over_part i (cond b (cond c rows.ToChange rows.Retry) row) ≡ if_over b c q
     by true true = refl
     by true false = refl
     by false c = at
 
 -- a part that is over or goes on
 pub behind_local : (l : LocalState) (last none : Bool) (p q : Part) → p ≡ if_over last none q
-    → IsLocal (record l { part = Idle }) → IsLocal (record l { part = Again })
+    → IsLocal (record l { part = ToChange }) → IsLocal (record l { part = Retry })
     → IsLocal (record l { part = q }) → IsLocal (record l { part = p })
 behind_local l last none p q is idle again goes =
     subst (λ x. IsLocal (record l { part = x })) (sym is) (by last none)
@@ -179,7 +179,7 @@ module _ (i : Inside) (k : IsLocal (view_of i)) (rate : i.account.rate ≡ i.rat
       let over = over_local i k rate object a o.unit told spent counts reads makes in
       let some : i.spent + bit o.unit ≤ owed (view_of i) = omega (arith, owes) in
       behind_local (record (view_of i) { balance = a.balance; spent = spent }) (is_last o.step) none p q is
-      (over Idle true refl low pass some) (over Again false refl low pass some)
+      (over ToChange true refl low pass some) (over Retry false refl low pass some)
       (counted_local i k rate object a o.unit told spent counts reads makes q fits owes settled roomy)
 
   pub mark_counted : (m n : GreyState) → part_of i ≡ Mark m → n ≡ grey_got (extent x) m w

@@ -19,16 +19,16 @@ use Rattle.never_heap.specs.Steps.{blocks_of}
 use Rattle.never_heap.proofs.OpeningLiveBlocks.{opening_live}
 use Rattle.work_account.specs.Accounts as accounts
 use Rattle.cycle_tally.specs.Kept.{TallyKept}
-use Rattle.cycle_tally.specs.Openings.{opening_tally}
+use Rattle.cycle_tally.specs.InitialHeaps.{opening_tally}
 use Rattle.cycle_tally.specs.Tallies.{Spending, Tally, made_of}
 use Rattle.work_account.specs.Accounts.{Balance}
 use Rattle.cycle_tally.proofs.Laws as tallies
-use Rattle.cycle_tally.proofs.Openings.{opens}
+use Rattle.cycle_tally.proofs.InitialHeaps.{opens}
 use Rattle.heap_system.specs.Parts.{Part}
 use Rattle.heap_system.specs.Locals.{LocalState, command_of, owed, is_done, paid_part, spent_got, entries_of}
 use Rattle.heap_system.specs.Machines.{State, Run, local_at, event_done, has_event, next_effect, items_by, heap_in, next, after_turns, IsOpening, IsJob, IsRunOf, opened}
 use Rattle.heap_system.specs.Naming.{renamed}
-use Rattle.heap_system.specs.Openings.{opening_phase}
+use Rattle.heap_system.specs.InitialHeaps.{opening_phase}
 use Rattle.heap_system.proofs.Always.{here, opening_kept, turn_kept}
 use Rattle.heap_system.proofs.OrderGrowth.{items_are}
 use Rattle.heap_system.proofs.Kept.{Kept}

@@ -14,7 +14,7 @@ use Rattle.heap_system.specs.declared.Turn.{Turn}
 use Rattle.heap_system.specs.declared.Turn.TheVariants.{Went}
 use Rattle.heap_system.specs.Parts.{Part, Rest}
 use Rattle.heap_system.specs.Locals.{LocalState, IsLocal, HasGot, LocalReads, PartReads, command_behind, is_build, is_done, is_rest, is_serving, local_got, op_wanted, part_step, part_want, turn_of}
-use Rattle.heap_system.specs.Courses.{has_waited, HasRun, HasRunIn, IsGoing, Leads, MayRun, Ran, TellsLast}
+use Rattle.heap_system.specs.ThreadMemories.{has_waited, HasRun, HasRunIn, IsGoing, MakesTheNextEvent, MayRun, Ran, TellsLast}
 use Rattle.heap_system.proofs.OwedAndPaid.{view_of}
 use Rattle.heap_system.proofs.WantedPlaces.{want_low}
 
@@ -83,7 +83,7 @@ pub record Goes {M S : Type 0} (acts : Acts M S) (s : S) (before : M) (self : Lo
 -- The next event of a thread, where its part is p and the code has x for its configuration.
 module _ {M S : Type 0} {may : M → S → Op → Type 0} {acts : Acts M S}
     {stands : M → S → LocalState → Type 0} {m : M} {s : S} {l : LocalState} (x : Config)
-    (p : Part) (same : x ≡ l.config) (at : l.part ≡ p) (lead : Leads may acts stands m s l) where
+    (p : Part) (same : x ≡ l.config) (at : l.part ≡ p) (lead : MakesTheNextEvent may acts stands m s l) where
   op_same : op_at (extent x) (part_want x p) ≡ op_wanted l
   op_same = ap (λ y. op_at (extent y) (part_want y p)) same
       ∙ sym (ap (λ q. op_at (extent l.config) (part_want l.config q)) at)
@@ -105,7 +105,7 @@ module _ {M S : Type 0} {may : M → S → Op → Type 0} {acts : Acts M S}
 -- The next event where so many may be made, of which k were.
 pub leads_at : {M S : Type 0} (may : M → S → Op → Type 0) (acts : Acts M S) (n k : ℕ) → k < n
     → (m : M) (s : S) (l : LocalState) → MayRun may acts (n - k) m s l → IsGoing l
-    → Leads may acts (MayRun may acts (n - (k + 1))) m s l
+    → MakesTheNextEvent may acts (MayRun may acts (n - (k + 1))) m s l
 leads_at may acts n k low m s l has going =
     let more : n - k ≡ suc (n - (k + 1)) = omega (arith, low) in
     (subst (λ x. MayRun may acts x m s l) more has) going
@@ -143,7 +143,7 @@ made_once acts s m l n k turn has = by has.0.words has.0.ran has.0.told has.1 ha
 module _ {M S : Type 0} (may : M → S → Op → Type 0) (acts : Acts M S)
     (stands : M → S → LocalState → Type 0)
     (law : (m : M) (s : S) (l : LocalState) → stands m s l → is_done l ≡ false
-    → op_place (op_wanted l) < words_count (extent l.config) → Leads may acts stands m s l) where
+    → op_place (op_wanted l) < words_count (extent l.config) → MakesTheNextEvent may acts stands m s l) where
   pub stands_may : (n : ℕ) (m : M) (s : S) (l : LocalState) → stands m s l → MayRun may acts n m s l
   stands_may zero m s l stand = tt
   stands_may (suc n) m s l stand = λ (going : IsGoing l).
@@ -195,7 +195,7 @@ module _ {M S : Type 0} (may : M → S → Op → Type 0) {acts : Acts M S} {s :
     (has : MayRun may acts (most - made) m s l) (going : IsGoing l)
     {w : ℕ} {after : M} (acted : acts m s (op_wanted l) w after) {k : LocalState} {turn : Turn}
     (got : HasGot l w k turn) where
-  abbrev lead : Leads may acts (MayRun may acts (most - (made + 1))) m s l
+  abbrev lead : MakesTheNextEvent may acts (MayRun may acts (most - (made + 1))) m s l
   lead = leads_at may acts most made low m s l has going
 
   pub more_ends : HasRunIn most acts s before self after k turn

@@ -20,22 +20,22 @@ use Rattle.heap_machine.specs.Gating.{Gating, GateOf, is_outside, is_inside}
 use Rattle.heap_machine.specs.Holdings.{Holding, holds_nothing}
 use Rattle.heap_machine.specs.PhaseKept.{PhaseKept}
 use Rattle.heap_machine.specs.Readings.{IsHeld}
-use Rattle.heap_machine.specs.Turning.{lists_read}
+use Rattle.heap_machine.specs.ChangingPhase.{lists_read}
 use Rattle.heap_machine.specs.declared.gate.GateRow.{GateRow}
 use Rattle.heap_machine.specs.declared.gate.GateRow.TheVariants as gates
 use Rattle.heap_machine.specs.declared.pass.Pass.{Pass}
-use Rattle.grey_steps.specs.Ends.{is_shading}
+use Rattle.grey_steps.specs.MarkUnits.{is_shading}
 use Rattle.grey_steps.specs.Rows.{GreyState, grey_over}
 use Rattle.barrier_steps.specs.Replies.{IsKnown}
 use Rattle.barrier_steps.specs.Rows.{FieldState, field_reply}
-use Rattle.sweep_steps.specs.Ends.{unpassed}
+use Rattle.sweep_steps.specs.SweepUnits.{unpassed}
 use Rattle.sweep_steps.specs.Rows.{SweepState, sweep_over, sweep_passed}
 use Rattle.build_steps.specs.Rows.{BuildState, build_over}
 use Rattle.build_steps.specs.Naming.{HoldsBuild}
-use Rattle.kept_names.specs.Kept.{IsKept}
+use Rattle.name_invariant.specs.Kept.{IsKept}
 use Rattle.work_account.specs.Accounts.{Balance}
-use Rattle.kept_names.specs.Pictures.{Names, Task, no_task, picture}
-use Rattle.heap_system.specs.Parts.{Part, Rest, Enter, Serve, Mark, Sweep, Build, Idle, TurnOver, Leave}
+use Rattle.name_invariant.specs.Pictures.{Names, Task, no_task, picture}
+use Rattle.heap_system.specs.Parts.{Part, Rest, Enter, Serve, Mark, Sweep, Build, ToChange, PhaseChange, Leave}
 use Rattle.heap_system.specs.Lives.{objects_of}
 use Rattle.heap_system.specs.Locals.{paid_part, Errand, Effect, Verdict, Open, AsStep, Refused, task, pass_got, spent_got, made_got, entry_of, entries_of, works, unit_to_come, PartFits, IsRoomy}
 use Rattle.heap_system.specs.Machines.{starts_by}
@@ -89,18 +89,18 @@ IsEntering gates.Look = Unit {0}
 IsEntering (gates.Enter seen) = Unit {0}
 IsEntering _ = ⊥
 
--- and neither is one that turns the phase over, which does it for the thread's pass
-abbrev pub IsTurning : Pass → GateRow → Type 0
-IsTurning q (gates.CloseLook p) = p ≡ q
-IsTurning q (gates.Close p seen) = p ≡ q
-IsTurning q (gates.CheckList p u) = (p ≡ q) × (q.sweep ≡ false)
-IsTurning q (gates.SetCursor p) = (p ≡ q) × (q.sweep ≡ false)
-IsTurning q (gates.Flip p) = (p ≡ q) × (q.sweep ≡ false)
-IsTurning q (gates.Reopen p) = (p ≡ q) × (q.sweep ≡ false)
-IsTurning q (gates.ShadeRoot p u hand) = (p ≡ q) × (q.sweep ≡ true)
-IsTurning q (gates.PutRoots p hand) = (p ≡ q) × (q.sweep ≡ true)
-IsTurning q (gates.Start p) = (p ≡ q) × (q.sweep ≡ true)
-IsTurning q _ = ⊥
+-- and neither is one that changes the phase, which does it for the thread's pass
+abbrev pub IsChangingPhase : Pass → GateRow → Type 0
+IsChangingPhase q (gates.CloseLook p) = p ≡ q
+IsChangingPhase q (gates.Close p seen) = p ≡ q
+IsChangingPhase q (gates.CheckList p u) = (p ≡ q) × (q.sweep ≡ false)
+IsChangingPhase q (gates.SetCursor p) = (p ≡ q) × (q.sweep ≡ false)
+IsChangingPhase q (gates.Flip p) = (p ≡ q) × (q.sweep ≡ false)
+IsChangingPhase q (gates.Reopen p) = (p ≡ q) × (q.sweep ≡ false)
+IsChangingPhase q (gates.ShadeRoot p u hand) = (p ≡ q) × (q.sweep ≡ true)
+IsChangingPhase q (gates.PutRoots p hand) = (p ≡ q) × (q.sweep ≡ true)
+IsChangingPhase q (gates.Start p) = (p ≡ q) × (q.sweep ≡ true)
+IsChangingPhase q _ = ⊥
 
 abbrev pub PartKept : Config → Graph → ℕ → Pass → Command → Part → Type 0
 PartKept c g t pass k (Enter a) = IsEntering a
@@ -108,12 +108,12 @@ PartKept c g t pass k (Serve f) = RowKept c g t pass k f
 PartKept c g t pass k (Mark m) = MarkKept t pass m
 PartKept c g t pass k (Sweep s) = SweepingKept c t pass s
 PartKept c g t pass k (Build b) = BuildKept c g t pass k b
-PartKept c g t pass k Idle = pass.thread ≡ t
-PartKept c g t pass k (TurnOver a) = IsTurning pass a × (pass.thread ≡ t)
+PartKept c g t pass k ToChange = pass.thread ≡ t
+PartKept c g t pass k (PhaseChange a) = IsChangingPhase pass a × (pass.thread ≡ t)
 PartKept c g t pass k _ = Unit {0}
 
--- What a thread knows of the heap. After a Sweep pass that found nothing, as long as that sweep goes
--- on, the cursor is behind the last block.
+-- What a thread knows of the heap. After a Sweep pass that found nothing, as long as that sweep
+-- goes on, the cursor is behind the last block.
 abbrev pub IsSwept : Config → Heap → Pass → Type 0
 IsSwept c h q = q.sweep ≡ true → stage_of h ≡ stage q.cycle q.sweep → h Cursor ≡ c.blocks + 1
 
@@ -135,8 +135,8 @@ pub record TurnKnows (c : Config) (h : Heap) (ns : Names) (q : Pass) (a : GateRo
   pub roots : HasShaded c.threads ns.shaded a
 
 abbrev pub Knows : Config → Heap → Names → Pass → Part → Type 0
-Knows c h ns q Idle = IsSwept c h q
-Knows c h ns q (TurnOver a) = TurnKnows c h ns q a
+Knows c h ns q ToChange = IsSwept c h q
+Knows c h ns q (PhaseChange a) = TurnKnows c h ns q a
 Knows c h ns q _ = Unit {0}
 
 -- between two commands nothing is paid; a sweep has paid what it passed of what it owed; and where
@@ -159,10 +159,10 @@ pub record Forward (h new : Heap) : Type 0 where
   pub stages : stage_of h ≤ stage_of new
   pub cursor : stage_of h ≡ stage_of new → is_sweep (h Phase) ≡ true → h Cursor ≤ new Cursor
 
--- What a turn sees: the graph of the order, the order, the names, the heap, and of each thread where
--- it stands, what it is at and what it holds; of the thread whose turn it is its pass, its command,
--- how many are done of all, the rate, the units due, its balance, the objects made and its room. And what holds
--- of them.
+-- What a turn sees: the graph of the order, the order, the names, the heap, and of each thread
+-- where it stands, what it is at and what it holds; of the thread whose turn it is its pass, its
+-- command, how many are done of all, the rate, the units due, its balance, the objects made and its
+-- room. And what holds of them.
 pub record Seen (c : Config) : Type 0 where
   pub graph : Graph
   pub order : List HistoryItem

@@ -1,6 +1,6 @@
 -- How each part moves a tally: one line a part.
 use Rattle.block_store.specs.declared.Config.{Config}
-use Rattle.heap_system.specs.Parts.{Part, Rest, Enter, Serve, Mark, Sweep, Build, Again, Idle, TurnOver, Leave}
+use Rattle.heap_system.specs.Parts.{Part, Rest, Enter, Serve, Mark, Sweep, Build, Retry, ToChange, PhaseChange, Leave}
 use Rattle.heap_system.proofs.TallyLaw.{TallyLaw}
 use Rattle.heap_system.proofs.tallies.Build.{build_tallied}
 use Rattle.heap_system.proofs.tallies.Enter.{rest_tallied, enter_tallied}
@@ -8,7 +8,7 @@ use Rattle.heap_system.proofs.tallies.Leave.{again_tallied, idle_tallied, leave_
 use Rattle.heap_system.proofs.tallies.Mark.{mark_tallied}
 use Rattle.heap_system.proofs.tallies.Serve.{serve_tallied}
 use Rattle.heap_system.proofs.tallies.Sweep.{sweep_tallied}
-use Rattle.heap_system.proofs.tallies.TurnOver.{turn_over_tallied}
+use Rattle.heap_system.proofs.tallies.PhaseChange.{turn_over_tallied}
 
 pub tallies_of : (c : Config) (p : Part) → TallyLaw c p
 tallies_of c Rest = rest_tallied c
@@ -17,7 +17,7 @@ tallies_of c (Serve f) = serve_tallied c f
 tallies_of c (Mark m) = mark_tallied c m
 tallies_of c (Sweep s) = sweep_tallied c s
 tallies_of c (Build b) = build_tallied c b
-tallies_of c Again = again_tallied c
-tallies_of c Idle = idle_tallied c
-tallies_of c (TurnOver g) = turn_over_tallied c g
+tallies_of c Retry = again_tallied c
+tallies_of c ToChange = idle_tallied c
+tallies_of c (PhaseChange g) = turn_over_tallied c g
 tallies_of c Leave = leave_tallied c

@@ -15,7 +15,7 @@ use Rattle.never_heap.specs.RightWork.{units_told}
 use Rattle.never_heap.specs.Steps.{blocks_of}
 use Rattle.heap_machine.specs.Gating.{is_inside}
 use Rattle.heap_machine.specs.Operations.{heap_after}
-use Rattle.kept_names.specs.Building.{Build as Builder, build_blocks}
+use Rattle.name_invariant.specs.Building.{Build as Builder, build_blocks}
 use Rattle.work_account.specs.Accounts.{Balance}
 use Rattle.cycle_tally.specs.Kept.{TallyKept}
 use Rattle.cycle_tally.specs.Tallies.{Spending, Tally, units_now}
@@ -33,8 +33,8 @@ abbrev pub reserved_for : Width → Option Builder → ℕ
 reserved_for w None = 0
 reserved_for w (Some b) = build_blocks w b
 
--- what a thread asks for: the blocks of its command, the units that it is told to make, and those made
--- for an idle
+-- what a thread asks for: the blocks of its command, the units that it is told to make, and those
+-- made for an idle
 pub record Asking : Type 0 where
   pub blocks : ℕ
   pub told : ℕ
@@ -87,8 +87,8 @@ pub record Counted (c : Config) (rate : ℕ) (s : Seen c) (p : Part) (t : Tally)
   pub own : IsSpending c p s.balance (asking c s.command s.spent) (t.threads s.thread)
   pub inside : (u : ℕ) → u < c.threads → (t.threads u).inside ≡ is_inside (s.gatings u).stand
 
--- a unit scans a block where it makes it black, and passes one where the phase is Sweep: the first that
--- its thread has claimed
+-- a unit scans a block where it makes it black, and passes one where the phase is Sweep: the first
+-- that its thread has claimed
 abbrev pub scans_at : Heap → Heap → Effect → ℕ → Bool
 scans_at h new e x = e.unit && turns_black (cycle_of (h Phase)) (ColourOf x) (h (ColourOf x)) (new (ColourOf x))
 
@@ -108,8 +108,8 @@ abbrev pub past_by : Naming → ℕ → ℕ → ℕ
 past_by Begun now past = past + now
 past_by _ now past = past
 
--- And after it, where the thread is at part p: one is kept of the heap and the order then, and it has
--- the other threads as before.
+-- And after it, where the thread is at part p: one is kept of the heap and the order then, and it
+-- has the other threads as before.
 pub record TallyEvent (c : Config) (rate : ℕ) (s : Seen c) (new : Heap) (e : Effect) (p : Part) (next : Asking) (before : Tally) : Type 0 where
   pub tally : Tally
   pub kept : TallyKept c rate black_word tally

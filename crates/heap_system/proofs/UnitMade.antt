@@ -3,16 +3,16 @@ use Rattle.std.proofs.Common.{◌≡◌, ℕ, ◌+◌, ◌-◌, ◌*◌, ◌<◌
 use Rattle.block_store.specs.declared.Config.{Config}
 use Rattle.block_store.specs.Phases.{bit}
 use Rattle.block_store.specs.Places.{Extent}
-use Rattle.grey_steps.specs.Ends.{is_blackening}
+use Rattle.grey_steps.specs.MarkUnits.{is_blackening}
 use Rattle.grey_steps.specs.Rows.{GreyState, grey_got, grey_unit}
-use Rattle.grey_steps.proofs.Ends.{unit_after, unit_once}
-use Rattle.sweep_steps.specs.Ends.{row_passes}
+use Rattle.grey_steps.proofs.MarkUnits.{unit_after, unit_once}
+use Rattle.sweep_steps.specs.SweepUnits.{row_passes}
 use Rattle.sweep_steps.specs.Fits.{SweepFits}
 use Rattle.sweep_steps.specs.Rows.{SweepState, sweep_got, sweep_passed}
 use Rattle.sweep_steps.proofs.PassedBlocks.{passed_bits, passed_few}
 use Rattle.work_account.specs.Accounts.{AccountState}
 use Rattle.heap_system.specs.declared.local.Local.TheInside.{Inside}
-use Rattle.heap_system.specs.Parts.{part_at, Part, Sweep, Again, Idle, TurnOver}
+use Rattle.heap_system.specs.Parts.{part_at, Part, Sweep, Retry, ToChange, PhaseChange}
 use Rattle.heap_system.specs.declared.rows.Row.{Row}
 use Rattle.heap_system.specs.declared.rows.Row.TheVariants as rows
 use Rattle.heap_machine.specs.declared.gate.GateRow.{GateRow}
@@ -127,7 +127,7 @@ module _ (i : Inside) (k : IsLocal (view_of i)) (rate : i.account.rate ≡ i.rat
         }) all)
 
     -- on its way out
-    pub over_local : (part : Part) (none : Bool) → part ≡ cond none Idle Again
+    pub over_local : (part : Part) (none : Bool) → part ≡ cond none ToChange Retry
         → length i.log.items < length i.trace.items → IsPassAt i.config i.pass
         → i.spent + bit unit ≤ owed (view_of i)
         → IsLocal (record (view_of i) { balance = n.balance; spent = spent; part = part })
@@ -135,9 +135,9 @@ module _ (i : Inside) (k : IsLocal (view_of i)) (rate : i.account.rate ≡ i.rat
         subst (λ p. IsLocal (record (view_of i) { balance = n.balance; spent = spent; part = p })) (sym is) (by none)
       where
         by : (b : Bool)
-            → IsLocal (record (view_of i) { balance = n.balance; spent = spent; part = cond b Idle Again })
-        by true = counted_local Idle (low, pass) (omega (arith, pays)) tt tt
-        by false = counted_local Again low (omega (arith, pays)) tt tt
+            → IsLocal (record (view_of i) { balance = n.balance; spent = spent; part = cond b ToChange Retry })
+        by true = counted_local ToChange (low, pass) (omega (arith, pays)) tt tt
+        by false = counted_local Retry low (omega (arith, pays)) tt tt
 
 -- the event of a sweep: what its thread was, and the units owed behind it
 module _ (i : Inside) (k : IsLocal (view_of i)) (s n : SweepState) (at : part_of i ≡ Sweep s) where
@@ -156,19 +156,19 @@ module _ (i : Inside) (k : IsLocal (view_of i)) (s n : SweepState) (at : part_of
             (owed (view_of i)) (subst (λ p. i.spent + unit_to_come i.config p ≤ owed (view_of i)) at k.paid),
       )
 
--- a part that turns the phase over, as the code keeps it, with this row of the gate
-pub turn_to : (i : Inside) (g : GateRow) → i.row ≡ rows.TurnOver
-    → part_at i.config i.pass i.field g i.builder i.row ≡ TurnOver g
+-- a part that changes the phase, as the code keeps it, with this row of the gate
+pub turn_to : (i : Inside) (g : GateRow) → i.row ≡ rows.PhaseChange
+    → part_at i.config i.pass i.field g i.builder i.row ≡ PhaseChange g
 turn_to i g is = ap (part_at i.config i.pass i.field g i.builder) is
 
 -- a part on its way out
 abbrev pub over_part : Inside → Row → Part
 over_part i r = part_at i.config i.pass i.field i.gate i.builder r
 
-pub over_at : (i : Inside) (r : Row) (none : Bool) → r ≡ cond none rows.Idle rows.Again
-    → over_part i r ≡ cond none Idle Again
+pub over_at : (i : Inside) (r : Row) (none : Bool) → r ≡ cond none rows.ToChange rows.Retry
+    → over_part i r ≡ cond none ToChange Retry
 over_at i r none is = ap (over_part i) is ∙ by none
   where
-    by : (b : Bool) → over_part i (cond b rows.Idle rows.Again) ≡ cond b Idle Again
+    by : (b : Bool) → over_part i (cond b rows.ToChange rows.Retry) ≡ cond b ToChange Retry
     by true = refl
     by false = refl

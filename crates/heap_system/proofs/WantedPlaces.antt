@@ -9,10 +9,10 @@ use Rattle.heap_machine.specs.Operations.{op_at, op_place, place_of}
 use Rattle.heap_machine.proofs.HeapAfter.{op_place-at}
 use Rattle.heap_machine.proofs.GateRows.{gate_place}
 use Rattle.barrier_steps.proofs.FieldRows as fields
-use Rattle.grey_steps.proofs.Ranges as marking
-use Rattle.sweep_steps.proofs.Ranges as sweeping
+use Rattle.grey_steps.proofs.RowsFit as marking
+use Rattle.sweep_steps.proofs.RowsFit as sweeping
 use Rattle.build_steps.proofs.WantedPlaces as building
-use Rattle.heap_system.specs.Parts.{Part, Rest, Enter, Serve, Mark, Sweep, Build, Again, Idle, TurnOver, Leave}
+use Rattle.heap_system.specs.Parts.{Part, Rest, Enter, Serve, Mark, Sweep, Build, Retry, ToChange, PhaseChange, Leave}
 use Rattle.heap_system.specs.Locals.{LocalState, IsLocal, PartFits, part_want}
 use Rattle.heap_system.proofs.OwedAndPaid.{going_at}
 
@@ -25,9 +25,9 @@ place_at c done all q (Serve s) f = fields.place_at c s.pass s.command s.row f.0
 place_at c done all q (Mark m) f = marking.place_fits c m f.0
 place_at c done all q (Sweep s) f = sweeping.place_fits c s f.0
 place_at c done all q (Build b) f = building.place_fits c b f.0
-place_at c done all q Again f = refl
-place_at c done all q Idle f = refl
-place_at c done all q (TurnOver g) f = gate_place c g f.0 f.1
+place_at c done all q Retry f = refl
+place_at c done all q ToChange f = refl
+place_at c done all q (PhaseChange g) f = gate_place c g f.0 f.1
 place_at c done all q Leave f = refl
 
 pub want_low : (l : LocalState) → IsLocal l → (o : Op)

@@ -1,5 +1,5 @@
 pub mod FieldsLeft
-pub mod Low
+pub mod ObjectSizes
 pub mod LoneThread
 pub mod Serve
 pub mod NeverDry
@@ -7,7 +7,7 @@ pub mod Build
 pub mod Sweep
 pub mod Heads
 pub mod Gate
-pub mod TurnOver
+pub mod PhaseChange
 pub mod Mark
 pub mod WorkLeft
 pub mod Laws

@@ -5,8 +5,8 @@ pub mod Serve
 pub mod Mark
 pub mod Sweep
 pub mod Build
-pub mod Again
-pub mod Idle
+pub mod Retry
+pub mod ToChange
 pub mod Leave
 pub mod ClosedGate
-pub mod TurnOver
+pub mod PhaseChange

@@ -5,4 +5,4 @@ pub mod Mark
 pub mod Sweep
 pub mod Build
 pub mod Serve
-pub mod TurnOver
+pub mod PhaseChange

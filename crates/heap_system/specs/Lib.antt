@@ -1,9 +1,9 @@
 pub mod Naming
-pub mod Openings
+pub mod InitialHeaps
 pub mod Lives
 pub mod Parts
 pub mod Locals
-pub mod Courses
+pub mod ThreadMemories
 pub mod Machines
 pub mod Rooms
 pub mod Pictures
@@ -17,4 +17,5 @@ pub mod Loaded
 pub mod Shades
 pub mod Shares
 pub mod Alone
+pub mod AtOnce
 pub mod Serials

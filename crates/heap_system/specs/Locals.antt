@@ -21,7 +21,7 @@ use Rattle.heap_machine.specs.Operations.{Operation, place_of, op_at}
 use Rattle.heap_machine.specs.Readings.{CanHold}
 use Rattle.heap_machine.specs.Gates.{gate_want, gate_got, gate_step, gate_entered, is_going_in, is_of_pass, is_empty, GateFits, GateAt}
 use Rattle.heap_machine.specs.Gating.{Stand, Outside, Inside}
-use Rattle.heap_machine.specs.Turning.{turns_over, turning_gating, turning_holding}
+use Rattle.heap_machine.specs.ChangingPhase.{turns_over, changing_gating, changing_holding}
 use Rattle.heap_machine.specs.Holdings.{Holding, holds_nothing}
 use Rattle.heap_machine.specs.Passes.{IsPass}
 use Rattle.heap_machine.specs.declared.pass.Pass.{Pass}
@@ -31,28 +31,28 @@ use Rattle.heap_machine.specs.declared.Step.{Step}
 use Rattle.heap_machine.specs.declared.Step.TheVariants as steps
 use Rattle.grey_steps.specs.Rows.{grey_want, grey_got, grey_step, grey_over, grey_unit, grey_nothing, holding_at, scanning}
 use Rattle.grey_steps.specs.Fits.{GreyFits, GreyReads}
-use Rattle.grey_steps.specs.Ends.{is_blackening}
+use Rattle.grey_steps.specs.MarkUnits.{is_blackening}
 use Rattle.barrier_steps.specs.Rows.{at_first_row, field_want, field_got, field_step, field_reply, field_decided, field_holding}
 use Rattle.barrier_steps.specs.Deciding.{is_deciding}
 use Rattle.barrier_steps.specs.Fits.{FieldFits, FieldReads}
 use Rattle.barrier_steps.specs.Projection.{loading_of}
 use Rattle.sweep_steps.specs.Rows.{sweep_want, sweep_got, sweep_step, sweep_over, sweep_passed, sweep_nothing, sweep_holding, sweeping}
 use Rattle.sweep_steps.specs.Fits.{SweepFits, SweepReads}
-use Rattle.sweep_steps.specs.Ends.{row_passes}
+use Rattle.sweep_steps.specs.SweepUnits.{row_passes}
 use Rattle.sweep_steps.specs.declared.rows.SweepRow.{SweepRow}
 use Rattle.sweep_steps.specs.declared.rows.SweepRow.TheVariants as sweeps
 use Rattle.build_steps.specs.Rows.{BuildState, build_want, build_got, build_step, build_reply, build_holding, built_at, building, full_cycle}
 use Rattle.build_steps.specs.Fits.{BuildFits, BuildReads}
-use Rattle.build_steps.specs.Ends.{is_counting, is_publishing}
+use Rattle.build_steps.specs.LinearizationPoints.{is_counting, is_publishing}
 use Rattle.build_steps.specs.Naming.{build_of}
 use Rattle.build_steps.specs.declared.rows.BuildRow.{BuildRow}
 use Rattle.build_steps.specs.declared.rows.BuildRow.TheVariants as builds
-use Rattle.shown_graph.specs.Events.{Loading, unloaded}
-use Rattle.kept_names.specs.Building.{Build as Builder}
-use Rattle.kept_names.specs.Pictures.{Task}
+use Rattle.graph_relation.specs.Events.{Loading, unloaded}
+use Rattle.name_invariant.specs.Building.{Build as Builder}
+use Rattle.name_invariant.specs.Pictures.{Task}
 use Rattle.heap_system.specs.Lives.{AreCommands, sum_after, objects_of, most_units, most_objects}
 use Rattle.heap_system.specs.Naming.{Naming, Same, Lost, Begun, Shaded, Made}
-use Rattle.heap_system.specs.Parts.{Part, Rest, Enter, Serve, Mark, Sweep, Build, Again, Idle, TurnOver, Leave}
+use Rattle.heap_system.specs.Parts.{Part, Rest, Enter, Serve, Mark, Sweep, Build, Retry, ToChange, PhaseChange, Leave}
 use Rattle.heap_system.specs.declared.Turn.{Turn}
 use Rattle.heap_system.specs.declared.Turn.TheVariants as turns
 
@@ -150,11 +150,11 @@ view c (Build b) = record (quiet (build_want (extent c) b)) {
   holding = build_holding b;
   build = build_of c.width b;
 }
-view c Again = quiet (gate_want c.width gates.Leave)
-view c Idle = quiet (gate_want c.width gates.Leave)
-view c (TurnOver g) = record (quiet (gate_want c.width g)) {
-  stand = (turning_gating g).stand;
-  holding = turning_holding g;
+view c Retry = quiet (gate_want c.width gates.Leave)
+view c ToChange = quiet (gate_want c.width gates.Leave)
+view c (PhaseChange g) = record (quiet (gate_want c.width g)) {
+  stand = (changing_gating g).stand;
+  holding = changing_holding g;
 }
 view c Leave = quiet (gate_want c.width gates.Leave)
 
@@ -182,7 +182,7 @@ is_build _ = false
 abbrev pub is_at_gate : Part → Bool
 is_at_gate Rest = true
 is_at_gate (Enter g) = true
-is_at_gate (TurnOver g) = true
+is_at_gate (PhaseChange g) = true
 is_at_gate _ = false
 
 abbrev pub is_marking : Part → Bool
@@ -198,8 +198,8 @@ is_serving (Serve f) = true
 is_serving _ = false
 
 abbrev pub is_on_way_out : Part → Bool
-is_on_way_out Again = true
-is_on_way_out Idle = true
+is_on_way_out Retry = true
+is_on_way_out ToChange = true
 is_on_way_out Leave = true
 is_on_way_out _ = false
 
@@ -235,9 +235,9 @@ if_replied None p = p
 if_replied (Some r) p = Leave
 
 -- a pass that is over: the thread goes out, to come in again, or, where the pass found nothing to
--- do, to turn the phase over
+-- do, to change the phase
 abbrev pub if_over : Bool → Bool → Part → Part
-if_over over nothing p = if over then (if nothing then Idle else Again) else p
+if_over over nothing p = if over then (if nothing then ToChange else Retry) else p
 
 -- whether the step is the last of its part
 abbrev pub is_last : Step → Bool
@@ -246,9 +246,9 @@ is_last steps.Over = true
 is_last steps.Waited = false
 is_last steps.WaitedOver = true
 
--- a part that turns the phase over, and then the thread comes in again
+-- a part that changes the phase, and then the thread comes in again
 abbrev pub if_turned : Bool → GateRow → Part
-if_turned over g = if over then Enter gates.Look else TurnOver g
+if_turned over g = if over then Enter gates.Look else PhaseChange g
 
 -- the part after it, of thread t in this pass and for this errand, where it read w
 abbrev pub part_got : Config → ℕ → Errand → Pass → Part → ℕ → Part
@@ -264,9 +264,9 @@ part_got c t e q (Sweep s) w =
     let n = sweep_got s w in if_over (sweep_over n.row) (sweep_nothing n.row) (Sweep n)
 part_got c t e q (Build b) w = if_replied (build_reply (build_got (extent c) b w))
     (Build (build_got (extent c) b w))
-part_got c t e q Again w = Enter gates.Look
-part_got c t e q Idle w = TurnOver (gates.CloseLook q)
-part_got c t e q (TurnOver g) w = if_turned (is_last (gate_step g w)) (gate_got c.width g w)
+part_got c t e q Retry w = Enter gates.Look
+part_got c t e q ToChange w = PhaseChange (gates.CloseLook q)
+part_got c t e q (PhaseChange g) w = if_turned (is_last (gate_step g w)) (gate_got c.width g w)
 part_got c t e q Leave w = Rest
 
 -- how an event decides the command: not; as the heap that never frees answers it there; or it is
@@ -342,9 +342,9 @@ effect c (Build b) w = record (plain (build_step b w)) {
   verdict = build_verdict b w;
   naming = if is_publishing b.row then Made (built_at b) else Same;
 }
-effect c Again w = plain (gate_step gates.Leave w)
-effect c Idle w = plain (gate_step gates.Leave w)
-effect c (TurnOver g) w = record (plain (gate_step g w)) { naming = turn_naming g }
+effect c Retry w = plain (gate_step gates.Leave w)
+effect c ToChange w = plain (gate_step gates.Leave w)
+effect c (PhaseChange g) w = record (plain (gate_step g w)) { naming = turn_naming g }
 effect c Leave w = plain (gate_step gates.Leave w)
 
 abbrev pub part_step : Config → Part → ℕ → Step
@@ -429,7 +429,7 @@ build_waits n _ w = false
 abbrev pub waits : Part → ℕ → Bool
 waits Rest w = gate_waits gates.Look w
 waits (Enter g) w = gate_waits g w
-waits (TurnOver g) w = gate_waits g w
+waits (PhaseChange g) w = gate_waits g w
 waits (Sweep s) w = sweep_waits s.row w
 waits (Build b) w = build_waits b.threads b.row w
 waits _ w = false
@@ -497,9 +497,9 @@ PartFits c done all q (Serve f) = FieldFits c f × (done < all)
 PartFits c done all q (Mark m) = GreyFits c m × (done < all) × IsPassAt c q
 PartFits c done all q (Sweep s) = SweepFits c s × (done < all) × IsPassAt c q
 PartFits c done all q (Build b) = BuildFits c b × (done < all)
-PartFits c done all q Again = done < all
-PartFits c done all q Idle = (done < all) × IsPassAt c q
-PartFits c done all q (TurnOver g) =
+PartFits c done all q Retry = done < all
+PartFits c done all q ToChange = (done < all) × IsPassAt c q
+PartFits c done all q (PhaseChange g) =
     GateFits g × GateAt c g × (turns_over g ≡ true) × (done < all)
 PartFits c done all q Leave = Unit {0}
 
@@ -550,9 +550,9 @@ PartReads c (Serve f) w = FieldReads c f w
 PartReads c (Mark m) w = GreyReads c m w
 PartReads c (Sweep s) w = SweepReads c s w
 PartReads c (Build b) w = BuildReads c b w
-PartReads c Again w = CanHold (extent c) Phase w
-PartReads c Idle w = CanHold (extent c) Phase w
-PartReads c (TurnOver g) w = CanHold (extent c) (place_of (gate_want c.width g)) w
+PartReads c Retry w = CanHold (extent c) Phase w
+PartReads c ToChange w = CanHold (extent c) Phase w
+PartReads c (PhaseChange g) w = CanHold (extent c) (place_of (gate_want c.width g)) w
 PartReads c Leave w = CanHold (extent c) Phase w
 
 -- and a thread goes in by the word of a cycle that is not before the one that it entered last

@@ -11,13 +11,13 @@ use Rattle.never_heap.specs.Histories.{HistoryItem, Started, Did, replay}
 use Rattle.heap_system.specs.Lives.{AreLives}
 use Rattle.never_heap.specs.Steps.{step}
 use Rattle.heap_machine.specs.Operations.{op_at, op_place, words_after}
-use Rattle.kept_names.specs.Pictures.{Names}
+use Rattle.name_invariant.specs.Pictures.{Names}
 use Rattle.heap_system.specs.Parts.{Leave}
 use Rattle.heap_system.specs.declared.Turn.{Turn}
 use Rattle.heap_system.specs.declared.Turn.TheVariants.{Done}
 use Rattle.heap_system.specs.Locals.{LocalState, Effect, Verdict, Open, AsStep, Refused, command_of, effect, entry_of, part_want, turn_of, local_got, is_done, at_start}
 use Rattle.heap_system.specs.Naming.{Naming, Begun, renamed, opening_names}
-use Rattle.heap_system.specs.Openings.{opening_heap}
+use Rattle.heap_system.specs.InitialHeaps.{opening_heap}
 
 pub record State : Type 0 where
   pub words : List ℕ

@@ -27,11 +27,11 @@ pub data Part : Type 0 where
   -- inside, in an allocation that owes no more: it makes the object, or is refused
   Build : (pass : BuildState) → Part
   -- on its way out, to come in again for the command in hand
-  Again : Part
-  -- on its way out after a pass that found nothing to do, to turn the phase over
-  Idle : Part
-  -- outside, to turn the phase over or to start the next cycle, and then to come in again
-  TurnOver : (gate : GateRow) → Part
+  Retry : Part
+  -- on its way out after a pass that found nothing to do, to change the phase
+  ToChange : Part
+  -- outside, to change the phase or to start the next cycle, and then to come in again
+  PhaseChange : (gate : GateRow) → Part
   -- on its way out, with its command in the log
   Leave : Part
 
@@ -51,7 +51,7 @@ part_at c q f g b (rows.Sweep owed r) = Sweep (record {
   row = r;
 })
 part_at c q f g b rows.Build = Build b
-part_at c q f g b rows.Again = Again
-part_at c q f g b rows.Idle = Idle
-part_at c q f g b rows.TurnOver = TurnOver g
+part_at c q f g b rows.Retry = Retry
+part_at c q f g b rows.ToChange = ToChange
+part_at c q f g b rows.PhaseChange = PhaseChange g
 part_at c q f g b rows.Leave = Leave

@@ -2,15 +2,15 @@
 use Rattle.std.specs.Prelude.{Bool, true, false}
 use Rattle.heap_machine.specs.declared.gate.GateRow.{GateRow}
 use Rattle.heap_machine.specs.declared.gate.GateRow.TheVariants as gates
-use Rattle.grey_steps.specs.Ends as marking
+use Rattle.grey_steps.specs.MarkUnits as marking
 use Rattle.barrier_steps.specs.declared.rows.FieldRow.{FieldRow}
 use Rattle.barrier_steps.specs.declared.rows.FieldRow.TheVariants as fields
-use Rattle.sweep_steps.specs.Ends as sweeping
+use Rattle.sweep_steps.specs.SweepUnits as sweeping
 use Rattle.build_steps.specs.declared.rows.BuildRow.{BuildRow}
 use Rattle.build_steps.specs.declared.rows.BuildRow.TheVariants as builds
-use Rattle.heap_system.specs.Parts.{Part, Serve, Mark, Sweep, Build, TurnOver}
+use Rattle.heap_system.specs.Parts.{Part, Serve, Mark, Sweep, Build, PhaseChange}
 
--- a write barrier puts what it has shaded, and a thread that turns the phase over the roots
+-- a write barrier puts what it has shaded, and a thread that changes the phase the roots
 abbrev pub puts_shaded : FieldRow → Bool
 puts_shaded (fields.Shade r store) = marking.is_putting r
 puts_shaded _ = false
@@ -23,7 +23,7 @@ puts_roots _ = false
 abbrev pub puts_grey : Part → Bool
 puts_grey (Serve f) = puts_shaded f.row
 puts_grey (Mark m) = marking.is_putting m.row
-puts_grey (TurnOver g) = puts_roots g
+puts_grey (PhaseChange g) = puts_roots g
 puts_grey _ = false
 
 abbrev pub puts_rest : BuildRow → Bool
@@ -43,5 +43,5 @@ flips_or_starts (gates.Start p) = true
 flips_or_starts _ = false
 
 abbrev pub turns_phase : Part → Bool
-turns_phase (TurnOver g) = flips_or_starts g
+turns_phase (PhaseChange g) = flips_or_starts g
 turns_phase _ = false

@@ -8,10 +8,10 @@ ghost use Rattle.block_store.specs.Colours.{is_free, is_grey, black_word, white_
 ghost use Rattle.block_store.specs.Phases.{inside_of, is_closed, is_sweep, cycle_of};
 ghost use Rattle.block_store.specs.Places.{Phase, Cursor, GreyList, FreeList, ColourOf, PayloadOf, extent};
 ghost use Rattle.block_store.specs.Widths.{payloads};
-ghost use Rattle.shown_graph.specs.Words.{block_words};
-ghost use Rattle.kept_names.specs.Building.{Build as Building, build_blocks, IsBuild, IsBuilt};
-ghost use Rattle.kept_names.specs.Colouring.{IfRefers, IsDark, IsShadedRoot};
-ghost use Rattle.kept_names.specs.Reached.{IsReachedBlock, IsReachedOrMade, IsColouredOf};
+ghost use Rattle.graph_relation.specs.Words.{block_words};
+ghost use Rattle.name_invariant.specs.Building.{Build as Building, build_blocks, IsBuild, IsBuilt};
+ghost use Rattle.name_invariant.specs.Colouring.{IfRefers, IsDark, IsShadedRoot};
+ghost use Rattle.name_invariant.specs.Reached.{IsReachedBlock, IsReachedOrMade, IsColouredOf};
 ghost use Rattle.heap_machine.specs.FreeBlocks.{FreeKept};
 ghost use Rattle.heap_machine.specs.Gating.{open_word};
 ghost use Rattle.heap_machine.specs.Grey.{GreyKept};
@@ -22,7 +22,7 @@ ghost use Rattle.heap_machine.specs.Sweeping.{claims};
 ghost use Rattle.heap_machine.specs.Tricolour.{TricolourKept};
 ghost use Rattle.heap_machine.specs.declared.gate.GateRow.TheVariants as GateRow;
 ghost use Rattle.heap_machine.specs.declared.pass.Pass.{Pass};
-ghost use Rattle.heap_system.specs.Parts.{TurnOver};
+ghost use Rattle.heap_system.specs.Parts.{PhaseChange};
 ghost use Rattle.heap_system.specs.Locals.{task, part_want};
 ghost use Rattle.heap_system.specs.Machines.{turned, Run, IsAfterTurns, local_in, heap_in};
 ghost use Rattle.heap_system.specs.Pictures.{holding, holdings_in, tasks_in, kept_state};
@@ -92,12 +92,12 @@ pub fn phases_turn_with_nobody_inside()
         × (is_sweep (heap_in c (turned c t r.state) Phase)
         ≡ is_sweep (heap_in c r.state Phase)) }
     ensures flip { (c : Config) (r : Run) → IsAfterTurns c r → (t : ℕ) (p : Pass) → t < c.threads
-        → (local_in c r t).part ≡ TurnOver (GateRow.Flip p)
+        → (local_in c r t).part ≡ PhaseChange (GateRow.Flip p)
         → (is_sweep (heap_in c r.state Phase) ≡ false)
         × (heap_in c (turned c t r.state) Phase
         ≡ open_word (cycle_of (heap_in c r.state Phase)) true) }
     ensures start { (c : Config) (r : Run) → IsAfterTurns c r → (t : ℕ) (p : Pass) → t < c.threads
-        → (local_in c r t).part ≡ TurnOver (GateRow.Start p)
+        → (local_in c r t).part ≡ PhaseChange (GateRow.Start p)
         → (is_sweep (heap_in c r.state Phase) ≡ true)
         × (heap_in c (turned c t r.state) Phase
         ≡ open_word (cycle_of (heap_in c r.state Phase) + 1) false) }
@@ -110,10 +110,10 @@ pub fn phases_turn_with_nobody_inside()
 /// At the flip to Sweep no block is grey, and each block that the graph reaches is black.
 pub fn the_flip_finds_what_is_reached()
     ensures grey { (c : Config) (r : Run) → IsAfterTurns c r → (t x : ℕ) (p : Pass)
-        → t < c.threads → (local_in c r t).part ≡ TurnOver (GateRow.Flip p)
+        → t < c.threads → (local_in c r t).part ≡ PhaseChange (GateRow.Flip p)
         → is_grey (heap_in c r.state (ColourOf x)) ≡ false }
     ensures black { (c : Config) (r : Run) → IsAfterTurns c r → (t x : ℕ) (p : Pass)
-        → t < c.threads → (local_in c r t).part ≡ TurnOver (GateRow.Flip p)
+        → t < c.threads → (local_in c r t).part ≡ PhaseChange (GateRow.Flip p)
         → IsReachedBlock c (kept_state c r) x
         → heap_in c r.state (ColourOf x) ≡ black_word (cycle_of (heap_in c r.state Phase)) }
 {}
@@ -150,10 +150,10 @@ pub fn sweeping_spares_what_is_reached()
 /// the shaded roots, which are grey.
 pub fn starts_find_no_white()
     ensures white { (c : Config) (r : Run) → IsAfterTurns c r → (t x : ℕ) (p : Pass)
-        → t < c.threads → (local_in c r t).part ≡ TurnOver (GateRow.Start p)
+        → t < c.threads → (local_in c r t).part ≡ PhaseChange (GateRow.Start p)
         → heap_in c r.state (ColourOf x) ≢ white_word (cycle_of (heap_in c r.state Phase)) }
     ensures black { (c : Config) (r : Run) → IsAfterTurns c r → (t x : ℕ) (p : Pass)
-        → t < c.threads → (local_in c r t).part ≡ TurnOver (GateRow.Start p)
+        → t < c.threads → (local_in c r t).part ≡ PhaseChange (GateRow.Start p)
         → is_free (heap_in c r.state (ColourOf x)) ≡ false
         → IsBlack c r x ⊎ IsGreyRoot c r x }
 {}

@@ -10,22 +10,22 @@ ghost use Rattle.block_store.specs.Counts.{total};
 ghost use Rattle.block_store.specs.Heaps.{heap_of};
 ghost use Rattle.block_store.specs.Phases.{bit, inside_of, cycle_of};
 ghost use Rattle.block_store.specs.Places.{Place, Phase, ColourOf, extent, in_range};
-ghost use Rattle.array_trees.specs.Openings.{opening_blocks};
+ghost use Rattle.array_trees.specs.InitialHeaps.{opening_blocks};
 ghost use Rattle.rate_plan.specs.Rates.{IsRate, IsAdmitted};
 ghost use Rattle.never_heap.specs.declared.Reply.{Reply};
 ghost use Rattle.never_heap.specs.Histories.{replay, part, Legal, starts_in, work_in};
 ghost use Rattle.never_heap.specs.Reach.{reachable};
 ghost use Rattle.never_heap.specs.RightWork.{RightWork, units_told};
 ghost use Rattle.never_heap.specs.Steps.{blocks_of};
-ghost use Rattle.shown_graph.specs.Events.{pending_registers, Follows};
-ghost use Rattle.shown_graph.specs.Openings.{opening_words};
-ghost use Rattle.shown_graph.specs.Shown.{Shows};
-ghost use Rattle.shown_graph.specs.Words.{block_words, Agrees};
-ghost use Rattle.kept_names.specs.Building.{Build as Building, NotHeld};
-ghost use Rattle.kept_names.specs.Kept.{IsKept, IsOlder};
-ghost use Rattle.kept_names.specs.Pictures.{no_task};
-ghost use Rattle.kept_names.specs.Reached.{IsReachedBlock};
-ghost use Rattle.kept_names.specs.States.{sizes};
+ghost use Rattle.graph_relation.specs.Events.{pending_registers, Follows};
+ghost use Rattle.graph_relation.specs.InitialHeaps.{opening_words};
+ghost use Rattle.graph_relation.specs.Shown.{Shows};
+ghost use Rattle.graph_relation.specs.Words.{block_words, Agrees};
+ghost use Rattle.name_invariant.specs.Building.{Build as Building, NotHeld};
+ghost use Rattle.name_invariant.specs.Kept.{IsKept, IsOlder};
+ghost use Rattle.name_invariant.specs.Pictures.{no_task};
+ghost use Rattle.name_invariant.specs.Reached.{IsReachedBlock};
+ghost use Rattle.name_invariant.specs.States.{sizes};
 ghost use Rattle.heap_machine.specs.Gating.{is_inside, GateOf};
 ghost use Rattle.heap_machine.specs.Holdings.{holds_nothing};
 ghost use Rattle.heap_machine.specs.Operations.{place_of, op_at, SumFits};
@@ -39,7 +39,7 @@ ghost use Rattle.heap_system.specs.declared.Turn.TheVariants as Turn;
 ghost use Rattle.heap_system.specs.Loaded.{IsLoadedBlock, IsTaking};
 ghost use Rattle.heap_system.specs.Locals.{task, is_done, waits, is_rest, command_of, owed, entry_of, works, part_want, part_step, turn_of, LocalReads};
 ghost use Rattle.heap_system.specs.Machines.{State, answer, turned, Run, opened, IsAfterTurns, local_in, local_at, heap_in, word_read};
-ghost use Rattle.heap_system.specs.Openings.{opening_heap};
+ghost use Rattle.heap_system.specs.InitialHeaps.{opening_heap};
 ghost use Rattle.heap_system.specs.Pictures.{stand_of, holding, gates_in, holdings_in, tasks_in, kept_state, entries_waiting};
 ghost use Rattle.heap_system.specs.Systems.{units_of, logs_of, Finish};
 ghost use Rattle.heap_system.specs.Units.{units_made, units_made_for, blacks_made, passes_made, AreMadeFor, IsRight};
@@ -123,7 +123,7 @@ pub fn order_is_legal()
         → RightWork c.width rate r.order }
 {}
 
-/// A thread's log is its part of the order, reply for reply. Between the deciding event of a
+/// A thread's log is its part of the order, reply for reply. Between the linearization point of a
 /// command and its last event inside, the order has one entry more, with the reply that the log
 /// will have. A thread at rest is at nothing and holds nothing.
 pub fn logs_are_parts()

@@ -5,7 +5,6 @@ mod accounts;
 mod bound;
 mod collector;
 mod counting;
-mod course;
 mod cycles;
 mod inside;
 mod laws;
@@ -18,6 +17,7 @@ mod rows;
 mod serial;
 mod start;
 mod system;
+mod thread_memory;
 
 pub use accounts::accounts_are_sound;
 pub use bound::{cycles_cost_few_units, cycles_give_few_blocks, fulls_are_licensed};
@@ -26,7 +26,6 @@ pub use collector::{
     phases_turn_with_nobody_inside, starts_find_no_white, sweeping_spares_what_is_reached,
     the_flip_finds_what_is_reached,
 };
-pub use course::Course;
 pub use cycles::cycles_take_each_block_once;
 pub use inside::most_events;
 pub use laws::{
@@ -45,6 +44,7 @@ pub use replays::jobs_have_one_order;
 pub use serial::{a_single_thread_ends_its_job, serial_turns_end};
 pub use start::opening;
 pub use system::{Finished, System, Unfinished, sum_of_works};
+pub use thread_memory::ThreadMemory;
 
 /// What a turn of a thread was.
 #[derive(Clone, Copy, Debug, PartialEq, Eq)]

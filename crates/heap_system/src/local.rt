@@ -1,5 +1,6 @@
 //! One thread's whole state.
 
+mod at_once;
 mod events;
 mod runs;
 
@@ -47,7 +48,7 @@ pub struct Local {
     // The pass of the last entry at the gate.
     pass: Pass,
     row: Row,
-    // What does the command at `Serve`, and what turns the phase over at `TurnOver`.
+    // What does the command at `Serve`, and what changes the phase at `PhaseChange`.
     field: FieldPass,
     gate: Gate,
     // What builds an object at `Build`. It has room for the blocks of the largest object.
@@ -98,7 +99,25 @@ impl Model for Local {
 }
 
 // The units that a command owes at this rate.
+#[inline(always)]
 fn price_of(c: &Config, rate: u64, command: &Command) -> u64
+    requires bounds { IsInBounds c.now }
+    requires command { IsCommandInBounds c.now command.now }
+    requires rate { rate ≤ 131070 }
+    ensures price { result ≡ units_owed c.now.width rate command.now }
+    ensures few { result ≤ most_units }
+{
+    use Command::*;
+
+    match command {
+        New { .. } | Arr { .. } | Idle { .. } => price_in_full(c, rate, command),
+        Set { .. } | Nil { .. } | Mov { .. } | Get { .. } | Put { .. } => 0,
+        Swap { .. } | Cas { .. } | Len { .. } | Same { .. } | Say { .. } => 0,
+    }
+}
+
+// The same, of a command that may owe some.
+fn price_in_full(c: &Config, rate: u64, command: &Command) -> u64
     requires bounds { IsInBounds c.now }
     requires command { IsCommandInBounds c.now command.now }
     requires rate { rate ≤ 131070 }
@@ -235,8 +254,21 @@ impl Local {
         price_of(&self.config, self.rate, command)
     }
 
+    // The units of `units_done`, where the trace is one command.
+    #[inline(always)]
+    fn units_of_one(&self) -> u64
+        requires one { length self.now.trace ≡ 1 }
+        ensures { result ≡ self.now.before + works self.now.log }
+    {
+        match self.log.first() {
+            Some(entry) => self.before + entry.work,
+            None => self.before,
+        }
+    }
+
     /// Has one command more in place of its one command, which is done. The entry of that is let
     /// go.
+    #[inline(always)]
     pub fn begin(&mut self, command: Command)
         requires one { length self.old.trace ≡ 1 }
         requires rest { is_rest self.old.part ≡ true }
@@ -247,8 +279,8 @@ impl Local {
         requires objects { self.old.made + objects_of command ≤ most_objects }
         ensures { self.new ≡ begun command self.old }
     {
-        let price = self.owes(&command);
-        self.before = self.units_done();
+        let price = price_of(&self.config, self.rate, &command);
+        self.before = self.units_of_one();
         self.price = price;
         self.log.clear();
         self.trace[0] = command;

@@ -4,7 +4,7 @@ use grey_steps::GreyRow;
 use sweep_steps::SweepRow;
 
 /// The row at which a thread stands. The thread keeps beside it what rows have in common, the pass
-/// above all, and what does a command, builds an object or turns the phase over.
+/// above all, and what does a command, builds an object or changes the phase.
 #[derive(Clone, Copy)]
 pub enum Row {
     /// At rest outside the gate.
@@ -22,11 +22,11 @@ pub enum Row {
     /// Inside, and builds an object.
     Build,
     /// On its way out, to come in again.
-    Again,
-    /// On its way out, to turn the phase over.
-    Idle,
-    /// Outside, and turns the phase over.
-    TurnOver,
+    Retry,
+    /// On its way out, to change the phase.
+    ToChange,
+    /// Outside, and changes the phase.
+    PhaseChange,
     /// On its way out, with its command in the log.
     Leave,
 }

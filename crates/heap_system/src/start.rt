@@ -11,10 +11,10 @@ ghost use Rattle.rate_plan.specs.Rates.{IsAdmitted};
 ghost use Rattle.object_lists.specs.Parts.{link_in};
 ghost use Rattle.array_trees.specs.Trees.{array_blocks};
 ghost use Rattle.array_trees.specs.Levels.{array_part};
-ghost use Rattle.shown_graph.specs.Made.{link_word};
-ghost use Rattle.array_trees.specs.Openings.{opening_blocks};
-ghost use Rattle.shown_graph.specs.Openings.{register_word, shared_word};
-ghost use Rattle.heap_system.specs.Openings.{opening_colour, opening_heap};
+ghost use Rattle.graph_relation.specs.Made.{link_word};
+ghost use Rattle.array_trees.specs.InitialHeaps.{opening_blocks};
+ghost use Rattle.graph_relation.specs.InitialHeaps.{register_word, shared_word};
+ghost use Rattle.heap_system.specs.InitialHeaps.{opening_colour, opening_heap};
 
 use array_trees::{blocks_of_array, child_of};
 use block_store::{

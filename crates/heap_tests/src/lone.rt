@@ -210,7 +210,7 @@ fn an_idle_starts_a_cycle_where_it_owes_more(rt: HostRuntime) -> Result<(), OutO
     Ok(())
 }
 
-// The first allocation scans the six blocks of the opening heap, turns the phase over, passes one
+// The first allocation scans the six blocks of the opening heap, changes the phase, passes one
 // block and builds. The second passes seven blocks in one pass, and builds.
 #[test]
 fn an_allocation_takes_so_many_turns(rt: HostRuntime) -> Result<(), OutOfMemory> {

@@ -327,7 +327,7 @@ fn an_allocation_pays_by_marking(rt: HostRuntime) -> Result<(), OutOfMemory> {
 }
 
 // The arrays of a heap of width eight have seven blocks: 1 to 3, 4 to 6, and the shared array in 7.
-// So the allocation owes one unit more than there are blocks to mark. It turns the phase over, and
+// So the allocation owes one unit more than there are blocks to mark. It changes the phase, and
 // passes block 1.
 #[test]
 fn an_allocation_of_width_eight_sweeps_too(rt: HostRuntime) -> Result<(), OutOfMemory> {

@@ -1,4 +1,4 @@
-pub mod Small
+pub mod GraphSizes
 pub mod Lives
 pub mod Moves
 pub mod AlarmCounts

@@ -8,11 +8,11 @@ use Rattle.rate_plan.specs.Rates.{IsRate, KeepsUp}
 use Rattle.never_heap.specs.declared.Command.{Command}
 use Rattle.never_heap.specs.declared.Command.TheVariants as commands
 use Rattle.never_heap.specs.Bounds.{IsCommandInBounds}
-use Rattle.never_heap.proofs.Ranges.{plain_fits}
+use Rattle.never_heap.proofs.CommandBounds.{plain_fits}
 use Rattle.never_heap.specs.RightWork.{units_owed}
 use Rattle.heap_system.specs.Lives.{sum_after}
 use Rattle.control_heap.specs.Controls.{Control, HasLeft, asked, units}
-use Rattle.asked_graph.specs.Asked.{HasUsed, HasRoomFor}
+use Rattle.graph_view.specs.Asked.{HasUsed, HasRoomFor}
 use Rattle.historian_core.specs.declared.Limits.{Limits}
 use Rattle.historian_core.specs.Kept.{heap_config, Holds, listed_from}
 use Rattle.historian_core.specs.Texts.{life}

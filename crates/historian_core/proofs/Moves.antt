@@ -13,14 +13,14 @@ use Rattle.never_heap.specs.Graphs.{Graph, Object, Record, no_object, set_field,
 use Rattle.never_heap.specs.Steps.{step}
 use Rattle.control_heap.specs.Controls.{Control, asked, units}
 use Rattle.operations.proofs.LiveBound as holding
-use Rattle.asked_graph.specs.Shown.{IsSmall, AllAreSmall, AllFollow, HasMetNoFull, graph_behind, last_reply}
-use Rattle.asked_graph.specs.Asked.{HasUsed}
+use Rattle.graph_view.specs.Shown.{IsSmall, AllAreSmall, AllFollow, HasMetNoFull, graph_behind, last_reply}
+use Rattle.graph_view.specs.Asked.{HasUsed}
 use Rattle.historian_core.specs.declared.Limits.{Limits}
 use Rattle.historian_core.specs.Kept.{heap_config, IsPlain, IsHeld, IsRing, Holds, Keeps, kept_graph, name_at, record_of, listed, listed_from, refers}
 use Rattle.historian_core.specs.Windows.{is_alarm, mark}
 use Rattle.historian_core.proofs.Rings.{ring_start, ring_more, ring_held, ring_long, place_low}
 use Rattle.historian_core.proofs.Lives.{asked_commands, fetched_commands, listed_commands, kept_units, fetched_units, listed_units, kept_objects, fetched_objects, listed_objects}
-use Rattle.historian_core.proofs.Small.{IsOne, AreOnes, object_is, small}
+use Rattle.historian_core.proofs.GraphSizes.{IsOne, AreOnes, object_is, small}
 
 -- commands lead from a graph to another, by small graphs, and the last reply is y
 pub record Goes (r : Reply) (g : Graph) (ks : List Command) (z : Graph) (y : Reply) : Type 0 where

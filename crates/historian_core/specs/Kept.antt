@@ -11,7 +11,7 @@ use Rattle.never_heap.specs.declared.Reply.{Reply}
 use Rattle.never_heap.specs.declared.Reply.TheVariants.{Val}
 use Rattle.never_heap.specs.Graphs.{Graph, Object, Record, Array, nils, shared_name}
 use Rattle.control_heap.specs.Controls.{Control, asked, units}
-use Rattle.asked_graph.specs.Shown.{HasMetNoFull}
+use Rattle.graph_view.specs.Shown.{HasMetNoFull}
 use Rattle.historian_core.specs.declared.Limits.{Limits}
 use Rattle.historian_core.specs.Windows.{is_alarm, alarms_in, last_ones}
 

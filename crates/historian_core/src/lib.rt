@@ -19,9 +19,9 @@ mod stops;
 mod tests;
 mod texts;
 
-use asked_graph::{ask_all, lives_add_up, open, shown_heaps_met_no_full};
 use block_store::{Config, Value, Width};
 use control_heap::{ControlHeap, OpenFault};
+use graph_view::{ask_all, lives_add_up, open, shown_heaps_met_no_full};
 use never_heap::{Command, Reply};
 use std::alloc::Global;
 pub use stops::{Stop, Why, report_with_status, say_stop};

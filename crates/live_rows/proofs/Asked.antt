@@ -11,9 +11,9 @@ use Rattle.never_heap.specs.declared.Command.{Command}
 use Rattle.never_heap.specs.declared.Entry.{Entry}
 use Rattle.never_heap.specs.declared.Reply.{Reply}
 use Rattle.never_heap.specs.declared.Reply.TheVariants as answers
-use Rattle.shared_heap.specs.Workers.{WorkerState, HasRoom, HasAnswered, IsSame}
+use Rattle.shared_heap.specs.Workers.{WorkerState, HasRoom, HasAnswered, HasMade, IsSame}
 use Rattle.shared_heap.proofs.Crews.{same_here, same_on}
-use Rattle.live_rows.specs.Life.{HasBegun, HasRoomFor, HasRun, last_three}
+use Rattle.live_rows.specs.Life.{Executes, HasBegun, HasRoomFor, HasRun, last_three}
 use Rattle.live_rows.proofs.Rooms.{room_one, room_rest}
 
 abbrev Three : Type 0
@@ -31,10 +31,19 @@ three_more a b c r (x ∷ rs) = three_more b c x r rs
 abbrev pub no_replies : Three
 no_replies = (answers.Null, answers.Null, answers.Null)
 
+executes_more : (a b c : WorkerState) (ks : List Command) (k : Command) → Executes a ks b
+    → IsSame b c → c.thread.trace ≡ b.thread.trace ++ k ∷ [] → HasMade b k c
+    → Executes a (ks ++ k ∷ []) c
+executes_more a b c [] k is same asked made =
+    subst (λ (w : WorkerState). Executes w (k ∷ []) c) is (c, same, asked, made, refl)
+executes_more a b c (x ∷ xs) k is same asked made =
+    (is.0, is.1, is.2, is.3, executes_more is.0 b c xs k is.4 same asked made)
+
 run_none : (w : WorkerState) → HasRun w [] no_replies w
 run_none w = record {
   same = same_here w;
   asked = sym (append-nil w.thread.trace);
+  executes = refl;
   entries = [];
   told = sym (append-nil w.thread.log);
   commands = refl;
@@ -42,10 +51,12 @@ run_none w = record {
 }
 
 run_more : (a b c : WorkerState) (ks : List Command) (k : Command) (p : Three) (r : Reply)
-    → HasRun a ks p b → IsSame b c → HasAnswered b k r c → HasRun a (ks ++ k ∷ []) (moved_on p r) c
-run_more a b c ks k p r run same is = record {
+    → HasRun a ks p b → IsSame b c → HasAnswered b k r c → HasMade b k c
+    → HasRun a (ks ++ k ∷ []) (moved_on p r) c
+run_more a b c ks k p r run same is made = record {
   same = same_on a b c run.same same;
   asked = is.asked ∙ ap (λ l. l ++ k ∷ []) run.asked ∙ append_assoc a.thread.trace ks (k ∷ []);
+  executes = executes_more a b c ks k run.executes same is.asked made;
   entries = run.entries ++ is.entry ∷ [];
   told = is.told ∙ ap (λ l. l ++ is.entry ∷ []) run.told
       ∙ append_assoc a.thread.log run.entries (is.entry ∷ []);
@@ -139,15 +150,15 @@ module _ (first : WorkerState) (ks : List Command) (i : ℕ) (p : Three) (now : 
   has_left = room_one now.thread k (drop (i + 1) ks) room_here
 
   pub at_next : (next : WorkerState) (r : Reply) → IsSame now next → HasAnswered now k r next
-      → IsAt first ks (i + 1) (moved_on p r) next
-  at_next next r same is = record {
+      → HasMade now k next → IsAt first ks (i + 1) (moved_on p r) next
+  at_next next r same is made = record {
     none = λ e. absurd (omega arith);
     begun = λ some. elim (cases_eq i 0) [
       | inl e ↦ subst (λ w. HasBegun w next) (at.none e) (begun_first now next k r same is)
       | inr ne ↦ begun_more first now next k r (at.begun (omega arith)) is
     ];
     run = subst (λ l. HasRun first l (moved_on p r) next) (sym (take_more ks i d low))
-        (run_more first now next (take i ks) k p r at.run same is);
+        (run_more first now next (take i ks) k p r at.run same is made);
     room = room_rest now next k r same is (drop (i + 1) ks) room_here;
     bounds = subst (λ (c : Config). AllByRecursion (IsCommandInBounds c) (drop (i + 1) ks))
         (sym same.config) bounds_here.1;

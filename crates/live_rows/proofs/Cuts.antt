@@ -14,7 +14,7 @@ use Rattle.shared_heap.specs.Shared.{IsStartOf}
 use Rattle.live_rows.specs.Behind.{StandsBehind, operations_in}
 use Rattle.live_rows.specs.Rows.{Rows, commands_in, commands_of}
 use Rattle.live_rows.proofs.Lawful.{Lawful}
-use Rattle.live_rows.proofs.Told.{rows_more}
+use Rattle.live_rows.proofs.AnswersOfOperations.{rows_more}
 
 -- ---- lists
 
@@ -207,7 +207,8 @@ module _ {Op Row Answer S : Type 0} (a : Rows Op Row Answer S) where
         let r = law.begins t ops ks read in
         (r.0, sym (law.decoded t script all) ∙ ap (a.operations_of t) e ∙ r.1)
 
-    -- what thread u has decided at a start in which it has done these operations and so many rows more
+    -- what thread u has decided at a start in which it has done these operations and so many rows
+    -- more
     pub decided_so_far : (scripts : List (List Op)) (start : List HistoryItem) (u : ℕ)
         (done more : List Op) (n : ℕ) → slice_index_or scripts u [] ≡ done ++ more
         → length (part u start) ≡ length (flat_map a.rows_of done) + n
@@ -233,7 +234,8 @@ module _ {Op Row Answer S : Type 0} (a : Rows Op Row Answer S) where
           (deciding ∙ ap (λ x. behind scripts [] x) begins.1
           ∙ split_behind scripts [] start begins.0)
 
-      -- what thread u had done when it had this log, where its log is a prefix of its part of the start
+      -- what thread u had done when it had this log, where its log is a prefix of its part of the
+      -- start
       done_in : (u : ℕ) (done : List Op) (log : List Entry) (rest : List Entry)
           → a.AreRead u done → part u start ≡ log ++ rest
           → commands_in log ≡ commands_of a done

@@ -1,5 +1,5 @@
 -- The outcome of an operation's commands.
-use Rattle.std.proofs.Common.{◌≡◌, ℕ, arith, subst, sym, ap, ◌∙◌, List, [], ◌∷◌, ◌++◌, length}
+use Rattle.std.proofs.Common.{◌≡◌, ℕ, arith, refl, subst, sym, ap, ◌∙◌, List, [], ◌∷◌, ◌++◌, length}
 use Rattle.std.specs.Prelude.{flat_map}
 use Rattle.std.proofs.lemmas.List.{append-nil, length-map, length-append, map-append}
 use Rattle.block_store.specs.declared.Config.{Config}
@@ -10,7 +10,7 @@ use Rattle.live_rows.specs.Life.{HasBegun, HasRun}
 use Rattle.live_rows.specs.Rows.{Rows, IsRowHeap, answers_of, commands_of, replies}
 use Rattle.live_rows.specs.Workers.{HasDone, HasSeenAll, IsNext, IsRowWorker, row_worker}
 use Rattle.live_rows.proofs.Lawful.{Lawful}
-use Rattle.live_rows.proofs.Told.{answers_more, commands_more}
+use Rattle.live_rows.proofs.AnswersOfOperations.{answers_more, commands_more}
 
 -- what a worker has seen
 pub all_seen : {Op Row Answer S : Type 0} (a : Rows Op Row Answer S) (law : Lawful a)
@@ -104,6 +104,9 @@ module _ {Op Row Answer S : Type 0} (a : Rows Op Row Answer S) (law : Lawful a)
     own = begun.own;
     on = begun.on;
     notes = begun.notes;
+    executes = run.executes;
+    first = record { between = is; same = refl };
+    last = record { between = still; same = refl };
     was = all_seen a law old is sound;
     now = all_seen a law new still begun.sound;
   }

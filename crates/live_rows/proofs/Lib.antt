@@ -1,5 +1,5 @@
 pub mod Lawful
-pub mod Told
+pub mod AnswersOfOperations
 pub mod Rooms
 pub mod Lives
 pub mod Asked
@@ -9,3 +9,4 @@ pub mod Opening
 pub mod Cuts
 pub mod Closing
 pub mod SoFar
+pub mod Within

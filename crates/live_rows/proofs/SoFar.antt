@@ -11,7 +11,7 @@ use Rattle.block_store.specs.declared.Config.{Config}
 use Rattle.block_store.specs.Heaps.{Heap}
 use Rattle.block_store.specs.Phases.{bit}
 use Rattle.heap_machine.specs.declared.pass.Pass.{Pass}
-use Rattle.kept_names.specs.Pictures.{Names}
+use Rattle.name_invariant.specs.Pictures.{Names}
 use Rattle.never_heap.specs.declared.Command.{Command}
 use Rattle.never_heap.specs.declared.Command.TheVariants as commands
 use Rattle.never_heap.specs.declared.Entry.{Entry}
@@ -40,11 +40,11 @@ use Rattle.shared_heap.proofs.Prefixes.{fits_one, fits_order}
 use Rattle.live_rows.specs.Behind.{answers_in, operations_in}
 use Rattle.live_rows.specs.Rows.{Rows, IsRowHeap, answers_of, commands_in, commands_of, replies}
 use Rattle.live_rows.specs.Workers.{IsRowWorker, row_worker}
-use Rattle.live_rows.specs.SoFar.{AllThreads, AllSeats, IsAt, IsBetween, Execute, HasCalls, AllHaveCalls, FitsOneOrder}
+use Rattle.live_rows.specs.SoFar.{AllThreads, AllSeats, IsAt, IsBetween, IsWithin, IsWorking, Execute, HasCalls, AllHaveCalls, FitsOneOrder}
 use Rattle.live_rows.proofs.Closing.{parts_count}
 use Rattle.live_rows.proofs.Cuts.{begins_so, decided_so_far, ops_of, ops_of_calls}
 use Rattle.live_rows.proofs.Lawful.{Lawful}
-use Rattle.live_rows.proofs.Told.{as_many_answers, rows_more, told_within}
+use Rattle.live_rows.proofs.AnswersOfOperations.{as_many_answers, commands_more, rows_more, told_within}
 
 -- ---- a thread's entries in the history are of its first commands
 
@@ -97,6 +97,67 @@ none_left : {X : Type 0} (xs ys zs : List X) → zs ≡ xs ++ ys → length zs �
 none_left xs [] zs e same = e ∙ append-nil xs
 none_left xs (y ∷ ys) zs e same =
     absurd (omega (arith, ap length e, length-append xs (y ∷ ys), same))
+
+-- ---- what a thread may do whose worker is between two operations or in the middle of one
+
+abbrev Does : {Op Row Answer S : Type 0} → Rows Op Row Answer S → LocalState → List Op → Type 0
+Does a l ops = a.AreDone l.config.shared l.thread ops
+    × (rest : List Command) × (commands_of a ops ≡ l.trace ++ rest)
+
+module _ {Op Row Answer S : Type 0} (a : Rows Op Row Answer S) (law : Lawful a) where
+  does_between : (l : LocalState) → IsBetween a l → (ops : List Op) × Does a l ops
+  does_between l b = subst (λ (x : LocalState). (ops : List Op) × Does a x ops) b.1 (
+    a.operations_of b.0.thread.thread b.0.thread.trace,
+    (b.2.inside, [], sym b.2.asked ∙ sym (append-nil b.0.thread.trace)),
+  )
+
+  module _ (l : LocalState) (i : IsWithin a l) where
+    abbrev before : List Op
+    before = a.operations_of i.worker.thread.thread i.worker.thread.trace
+
+    may_do : a.AreDone l.config.shared l.thread (before ++ i.operation ∷ [])
+    may_do =
+        subst (λ (t : ℕ). a.AreDone l.config.shared t (before ++ i.operation ∷ [])) (sym i.thread)
+        (subst (λ (c : Config). a.AreDone c.shared i.worker.thread.thread
+        (before ++ i.operation ∷ [])) (sym i.config)
+        (law.more i.worker.thread.config.shared i.worker.thread.thread before i.operation
+        i.between.inside i.next))
+
+    does_within : (ops : List Op) × Does a l ops
+    does_within = (
+      before ++ i.operation ∷ [],
+      (
+        may_do,
+        i.left,
+        commands_more a before (i.operation ∷ [])
+            ∙ (λ j. sym i.between.asked j ++ i.commands j)
+            ∙ sym (append_assoc i.worker.thread.trace i.given i.left)
+            ∙ ap (λ ks. ks ++ i.left) (sym i.trace),
+      ),
+    )
+
+  does : (l : LocalState) → IsWorking a l → (ops : List Op) × Does a l ops
+  does l is = elim is [ inl b ↦ does_between l b | inr i ↦ does_within l i ]
+
+-- of each of these, one of those that it stands in a relation with
+chosen_at : {A B : Type 0} (R : A → B → Type 0) (d : A) (x : A) (xs : List A) (y : B) (ys : List B)
+    → R x y → ((i : ℕ) (e : B) → i < length xs → R (get_or xs i d) (get_or ys i e))
+    → (i : ℕ) (e : B) → i < length (x ∷ xs) → R (get_or (x ∷ xs) i d) (get_or (y ∷ ys) i e)
+chosen_at R d x xs y ys first rest zero e low = first
+chosen_at R d x xs y ys first rest (suc i) e low = rest i e (omega arith)
+
+chosen : {A B : Type 0} (R : A → B → Type 0) (d : A) (xs : List A)
+    → ((i : ℕ) → i < length xs → (y : B) × R (get_or xs i d) y)
+    → (ys : List B) × (length ys ≡ length xs)
+    × ((i : ℕ) (e : B) → i < length xs → R (get_or xs i d) (get_or ys i e))
+chosen R d [] each = ([], refl, λ i e low. absurd (omega arith))
+chosen R d (x ∷ xs) each =
+    let first = each 0 (omega arith) in
+    let rest = chosen R d xs (λ i low. each (suc i) (omega arith)) in (
+      first.0 ∷ rest.0,
+      omega (arith, rest.1),
+      chosen_at R d x xs first.0 rest.0 first.1 rest.2,
+    )
 
 -- ---- the moment
 
@@ -422,3 +483,56 @@ module _ {Op Row Answer S : Type 0} (a : Rows Op Row Answer S) (law : Lawful a) 
     pub fits_between : IsRowHeap a c
         → (scripts : List (List Op)) × FitsOneOrder a c s scripts kept.run.order
     fits_between rows = (done_scripts, fits_order_of rows done_scripts executed)
+
+  -- ---- any moment
+
+  module _ (working : AllSeats (IsWorking a) s) where
+    abbrev locals : List LocalState
+    locals = kept.run.state.locals
+
+    does_at : (t : ℕ) → t < length locals
+        → (ops : List Op) × Does a (local_in c kept.run t) ops
+    does_at t tl = does a law (local_in c kept.run t)
+        (of_each (IsWorking a) working t (omega (arith, tl, all.threads)))
+
+    abbrev choice : (ys : List (List Op)) × (length ys ≡ length locals)
+        × ((i : ℕ) (e : List Op) → i < length locals
+        → Does a (get_or locals i (no_local c)) (get_or ys i e))
+    choice = chosen (Does a) (no_local c) locals does_at
+
+    chosen_for : (t : ℕ) → t < c.threads
+        → Does a (local_in c kept.run t) (slice_index_or choice.0 t [])
+    chosen_for t tl = choice.2 t [] (omega (arith, tl, all.threads))
+
+    choice_inside : (t : ℕ) → a.AreDone c.shared t (slice_index_or choice.0 t [])
+    choice_inside t = elim (cases_lt t c.threads) [
+      | inl low ↦
+          let own = all.locals t low in
+          let ops : List Op = slice_index_or choice.0 t [] in
+          subst (λ (u : ℕ). a.AreDone c.shared u ops) own.thread
+          (subst (λ (x : Config). a.AreDone x.shared (local_in c kept.run t).thread ops) own.config
+          (chosen_for t low).0)
+      | inr high ↦ subst (λ (l : List Op). a.AreDone c.shared t l)
+          (sym (get_or_past choice.0 t [] (omega (arith, choice.1, all.threads, high))))
+          (law.none c.shared t)
+    ]
+
+    choice_at : (h : Held) → Fits c kept.run h → IsAt a choice.0 h.local
+    choice_at h fit =
+        let d = chosen_for h.local.thread fit.0 in
+        (d.1, d.2 ∙ ap (λ (l : LocalState). l.trace ++ d.1) (sym (own_of h fit)))
+
+    choices_at : (hs : List Held) → AllFit c kept.run hs → AllThreads (IsAt a choice.0) hs
+    choices_at [] fit = tt
+    choices_at (h ∷ hs) fit = (choice_at h fit.0, choices_at hs fit.1)
+
+    working_execute : Execute a c s choice.0
+    working_execute = record {
+      count = choice.1 ∙ all.threads;
+      inside = choice_inside;
+      each = λ id v at. choices_at v.threads (kept.each id v at).0;
+    }
+
+    pub fits_working : IsRowHeap a c
+        → (scripts : List (List Op)) × FitsOneOrder a c s scripts kept.run.order
+    fits_working rows = (choice.0, fits_order_of rows choice.0 working_execute)

@@ -11,7 +11,7 @@ use Rattle.heap_system.specs.Lives.{sum_after, objects_of, most_commands, most_o
 use Rattle.heap_system.specs.Locals.{LocalState, works}
 use Rattle.never_heap.specs.Histories.{HistoryItem, part}
 use Rattle.shared_heap.specs.Shared.{IsStartOf}
-use Rattle.shared_heap.specs.Workers.{AllStart, HasSeenIts, IsSame, WorkerState}
+use Rattle.shared_heap.specs.Workers.{AllStart, HasMade, HasSeenIts, IsSame, WorkerState}
 
 -- the lifetime of a thread allows all of these commands
 pub record HasRoomFor (l : LocalState) (ks : List Command) : Type 0 where
@@ -25,11 +25,20 @@ abbrev pub last_three : Reply → Reply → Reply → List Reply → Reply × Re
 last_three a b c [] = (a, b, c)
 last_three a b c (r ∷ rs) = last_three b c r rs
 
+-- The same worker has executed these commands one by one, and done nothing else between them. For
+-- each its code announced the command, made its events, and no other operation.
+abbrev pub Executes : WorkerState → List Command → WorkerState → Type 0
+Executes old [] new = new ≡ old
+Executes old (k ∷ ks) new =
+    (next : WorkerState) × IsSame old next × (next.thread.trace ≡ old.thread.trace ++ k ∷ [])
+    × HasMade old k next × Executes next ks new
+
 -- the same worker, which has executed these commands more; the last three replies are these
 pub record HasRun (old : WorkerState) (ks : List Command) (p : Reply × Reply × Reply)
     (new : WorkerState) : Type 0 where
   pub same : IsSame old new
   pub asked : new.thread.trace ≡ old.thread.trace ++ ks
+  pub executes : Executes old ks new
   pub entries : List Entry
   pub told : new.thread.log ≡ old.thread.log ++ entries
   pub commands : map (λ (e : Entry). e.command) entries ≡ ks

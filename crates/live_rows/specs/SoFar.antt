@@ -1,5 +1,5 @@
 -- What the workers of a table were answered so far, between any two steps of any threads.
-use Rattle.std.specs.Prelude.{ℕ, ◌≡◌, ◌++◌, List, [], ◌∷◌, length, slice_index_or}
+use Rattle.std.specs.Prelude.{ℕ, ◌≡◌, ◌++◌, ◌⊎◌, List, [], ◌∷◌, length, slice_index_or, take}
 use mathlib.Core.Option.{some}
 use lib.ListN.{get_elem?}
 use Rattle.atomic_table.specs.Table as table
@@ -9,15 +9,18 @@ use Rattle.never_heap.specs.declared.Command.{Command}
 use Rattle.never_heap.specs.Histories.{HistoryItem}
 use Rattle.never_heap.specs.Licensed.{NoFulls}
 use Rattle.heap_system.specs.Locals.{LocalState}
+use Rattle.control_heap.specs.Growth.{given}
 use Rattle.operations.specs.Linearizations.{Call, traces_of}
 use Rattle.operations.specs.SoFar.{IsRunSoFar, IsLinearizationSoFar}
 use Rattle.shared_heap.specs.declared.rules.Held.{Held}
 use Rattle.shared_heap.specs.declared.rules.View.{View}
 use Rattle.shared_heap.specs.Shared.{AllSeenIn, AllNotedIn}
+use Rattle.shared_heap.specs.Turns.{MadeTurns}
 use Rattle.shared_heap.specs.Workers.{WorkerState}
+use Rattle.live_rows.specs.Life.{Executes}
 use Rattle.live_rows.specs.Behind.{answers_in, operations_in}
 use Rattle.live_rows.specs.Rows.{Rows, commands_of}
-use Rattle.live_rows.specs.Workers.{IsRowWorker, RowWorkerState, row_worker, thread_of}
+use Rattle.live_rows.specs.Workers.{HasDone, IsNext, IsRowWorker, RowWorkerState, row_worker, thread_of}
 
 abbrev pub AllThreads : (LocalState → Type 0) → List Held → Type 0
 AllThreads P [] = Unit {0}
@@ -27,6 +30,16 @@ AllThreads P (h ∷ hs) = P h.local × AllThreads P hs
 abbrev pub AllSeats : (LocalState → Type 0) → table.State Command View → Type 0
 AllSeats P s =
     (id : ℕ) (v : View) → get_elem? s.views id ≡ some v → AllThreads P v.threads
+
+-- A moment of a worker's thread, while the worker executes these commands: before one of them, or
+-- with some of its events made, or after the last.
+abbrev pub IsMomentOf : (ks : List Command) (old new : WorkerState) → Executes old ks new
+    → LocalState → Type 0
+IsMomentOf [] old new is l = l ≡ old.thread
+IsMomentOf (k ∷ ks) old new is l =
+    (l ≡ old.thread)
+    ⊎ ((n : ℕ) × MadeTurns (given k old.thread) (take n is.3.words) l)
+    ⊎ IsMomentOf ks is.0 new is.4 l
 
 -- the calls of the worker's thread in this order are the operations that it did, with their answers
 pub record HasCalls {Op Answer : Type 0} (order : List (Call Op Answer))
@@ -51,6 +64,32 @@ module _ {Op Row Answer S : Type 0} (a : Rows Op Row Answer S) where
   -- the thread is that of a worker between two operations
   abbrev pub IsBetween : LocalState → Type 0
   IsBetween l = (w : WorkerState) × (w.thread ≡ l) × IsRowWorker a w
+
+  -- The thread is that of a worker which was between two operations, and which was given the first
+  -- commands of an operation that could come next.
+  pub record IsWithin (l : LocalState) : Type 0 where
+    pub worker : WorkerState
+    pub between : IsRowWorker a worker
+    pub operation : Op
+    pub next : IsNext a (row_worker a worker) operation
+    pub thread : l.thread ≡ worker.thread.thread
+    pub config : l.config ≡ worker.thread.config
+    pub given : List Command
+    pub left : List Command
+    pub trace : l.trace ≡ worker.thread.trace ++ given
+    pub commands : commands_of a (operation ∷ []) ≡ given ++ left
+
+  -- the thread is that of a worker between two operations or in the middle of one
+  abbrev pub IsWorking : LocalState → Type 0
+  IsWorking l = IsBetween l ⊎ IsWithin l
+
+  -- at each moment of an operation its worker's thread is between two operations or in the middle
+  -- of one
+  abbrev pub WorkAllAlong : Type 0
+  WorkAllAlong =
+      (old new : RowWorkerState Op Answer) (op : Op) (answer : Answer)
+      (did : HasDone a old op answer new) → IsNext a old op → (l : LocalState)
+      → IsMomentOf (commands_of a (op ∷ [])) old.worker new.worker did.executes l → IsWorking l
 
   -- each worker between two operations that has one of these threads
   abbrev pub AllHaveCalls : List (Call Op Answer) → List Held → Type 0

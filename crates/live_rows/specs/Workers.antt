@@ -6,7 +6,7 @@ use Rattle.never_heap.specs.Histories.{HistoryItem, part}
 use Rattle.shared_heap.specs.Shared.{IsStartOf}
 use Rattle.shared_heap.specs.Workers as heaps
 use Rattle.shared_heap.specs.Workers.{AllStart, HeapState, IsSame, WorkerState}
-use Rattle.live_rows.specs.Life.{HasRoomFor}
+use Rattle.live_rows.specs.Life.{Executes, HasRoomFor}
 use Rattle.live_rows.specs.Rows.{Rows, IsRowHeap, answers_of, commands_of, replies}
 
 -- A worker of a table: its worker of the heap, the operations that it did, and their answers. In
@@ -89,6 +89,11 @@ module _ {Op Row Answer S : Type 0} (a : Rows Op Row Answer S) where
     answers = answers_of a (a.operations_of w.thread.thread w.thread.trace) (replies w.thread.log);
   }
 
+  -- the worker is between two operations
+  pub record IsAtRest (w : RowWorkerState Op Answer) : Type 0 where
+    pub between : IsRowWorker w.worker
+    pub same : w ≡ row_worker w.worker
+
   -- the operation can come next
   abbrev pub IsNext : RowWorkerState Op Answer → Op → Type 0
   IsNext w op = a.CanBeNext (places_of w) (thread_of w) w.done op
@@ -110,7 +115,7 @@ module _ {Op Row Answer S : Type 0} (a : Rows Op Row Answer S) where
 
   -- The worker has done one more operation, with this answer. What it had seen, and each note that
   -- it had learned, is a prefix of a history `start`, in which it did nothing more. That is a prefix
-  -- of what it has seen now.
+  -- of what it has seen now. It executed the commands of the operation, and did nothing else.
   pub record HasDone (old : RowWorkerState Op Answer) (op : Op) (answer : Answer)
       (new : RowWorkerState Op Answer) : Type 0 where
     pub done : new.done ≡ old.done ++ op ∷ []
@@ -121,5 +126,8 @@ module _ {Op Row Answer S : Type 0} (a : Rows Op Row Answer S) where
     pub own : part (thread_of old) start ≡ old.worker.thread.log
     pub on : IsStartOf start new.worker.seen
     pub notes : new.worker.notes ≡ []
+    pub executes : Executes old.worker (commands_of a (op ∷ [])) new.worker
+    pub first : IsAtRest old
+    pub last : IsAtRest new
     pub was : HasSeenAll old
     pub now : HasSeenAll new

@@ -5,7 +5,7 @@ use Rattle.block_store.specs.declared.Config.{Config}
 use Rattle.block_store.specs.declared.Width.TheVariants.{Eight}
 use Rattle.never_heap.specs.Bounds.{IsCommandInBounds}
 use Rattle.never_heap.specs.declared.Reply.{Reply}
-use Rattle.never_heap.proofs.Ranges.{plain_fits}
+use Rattle.never_heap.proofs.CommandBounds.{plain_fits}
 use Rattle.operations.proofs.Pairs.{◌▸◌}
 use Rattle.shared_heap.specs.Workers.{HasSeenIts, WorkerState}
 use Rattle.tag_table.specs.declared.operation.Operation.{Operation}

@@ -22,6 +22,10 @@ Execute c s scripts = so_far.Execute tags c s scripts
 abbrev pub IsBetween : LocalState → Type 0
 IsBetween l = so_far.IsBetween tags l
 
+-- the thread is that of a worker between two operations or in the middle of one
+abbrev pub IsWorking : LocalState → Type 0
+IsWorking l = so_far.IsWorking tags l
+
 -- The history is a run of the first commands of the scripts, with no allocation answered full. Its
 -- operations so far have one order, in which each was answered as by a plain table. The calls of
 -- each worker between two operations are those that it did, with the answers that it got. What the

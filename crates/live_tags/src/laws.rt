@@ -10,9 +10,10 @@ ghost use Rattle.shared_heap.specs.declared.rules.View.{View};
 ghost use Rattle.shared_heap.specs.Shared.{IsStartOf, SharedKept};
 ghost use Rattle.tag_table.specs.declared.operation.Operation.{Operation};
 ghost use Rattle.tag_table.specs.Tables.{Tag};
+ghost use Rattle.live_rows.specs.SoFar.{WorkAllAlong};
 ghost use Rattle.live_tags.specs.Behind.{StandsBehind};
-ghost use Rattle.live_tags.specs.Live.{HasDone, HasSeenAll, HaveOneTable, IsTagHeap, TagWorkerState, thread_of};
-ghost use Rattle.live_tags.specs.SoFar.{AllSeats, Execute, FitsOneTable, IsBetween};
+ghost use Rattle.live_tags.specs.Live.{HasDone, HasSeenAll, HaveOneTable, IsTagHeap, TagWorkerState, tags, thread_of};
+ghost use Rattle.live_tags.specs.SoFar.{AllSeats, Execute, FitsOneTable, IsBetween, IsWorking};
 
 /// In the order of a closed table, an operation comes after all operations that a worker `a` had
 /// done, if what `a` had seen is a prefix of the history at which the operation began
@@ -32,13 +33,23 @@ pub fn operations_stand_behind_what_was_seen()
 /// table. A worker between two operations has exactly the operations that it did there, with the
 /// answers that it got. The order is that of the history of the rule's run.
 ///
-/// Here all workers are between two operations (`between`), or the threads execute the operations
-/// of some scripts, and may be in the middle of one (`meanwhile`).
+/// Here all workers are between two operations (`between`); or each is between two or in the middle
+/// of one (`anytime`), as `workers_are_at_work_all_along` says of each operation; or the threads
+/// execute the operations of some scripts (`meanwhile`).
 pub fn what_was_answered_is_a_tables()
     ensures between { (k : Whole) (s : table.State Command View) (kept : SharedKept k s)
         → AllSeats IsBetween s → IsTagHeap k.config
         → (scripts : List (List Operation)) × FitsOneTable k.config s scripts kept.run.order }
+    ensures anytime { (k : Whole) (s : table.State Command View) (kept : SharedKept k s)
+        → AllSeats IsWorking s → IsTagHeap k.config
+        → (scripts : List (List Operation)) × FitsOneTable k.config s scripts kept.run.order }
     ensures meanwhile { (k : Whole) (s : table.State Command View) (kept : SharedKept k s)
         → IsTagHeap k.config → (scripts : List (List Operation)) → Execute k.config s scripts
         → FitsOneTable k.config s scripts kept.run.order }
+{}
+
+/// At each moment of an operation its worker's thread is in the middle of it, or between two of them:
+/// before the first command, after each event that the worker's code makes, and after the last.
+pub fn workers_are_at_work_all_along()
+    ensures { WorkAllAlong tags }
 {}

@@ -4,7 +4,7 @@ use Rattle.never_heap.specs.declared.Command.{Command}
 use Rattle.never_heap.specs.declared.Command.TheVariants as commands
 use Rattle.barrier_steps.specs.declared.rows.FieldRow.{FieldRow}
 use Rattle.barrier_steps.specs.declared.rows.FieldRow.TheVariants as rows
-use Rattle.barrier_steps.specs.declared.rows.Wanted.TheVariants as wants
+use Rattle.barrier_steps.specs.declared.rows.Purpose.TheVariants as wants
 
 -- how many registers a command loads between the shape of its object and the first link
 abbrev pub loads_before : Command → ℕ

@@ -14,7 +14,7 @@ use heap_machine::{Gate, Op, Step, gate_rows_stay_in_the_heap};
 
 /// What a thread does at the gate. It turns over after a pass of this cycle and phase.
 #[derive(Clone, Copy)]
-pub enum Way {
+pub enum TreePath {
     In,
     Out,
     Over {
@@ -30,7 +30,7 @@ pub type AtGate = (Op, Option<PhaseWord>, Option<u64>);
 
 /// Where the part is behind these events. `None` where an event is not as its row says, the place
 /// can't hold the word, a cycle was started before the last event, or the heap has no such thread.
-pub fn at_gate(c: &Config, way: Way, rows: &[Row]) -> Option<AtGate> {
+pub fn at_gate(c: &Config, way: TreePath, rows: &[Row]) -> Option<AtGate> {
     let mut gate = begun(c, way)?;
     for row in rows {
         if gate.started().is_some() {
@@ -42,7 +42,7 @@ pub fn at_gate(c: &Config, way: Way, rows: &[Row]) -> Option<AtGate> {
 }
 
 // Before the first event.
-fn begun(c: &Config, way: Way) -> Option<Gate>
+fn begun(c: &Config, way: TreePath) -> Option<Gate>
     ensures bounds { IfSome result (λ g. IsInBounds c.now) }
     ensures fits { IfSome result (λ g. GateFits g) }
     ensures places { IfSome result (λ g. GateAt c.now g) }
@@ -51,9 +51,9 @@ fn begun(c: &Config, way: Way) -> Option<Gate>
         return None;
     }
     match way {
-        Way::In => Some(Gate::enter()),
-        Way::Out => Some(Gate::leave()),
-        Way::Over {
+        TreePath::In => Some(Gate::enter()),
+        TreePath::Out => Some(Gate::leave()),
+        TreePath::Over {
             thread,
             cycle,
             sweep,

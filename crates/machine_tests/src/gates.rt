@@ -1,6 +1,6 @@
 //! Operations on a few words, and the gate of a heap of 64 blocks.
 
-use crate::gate_hand::{Way, at_gate};
+use crate::gate_hand::{TreePath, at_gate};
 use crate::rows::{over, waited, waited_over, went};
 use crate::small::{BLACK, GREY, INSIDE, MARK, OPEN, PAIR, SMALL};
 use block_store::{Config, OutOfMemory, Places, Width};
@@ -58,7 +58,7 @@ fn a_thread_goes_in_and_out(rt: HostRuntime) {
         over(Op::compare_exchange(phase, OPEN, INSIDE), OPEN),
     ];
     assert_eq!(rt;
-        at_gate(&ONE, Way::In, &enter),
+        at_gate(&ONE, TreePath::In, &enter),
         Some((look, Some(MARK), None))
     );
     let leave = [over(
@@ -68,12 +68,15 @@ fn a_thread_goes_in_and_out(rt: HostRuntime) {
         },
         INSIDE,
     )];
-    assert_eq!(rt; at_gate(&ONE, Way::Out, &leave), Some((look, None, None)));
+    assert_eq!(rt;
+        at_gate(&ONE, TreePath::Out, &leave),
+        Some((look, None, None))
+    );
 }
 
 // The turn over of thread `t` of two, after a Mark pass of cycle 1.
-fn turn_over(thread: u32) -> Way {
-    Way::Over {
+fn turn_over(thread: u32) -> TreePath {
+    TreePath::Over {
         thread,
         cycle: 1,
         sweep: false,
@@ -158,7 +161,7 @@ fn a_sweep_pass_that_finds_nothing_starts_a_cycle(rt: HostRuntime) {
             went(Op::exchange(places.grey_list(1), u64::from(root)), 0),
             over(Op::exchange(phase, NEXT), SWEEP_CLOSED),
         ];
-        let way = Way::Over {
+        let way = TreePath::Over {
             thread: 1,
             cycle: 1,
             sweep: true,

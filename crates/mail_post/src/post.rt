@@ -5,7 +5,7 @@ ghost use Rattle.crossbeam_queue.specs.Passes.{view, IsPassOf, IsSamePass};
 ghost use Rattle.mail_post.specs.declared.views.Letter.{Letter};
 ghost use Rattle.mail_post.specs.declared.views.View.TheVariants.{Sending, Taking};
 ghost use Rattle.mail_post.specs.Rule.{IsTaking, sent_in, letters_in, gathered_in, senders_in, Tells};
-ghost use Rattle.mail_post.specs.Ends.{fresh_sender, fresh_senders, fresh_taker, all_sent, whole_of, AreAll, OfPost, Begins};
+ghost use Rattle.mail_post.specs.PostStates.{fresh_sender, fresh_senders, fresh_taker, all_sent, whole_of, AreAll, OfPost, Begins};
 ghost use Rattle.mail_post.specs.Rows.{rows_of, took};
 
 use crate::rows::{Row, make_room, put_in};
@@ -26,7 +26,7 @@ pub struct Post {
 
 impl Model for Post {
     ghost use Rattle.crossbeam_queue.specs.Passes.{ruled_capacity};
-    ghost use Rattle.mail_post.specs.Ends.{PostState};
+    ghost use Rattle.mail_post.specs.PostStates.{PostState};
 
     ghost Value = { PostState };
 
@@ -49,7 +49,7 @@ impl Model for Sender {
     ghost use Rattle.crossbeam_queue.specs.Passes.{view as known};
     ghost use Rattle.mail_post.specs.declared.views.View.TheVariants.{Sending};
     ghost use Rattle.mail_post.specs.Rule.{sent_in, letters_in, gathered_in, senders_in, Tells};
-    ghost use Rattle.mail_post.specs.Ends.{SenderState};
+    ghost use Rattle.mail_post.specs.PostStates.{SenderState};
 
     ghost Value = { SenderState };
 
@@ -75,7 +75,7 @@ impl Model for Taker {
     ghost use Rattle.crossbeam_queue.specs.Passes.{view as known};
     ghost use Rattle.mail_post.specs.Rule.{gathered_in};
     ghost use Rattle.mail_post.specs.Rows.{rows_of};
-    ghost use Rattle.mail_post.specs.Ends.{TakerState, IsTaker, known_sent};
+    ghost use Rattle.mail_post.specs.PostStates.{TakerState, IsTaker, known_sent};
 
     ghost Value = { TakerState };
 
@@ -100,7 +100,7 @@ impl Model for Taken {
     ghost use Rattle.crossbeam_queue.specs.Passes.{view as known};
     ghost use Rattle.mail_post.specs.Rule.{gathered_in};
     ghost use Rattle.mail_post.specs.Rows.{rows_of};
-    ghost use Rattle.mail_post.specs.Ends.{TakenState, IsTakenState, all_sent};
+    ghost use Rattle.mail_post.specs.PostStates.{TakenState, IsTakenState, all_sent};
 
     ghost Value = { TakenState };
 
@@ -183,8 +183,8 @@ fn take_in(line: &Line, pass: &mut End, sender: Sender)
 }
 
 impl Post {
-    /// A post with so many senders, 1 or 2, and its ends. The queue has room for so many letters, at
-    /// least 1.
+    /// A post with so many senders, 1 or 2, and its ends. The queue has room for so many letters,
+    /// at least 1.
     pub fn new(
         alloc: Global,
         senders: u32,

@@ -1,6 +1,6 @@
-pub mod Eaches
-mod FreshSpeakers
-mod SpeakersDone
+pub mod EachInOrder
+mod FreshMailThreads
+mod MailThreadsDone
 mod SaidByLogs
-mod BegunThreads
+mod SpawnedThreads
 mod Countable

@@ -4,9 +4,9 @@ use Rattle.std.proofs.Math.Seq.{take-length}
 use Rattle.never_heap.specs.declared.Entry.{Entry}
 use Rattle.atom_board.specs.Mutators.{IsLater}
 use Rattle.said_numbers.specs.Said.{number_said, numbers_said, with_number}
-use Rattle.mail_runs.specs.declared.office.Office.{Office}
-use Rattle.mail_runs.specs.declared.speaker.Speaker.{Speaker}
-use Rattle.mail_runs.specs.Speakers.{IsSpeaker}
+use Rattle.mail_runs.specs.declared.mail_board.MailBoard.{MailBoard}
+use Rattle.mail_runs.specs.declared.mail_thread.MailThread.{MailThread}
+use Rattle.mail_runs.specs.MailThreads.{IsMailThread}
 
 with_append : (o : Option ℕ) (vs ws : List ℕ) → with_number o vs ++ ws ≡ with_number o (vs ++ ws)
 with_append None vs ws = refl
@@ -46,13 +46,13 @@ grown new sent told read old log is first then =
     ∙ ap (λ (xs : List Entry). sent ++ numbers_said (drop (length xs) read)) first
     ∙ ap (λ (xs : List Entry). sent ++ numbers_said (drop (length old) xs)) then
 
--- a speaker that has told by what its log has grown
-pub speaks_on : (o : Office) (old new : Speaker) → IsSpeaker o old.mutator.local.thread old
+-- a mail thread that has told by what its log has grown
+pub speaks_on : (o : MailBoard) (old new : MailThread) → IsMailThread o old.mutator.local.thread old
     → IsLater old.mutator new.mutator → new.sender.post ≡ old.sender.post
     → new.sender.thread ≡ old.sender.thread
     → new.sender.sent ≡ old.sender.sent
     ++ numbers_said (drop (length old.mutator.local.log) new.mutator.local.log)
-    → IsSpeaker o old.mutator.local.thread new
+    → IsMailThread o old.mutator.local.thread new
 speaks_on o old new is later post number sent = record {
   board = later.board ∙ is.board;
   thread = later.thread;
@@ -67,15 +67,15 @@ speaks_on o old new is later post number sent = record {
 }
 
 -- a log does not get shorter
-pub no_shorter : (o : Office) (old new : Speaker) → IsLater old.mutator new.mutator
+pub no_shorter : (o : MailBoard) (old new : MailThread) → IsLater old.mutator new.mutator
     → length old.mutator.local.log ≤ length new.mutator.local.log
 no_shorter o old new later =
     omega (arith, ap length later.log, length-append old.mutator.local.log later.more)
 
--- the number of a speaker is that of its thread
-pub own_number : (o : Office) (t : ℕ) (s : Speaker) → IsSpeaker o t s
-    → IsSpeaker o s.mutator.local.thread s
-own_number o t s is = subst (λ k. IsSpeaker o k s) (sym is.thread) is
+-- the number of a mail thread is that of its thread
+pub own_number : (o : MailBoard) (t : ℕ) (s : MailThread) → IsMailThread o t s
+    → IsMailThread o s.mutator.local.thread s
+own_number o t s is = subst (λ k. IsMailThread o k s) (sym is.thread) is
 
-pub same_number : (o : Office) (t u : ℕ) (s : Speaker) → u ≡ t → IsSpeaker o u s → IsSpeaker o t s
-same_number o t u s same is = subst (λ k. IsSpeaker o k s) same is
+pub same_number : (o : MailBoard) (t u : ℕ) (s : MailThread) → u ≡ t → IsMailThread o u s → IsMailThread o t s
+same_number o t u s same is = subst (λ k. IsMailThread o k s) same is

@@ -1,3 +1,3 @@
 pub mod Rooms
-pub mod Speakers
-pub mod Begun
+pub mod MailThreads
+pub mod Spawned

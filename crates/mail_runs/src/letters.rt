@@ -4,13 +4,13 @@ ghost use Rattle.std.specs.Prelude.{◌≡◌, ◌≤◌, ◌+◌, ◌*◌, map,
 ghost use Rattle.rate_plan.specs.Rates.{IsAdmitted};
 ghost use Rattle.trace_text.specs.Jobs.{IsJobInBounds};
 ghost use Rattle.said_numbers.specs.Said.{numbers_said, says_in};
-ghost use Rattle.threaded_runs.specs.Ends.{HasHistory, HasTurns, job_of};
+ghost use Rattle.threaded_runs.specs.EndedRuns.{HasHistory, HasTurns, job_of};
 ghost use Rattle.mail_runs.specs.Rooms.{room_of};
-ghost use Rattle.mail_runs.specs.Speakers.{AreSpeakers, IsFirst};
+ghost use Rattle.mail_runs.specs.MailThreads.{AreMailThreads, IsFirst};
 
-use crate::office::{Office, closed, paired};
+use crate::mail_board::{MailBoard, closed, paired};
+use crate::mail_thread::MailThread;
 use crate::receiving::delivered;
-use crate::speaker::Speaker;
 use atom_board::{AtomBoard, Closed};
 use block_store::OutOfMemory;
 use heap_system::{cycles_cost_few_units, cycles_give_few_blocks, fulls_are_licensed};
@@ -24,9 +24,9 @@ use std::thread::Threads;
 use trace_text::Job;
 
 /// Runs a job of one or two threads to its end, and tells the pace before each command. Each thread
-/// sends the numbers that it says, in order, and the caller takes them until all threads have ended,
-/// and then what is left. Gives the board, closed, and the letters: of each thread just the numbers
-/// that its log shows by `say`.
+/// sends the numbers that it says, in order, and the caller takes them until all threads have
+/// ended, and then what is left. Gives the board, closed, and the letters: of each thread just the
+/// numbers that its log shows by `say`.
 ///
 /// A thread that cannot be made is run by the caller at once. The queue has room for all letters of
 /// the job, so that no thread waits for the caller. That the threads come to their ends is not
@@ -53,20 +53,20 @@ pub fn deliver<R: Threads + Wait + Sync, Q: Pace>(
     fulls_are_licensed();
     cycles_give_few_blocks();
     cycles_cost_few_units();
-    let (office, speakers, taker) = opened(alloc, job)?;
-    let (mutators, taker) = delivered(rt, alloc, &office, pace, speakers, taker)?;
-    Ok(closed(office, mutators, taker))
+    let (mail_board, mail_threads, taker) = opened(alloc, job)?;
+    let (mutators, taker) = delivered(rt, alloc, &mail_board, pace, mail_threads, taker)?;
+    Ok(closed(mail_board, mutators, taker))
 }
 
-/// The board of a job and its post, with a speaker for each thread, before the first turn. The
+/// The board of a job and its post, with a mail thread for each thread, before the first turn. The
 /// queue has room for all letters of the job.
-fn opened(alloc: Global, job: Job) -> Result<(Office, Vec<Speaker>, Taker), OutOfMemory>
+fn opened(alloc: Global, job: Job) -> Result<(MailBoard, Vec<MailThread>, Taker), OutOfMemory>
     requires bounds { IsJobInBounds job }
     requires admitted { IsAdmitted job.config }
     requires few { job.config.threads ≤ 2 }
     ensures board { IfOk result (λ r. (r.0.board.config ≡ job.config)
         × (r.0.board.traces ≡ job.traces)) }
-    ensures speakers { IfOk result (λ r. AreSpeakers r.0 r.1.items) }
+    ensures mail_threads { IfOk result (λ r. AreMailThreads r.0 r.1.items) }
     ensures taker { IfOk result (λ r. IsFirst r.0 r.2) }
     ensures room { IfOk result (λ r. r.0.post.room ≡ room_of job.traces) }
 {
@@ -79,23 +79,23 @@ pub(crate) fn opened_for(
     alloc: Global,
     job: Job,
     room: usize,
-) -> Result<(Office, Vec<Speaker>, Taker), OutOfMemory>
+) -> Result<(MailBoard, Vec<MailThread>, Taker), OutOfMemory>
     requires bounds { IsJobInBounds job }
     requires admitted { IsAdmitted job.config }
     requires few { job.config.threads ≤ 2 }
     requires room { 1 ≤ room }
     ensures board { IfOk result (λ r. (r.0.board.config ≡ job.config)
         × (r.0.board.traces ≡ job.traces)) }
-    ensures speakers { IfOk result (λ r. AreSpeakers r.0 r.1.items) }
+    ensures mail_threads { IfOk result (λ r. AreMailThreads r.0 r.1.items) }
     ensures taker { IfOk result (λ r. IsFirst r.0 r.2) }
     ensures room { IfOk result (λ r. r.0.post.room ≡ room) }
 {
     let threads = job.config.threads;
     let (board, mutators) = AtomBoard::new(alloc, job.config, job.traces)?;
     let (post, senders, taker) = Post::new(alloc, threads, room)?;
-    let speakers = paired(alloc, mutators, senders)?;
+    let mail_threads = paired(alloc, mutators, senders)?;
     let ended = AtomicU64::new(0);
-    Ok((Office { board, post, ended }, speakers, taker))
+    Ok((MailBoard { board, post, ended }, mail_threads, taker))
 }
 
 /// The room for the letters of a job: as many as it has `say` commands, and one at least.

@@ -1,11 +1,11 @@
 //! A job on threads that send the numbers which they say, and a caller that takes them.
 #![tactic(auto)]
 
-mod begun;
 mod letters;
-mod office;
+mod mail_board;
+mod mail_thread;
 mod receiving;
-mod speaker;
+mod spawned;
 #[cfg(test)]
 mod tests;
 

@@ -1,13 +1,13 @@
-//! The caller, which takes while the threads speak.
+//! The caller, which takes while the threads send.
 
 ghost use Rattle.std.specs.Prelude.{◌≡◌, List, ℕ, Some, None, length, map, IfOk};
-ghost use Rattle.mail_post.specs.Ends.{OfPost, AreAll, all_sent, whole_of};
-ghost use Rattle.mail_runs.specs.Speakers.{mutator_of, sender_of, AreSpeakers, IsFirst, IsReceived};
-ghost use Rattle.mail_runs.specs.Begun.{AreBegun};
+ghost use Rattle.mail_post.specs.PostStates.{OfPost, AreAll, all_sent, whole_of};
+ghost use Rattle.mail_runs.specs.MailThreads.{mutator_of, sender_of, AreMailThreads, IsFirst, IsReceived};
+ghost use Rattle.mail_runs.specs.Spawned.{AreSpawned};
 
-use crate::begun::{Begun, begin_all, finish_all};
-use crate::office::Office;
-use crate::speaker::Speaker;
+use crate::mail_board::MailBoard;
+use crate::mail_thread::MailThread;
+use crate::spawned::{Spawned, begin_all, finish_all};
 use atom_board::Mutator;
 use block_store::OutOfMemory;
 use crossbeam_utils::Backoff;
@@ -36,23 +36,23 @@ fn take_all<R: Wait>(rt: &R, post: &Post, who: &mut Taker) -> Result<(), OutOfMe
     unreachable!()
 }
 
-/// Takes what the speakers send until so many have ended. What they sent last may be left.
+/// Takes what the mail threads send until so many have ended. What they sent last may be left.
 fn take_while_they_speak<R: Wait>(
     rt: &R,
-    office: &Office,
-    speakers: usize,
+    mail_board: &MailBoard,
+    mail_threads: usize,
     who: &mut Taker,
 ) -> Result<(), OutOfMemory>
-    requires { who.old.post ≡ office.now.post.id }
+    requires { who.old.post ≡ mail_board.now.post.id }
     ensures post { who.new.post ≡ who.old.post }
     ensures sent { who.new.sent ≡ who.old.sent }
     ensures size { length who.new.taken ≡ length who.old.taken }
 {
     let backoff = Backoff::new();
     for _ in rt.forever() {
-        if office.post.take(rt, who)?.is_some() {
+        if mail_board.post.take(rt, who)?.is_some() {
             backoff.reset();
-        } else if office.ended.load(Ordering::SeqCst) >= speakers as u64 {
+        } else if mail_board.ended.load(Ordering::SeqCst) >= mail_threads as u64 {
             return Ok(());
         } else {
             backoff.snooze();
@@ -82,15 +82,18 @@ fn take_rest<R: Wait>(
     take_all(rt, post, who)
 }
 
-/// The mutators and the senders of speakers, in order.
-fn parted(alloc: Global, speakers: Vec<Speaker>) -> Result<(Vec<Mutator>, Vec<Sender>), OutOfMemory>
-    ensures mutators { IfOk result (λ r. r.0.items ≡ map mutator_of speakers.items) }
-    ensures senders { IfOk result (λ r. r.1.items ≡ map sender_of speakers.items) }
+/// The mutators and the senders of mail threads, in order.
+fn parted(
+    alloc: Global,
+    mail_threads: Vec<MailThread>,
+) -> Result<(Vec<Mutator>, Vec<Sender>), OutOfMemory>
+    ensures mutators { IfOk result (λ r. r.0.items ≡ map mutator_of mail_threads.items) }
+    ensures senders { IfOk result (λ r. r.1.items ≡ map sender_of mail_threads.items) }
 {
     let mut mutators = Vec::new(alloc);
     let mut senders = Vec::new(alloc);
-    for who in speakers {
-        let Speaker { mutator, sender } = who;
+    for who in mail_threads {
+        let MailThread { mutator, sender } = who;
         mutators.push(mutator)?;
         senders.push(sender)?;
     }
@@ -101,45 +104,45 @@ fn parted(alloc: Global, speakers: Vec<Speaker>) -> Result<(Vec<Mutator>, Vec<Se
 fn receive<R: Threads + Wait>(
     rt: &R,
     alloc: Global,
-    office: &Office,
-    begun: Vec<Begun>,
+    mail_board: &MailBoard,
+    spawned: Vec<Spawned>,
     taker: Taker,
 ) -> Result<(Vec<Mutator>, Taker), OutOfMemory>
-    requires begun { AreBegun office.now begun.items }
-    requires taker { IsFirst office.now taker }
-    ensures { IfOk result (λ r. IsReceived office.now r.0.items r.1) }
+    requires spawned { AreSpawned mail_board.now spawned.items }
+    requires taker { IsFirst mail_board.now taker }
+    ensures { IfOk result (λ r. IsReceived mail_board.now r.0.items r.1) }
 {
     let mut taker = taker;
-    take_while_they_speak(rt, office, begun.len(), &mut taker)?;
-    let speakers = finish_all(rt, alloc, begun)?;
-    let (mutators, senders) = parted(alloc, speakers)?;
-    take_rest(rt, &office.post, &mut taker, senders)?;
+    take_while_they_speak(rt, mail_board, spawned.len(), &mut taker)?;
+    let mail_threads = finish_all(rt, alloc, spawned)?;
+    let (mutators, senders) = parted(alloc, mail_threads)?;
+    take_rest(rt, &mail_board.post, &mut taker, senders)?;
     Ok((mutators, taker))
 }
 
-/// Lets all speakers of an office speak, beside each other where threads can be made, and takes all
-/// that they send.
+/// Lets all mail threads of a mail board send, beside each other where threads can be made,
+/// and takes all that they send.
 pub(crate) fn delivered<R: Threads + Wait + Sync, Q: Pace>(
     rt: &R,
     alloc: Global,
-    office: &Office,
+    mail_board: &MailBoard,
     pace: &Q,
-    speakers: Vec<Speaker>,
+    mail_threads: Vec<MailThread>,
     taker: Taker,
 ) -> Result<(Vec<Mutator>, Taker), OutOfMemory>
-    requires speakers { AreSpeakers office.now speakers.items }
-    requires taker { IsFirst office.now taker }
-    ensures { IfOk result (λ r. IsReceived office.now r.0.items r.1) }
+    requires mail_threads { AreMailThreads mail_board.now mail_threads.items }
+    requires taker { IsFirst mail_board.now taker }
+    ensures { IfOk result (λ r. IsReceived mail_board.now r.0.items r.1) }
 {
     thread::scope(
         thread::scope_env(),
         rt,
         |scope| -> Result<(Vec<Mutator>, Taker), OutOfMemory>
-            requires { AreSpeakers office.now speakers.items × IsFirst office.now taker }
-            ensures { IfOk result (λ r. IsReceived office.entry.now r.0.items r.1) }
+            requires { AreMailThreads mail_board.now mail_threads.items × IsFirst mail_board.now taker }
+            ensures { IfOk result (λ r. IsReceived mail_board.entry.now r.0.items r.1) }
         {
-            let begun = begin_all(scope, rt, alloc, office, pace, speakers)?;
-            receive(rt, alloc, office, begun, taker)
+            let spawned = begin_all(scope, rt, alloc, mail_board, pace, mail_threads)?;
+            receive(rt, alloc, mail_board, spawned, taker)
         },
     )
 }

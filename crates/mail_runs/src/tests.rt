@@ -7,7 +7,7 @@ ghost use Rattle.trace_text.specs.Jobs.{IsJobInBounds};
 
 use crate::deliver;
 use crate::letters::opened_for;
-use crate::office::closed;
+use crate::mail_board::closed;
 use crate::receiving::delivered as received;
 use atom_board::Closed;
 use board_jobs::Meeting;
@@ -178,11 +178,11 @@ fn through_one<R: Threads + Wait + Sync>(
     ensures { IfOk result (λ r. r.1.taken ≡ map numbers_said r.0.logs) }
 {
     let job = job_of(alloc, text)?;
-    let (office, speakers, taker) = opened_for(alloc, job, 1).ok().ok_or("memory")?;
-    let (mutators, taker) = received(rt, alloc, &office, &NoPace, speakers, taker)
+    let (mail_board, mail_threads, taker) = opened_for(alloc, job, 1).ok().ok_or("memory")?;
+    let (mutators, taker) = received(rt, alloc, &mail_board, &NoPace, mail_threads, taker)
         .ok()
         .ok_or("memory")?;
-    Ok(closed(office, mutators, taker))
+    Ok(closed(mail_board, mutators, taker))
 }
 
 /// Stops the process unless a run ends within half a minute.

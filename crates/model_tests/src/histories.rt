@@ -5,7 +5,7 @@ ghost use Rattle.std.specs.Prelude.{◌<◌};
 
 use block_store::{Config, Name, Value, Width};
 use never_heap::{Command, Entry, Item, Logs, Reply};
-use plain_runs::*;
+use reference_runs::*;
 use std::alloc::Global;
 use std::process::Abort;
 use std::test::Fail;

@@ -5,7 +5,7 @@ pub mod StartGraph
 pub mod MadeObject
 pub mod Outcomes
 pub mod StepChanges
-pub mod Ranges
+pub mod CommandBounds
 pub mod NameLists
 pub mod ReachableNames
 pub mod CycleGrowth

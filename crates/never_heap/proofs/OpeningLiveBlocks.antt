@@ -9,7 +9,7 @@ use Rattle.block_store.specs.declared.Value.TheVariants.{Nil}
 use Rattle.block_store.specs.Configs.{IsInBounds}
 use Rattle.block_store.specs.Registers.{registers_end}
 use Rattle.array_trees.specs.Trees.{array_blocks}
-use Rattle.array_trees.specs.Openings.{opening_blocks}
+use Rattle.array_trees.specs.InitialHeaps.{opening_blocks}
 use Rattle.never_heap.specs.Graphs.{start_graph, shared_name, object_of}
 use Rattle.never_heap.specs.LiveBlocks.{object_blocks, live_of, live_blocks}
 use Rattle.never_heap.specs.Reach.{names, names_below, thread_names, reachable}

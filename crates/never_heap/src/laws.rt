@@ -7,7 +7,7 @@ ghost use Rattle.block_store.specs.declared.Name.{Name};
 ghost use Rattle.block_store.specs.declared.Width.{Width};
 ghost use Rattle.block_store.specs.Configs.{IsInBounds};
 ghost use Rattle.block_store.specs.Registers.{registers_end};
-ghost use Rattle.array_trees.specs.Openings.{opening_blocks};
+ghost use Rattle.array_trees.specs.InitialHeaps.{opening_blocks};
 ghost use Rattle.block_store.specs.declared.Value.TheVariants.{Ref};
 ghost use Rattle.never_heap.specs.declared.Command.{Command};
 ghost use Rattle.never_heap.specs.declared.Reply.TheVariants.{No};

@@ -84,7 +84,7 @@ impl Command {
     /// made is at most 65,535 long and takes no more blocks than one object may, and an `Idle`
     /// makes at most `MOST_UNITS`. `Swap`, `Cas` and `Idle` are commands of version 2 alone, whose
     /// blocks are wide.
-    #[tactic(auto, using(crate::proofs::Ranges::length_in_range, crate::proofs::Ranges::bounds_are))]
+    #[tactic(auto, using(crate::proofs::CommandBounds::length_in_range, crate::proofs::CommandBounds::bounds_are))]
     pub fn in_bounds(&self, c: &Config) -> bool
         ensures { IsTrue result ↔ IsCommandInBounds c.now self.now }
     {

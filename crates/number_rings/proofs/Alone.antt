@@ -1,8 +1,8 @@
--- The places of a ring are its thread's own: the thread's answers are those that it would get alone.
-use Rattle.std.proofs.Common.{◌≡◌, ◌≢◌, ℕ, ◌+◌, ◌*◌, ◌<◌, ◌≤◌, ◌==◌, cond, inl, inr, Bool, Some, None, List, [], ◌∷◌, length, map, get_or, eq-eqb, ne_eqb, sym, refl, ◌∙◌, subst, arith}
+-- The places of a ring are its thread's own: the thread's answers are those it would get alone.
+use Rattle.std.proofs.Common.{◌≡◌, ◌≢◌, ℕ, ◌+◌, ◌*◌, ◌<◌, ◌≤◌, inl, inr, Some, None, List, [], ◌∷◌, length, map, get_or, set, eq-eqb, ne_eqb, sym, refl, ◌∙◌, subst, arith}
 use Rattle.std.specs.List.{AllByRecursion}
 use Rattle.std.proofs.lemmas.Bool.{cases_eq}
-use Rattle.std.proofs.lemmas.Grind.{get_or-set_at}
+use Rattle.std.proofs.lemmas.Grind.{common_steps}
 use Rattle.std.proofs.lemmas.List.{get_or-set_other, length-set}
 use Rattle.operations.specs.Linearizations.{Call, calls_of, AreAnswered}
 use Rattle.number_rings.specs.Rings.{Operation, Keep, Recall, Cell, place_of, answer, cells_after}
@@ -36,42 +36,16 @@ ops_of order = map (λ (d : Call Operation Cell). d.operation) order
 abbrev IsCallOwn : Call Operation Cell → Type 0
 IsCallOwn d = IsOwn d.thread d.operation
 
--- ---- where each thread's operations are its own, all are
-
-tail_own : (u t : ℕ) (d : Call Operation Cell) (ds : Calls)
-    → AllByRecursion (IsOwn u) (ops_of (cond (t == u) (d ∷ calls_of u ds) (calls_of u ds)))
-    → AllByRecursion (IsOwn u) (ops_of (calls_of u ds))
-tail_own u t d ds all =
-    let P : Bool → Type 0 = λ b.
-    AllByRecursion (IsOwn u) (ops_of (cond b (d ∷ calls_of u ds) (calls_of u ds))) in
-    elim (cases_eq t u) [
-      | inl e ↦ (subst P (eq-eqb t u e) all).1
-      | inr ne ↦ subst P (ne_eqb t u ne) all
-    ]
-
-head_own : (t : ℕ) (d : Call Operation Cell) (ds : Calls)
-    → AllByRecursion (IsOwn t) (ops_of (cond (t == t) (d ∷ calls_of t ds) (calls_of t ds)))
-    → IsOwn t d.operation
-head_own t d ds all =
-    let P : Bool → Type 0 = λ b.
-    AllByRecursion (IsOwn t) (ops_of (cond b (d ∷ calls_of t ds) (calls_of t ds))) in
-    (subst P (eq-eqb t t refl) all).0
-
-pub all_own : (order : Calls)
-    → ((u : ℕ) → AllByRecursion (IsOwn u) (ops_of (calls_of u order)))
-    → AllByRecursion IsCallOwn order
-all_own [] each = tt
-all_own (d ∷ ds) each = (
-  head_own d.thread d ds (each d.thread),
-  all_own ds (λ u. tail_own u d.thread d ds (each u)),
-)
-
 -- ---- one operation
 
 answers_agree : (t : ℕ) (xs ys : List Cell) (op : Operation) → Agree t xs ys → IsOwn t op
     → answer op xs ≡ answer op ys
 answers_agree t xs ys (Keep i v) a own = refl
 answers_agree t xs ys (Recall i) a own = a.same i own
+
+same_set : (xs ys : List Cell) (i p : ℕ) (c : Cell) → p < length xs → length ys ≡ length xs
+    → get_or xs p None ≡ get_or ys p None → get_or (set xs i c) p None ≡ get_or (set ys i c) p None
+same_set xs ys i p c low long is = grind (arith, common_steps)
 
 -- the thread's own
 agree_own : (t : ℕ) (xs ys : List Cell) (op : Operation) → Agree t xs ys → IsOwn t op
@@ -81,14 +55,7 @@ agree_own t xs ys (Keep i v) a own = record {
   room = omega (arith, a.room, length-set xs i (Some v));
   long = length-set ys i (Some v) ∙ a.long ∙ sym (length-set xs i (Some v));
   same = λ p at.
-      let low : p < length xs = omega (arith, a.room, at.is, at.low) in
-      let there : p < length ys = omega (arith, a.long) in
-      elim (cases_eq p i) [
-        | inl e ↦ get_or-set_at xs i p (Some v) None e (omega (arith, e))
-            ∙ sym (get_or-set_at ys i p (Some v) None e (omega (arith, e)))
-        | inr ne ↦ get_or-set_other xs i p (Some v) None ne ∙ a.same p at
-            ∙ sym (get_or-set_other ys i p (Some v) None ne)
-      ];
+      same_set xs ys i p (Some v) (omega (arith, a.room, at.is, at.low)) a.long (a.same p at);
 }
 
 -- another's place is none of thread t's

@@ -41,20 +41,16 @@ keeps_tell t j (v ∷ vs) ops (a ∷ b ∷ c ∷ d ∷ rs) enough =
     keeps_tell t (j + 1) vs ops rs (omega (arith, four_more (length vs)))
     ∙ ap (λ (n : ℕ). numbers_in (answers_of ops (drop n (a ∷ b ∷ c ∷ d ∷ rs))))
     (sym (four_more (length vs)))
-keeps_tell t j (v ∷ vs) ops [] enough = absurd (omega arith)
-keeps_tell t j (v ∷ vs) ops (a ∷ []) enough = absurd (omega arith)
-keeps_tell t j (v ∷ vs) ops (a ∷ b ∷ []) enough = absurd (omega arith)
-keeps_tell t j (v ∷ vs) ops (a ∷ b ∷ c ∷ []) enough = absurd (omega arith)
+keeps_tell t j (v ∷ vs) ops rs enough = absurd (omega arith)
 
 -- recalls tell what is read two by two
 recalls_tell : (t j n : ℕ) (rs : List Reply) → length rs ≡ 2 * n
     → numbers_in (answers_of (recalls t j n) rs) ≡ numbers_told rs
 recalls_tell t j zero [] long = refl
-recalls_tell t j zero (a ∷ rs) long = absurd (omega arith)
-recalls_tell t j (suc n) [] long = absurd (omega arith)
-recalls_tell t j (suc n) (a ∷ []) long = absurd (omega arith)
 recalls_tell t j (suc n) (a ∷ b ∷ rs) long =
-    ap (λ (ns : List ℕ). with_number (number_of b) ns) (recalls_tell t (j + 1) n rs (omega (arith, long)))
+    ap (λ (ns : List ℕ). with_number (number_of b) ns)
+    (recalls_tell t (j + 1) n rs (omega (arith, long)))
+recalls_tell t j n rs long = absurd (omega arith)
 
 keeps_long : (t j : ℕ) (vs : List ℕ) (ops : List Operation)
     → length (flat_map rows_of (keeps t j vs ++ ops))

@@ -7,7 +7,7 @@ use Rattle.array_trees.proofs.Counts.{few_shared}
 use Rattle.block_store.specs.declared.Width.TheVariants.{Eight}
 use Rattle.never_heap.specs.Bounds.{IsCommandInBounds}
 use Rattle.never_heap.specs.Jobs.{IsTraceInBounds, IsJobInBounds}
-use Rattle.never_heap.proofs.Ranges.{plain_fits}
+use Rattle.never_heap.proofs.CommandBounds.{plain_fits}
 use Rattle.operations.specs.Linearizations.{traces_of}
 use Rattle.operations.proofs.Pairs.{◌▸◌}
 use Rattle.rate_plan.specs.Rates.{IsAdmitted}

@@ -50,24 +50,20 @@ pub record IsLeft (t j : ℕ) (all : List ℕ) (before after : List Operation) (
   pub held : IsHeld t j all left
   pub same : numbers_in (alone before cells) ≡ numbers_in (alone after left)
 
-keeps_leave : (t j : ℕ) (all vs : List ℕ) (ops : List Operation) (cells : List Cell)
-    → ((i : ℕ) → get_or vs i 0 ≡ get_or all (j + i) 0) → IsHeld t j all cells
-    → IsLeft t (j + length vs) all (keeps t j vs ++ ops) ops cells
-keeps_leave t j all [] ops cells is h = record {
+keeps_leave : (t j k : ℕ) (all vs : List ℕ) (ops : List Operation) (cells : List Cell)
+    → j + length vs ≡ k → ((i : ℕ) → get_or vs i 0 ≡ get_or all (j + i) 0) → IsHeld t j all cells
+    → IsLeft t k all (keeps t j vs ++ ops) ops cells
+keeps_leave t j k all [] ops cells long is h = record {
   left = cells;
-  held = subst (λ (k : ℕ). IsHeld t k all cells) (omega arith) h;
+  held = subst (λ (n : ℕ). IsHeld t n all cells) (omega (arith, long)) h;
   same = refl;
 }
-keeps_leave t j all (v ∷ vs) ops cells is h =
-    let first : v ≡ get_or all j 0 = is 0 ∙ ap (λ (k : ℕ). get_or all k 0) (omega arith) in
-    let rest = keeps_leave t (j + 1) all vs ops (set cells (ring_place t j) (Some v))
-    (λ i. is (suc i) ∙ ap (λ (k : ℕ). get_or all k 0) (omega arith))
+keeps_leave t j k all (v ∷ vs) ops cells long is h =
+    let first : v ≡ get_or all j 0 = is 0 ∙ ap (λ (n : ℕ). get_or all n 0) (omega arith) in
+    let rest = keeps_leave t (j + 1) k all vs ops (set cells (ring_place t j) (Some v))
+    (omega (arith, long)) (λ i. is (suc i) ∙ ap (λ (n : ℕ). get_or all n 0) (omega arith))
     (held_more t j v all cells first h) in
-    record {
-      left = rest.left;
-      held = subst (λ (k : ℕ). IsHeld t k all rest.left) (omega arith) rest.held;
-      same = rest.same;
-    }
+    record { left = rest.left; held = rest.held; same = rest.same }
 
 recalls_show : (t j n : ℕ) (all : List ℕ) (cells : List Cell) → n ≤ 8 → j + n ≡ length all
     → IsHeld t (length all) all cells
@@ -85,13 +81,11 @@ pub script_shows : (t : ℕ) (vs : List ℕ) (cells : List Cell) → 8 * t + 8 �
     → numbers_in (alone (script_of t vs) cells) ≡ last_numbers vs
 script_shows t vs cells room =
     let from = lost_of (length vs) in
-    let left = keeps_leave t 0 vs vs (recalls t from (left_of (length vs))) cells
-    (λ i. ap (λ (k : ℕ). get_or vs k 0) (omega arith))
+    let left = keeps_leave t 0 (length vs) vs vs (recalls t from (left_of (length vs))) cells
+    (omega arith) (λ i. ap (λ (k : ℕ). get_or vs k 0) (omega arith))
     (record { room = room; holds = λ i low near. absurd (omega arith) }) in
-    let held : IsHeld t (length vs) vs left.left =
-    subst (λ (k : ℕ). IsHeld t k vs left.left) (omega arith) left.held in
     left.same
-    ∙ recalls_show t from (left_of (length vs)) vs left.left (omega arith) (omega arith) held
+    ∙ recalls_show t from (left_of (length vs)) vs left.left (omega arith) (omega arith) left.held
 
 -- ---- the places of a script are its thread's own
 

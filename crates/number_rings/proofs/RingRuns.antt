@@ -1,5 +1,5 @@
 -- In every run of rings each thread is told the last eight of its numbers, and nothing is full.
-use Rattle.std.proofs.Common.{◌≡◌, ℕ, zero, suc, ◌+◌, ◌*◌, ◌<◌, ◌≤◌, inl, inr, None, List, [], ◌∷◌, length, map, slice_index_or, sym, refl, ap, ◌∙◌, subst, arith}
+use Rattle.std.proofs.Common.{◌≡◌, ℕ, zero, suc, ◌+◌, ◌*◌, ◌<◌, inl, inr, None, List, [], ◌∷◌, length, map, slice_index_or, sym, refl, ap, ◌∙◌, subst, arith}
 use Rattle.std.specs.Prelude.{flat_map}
 use Rattle.std.specs.List.{AllByRecursion}
 use Rattle.std.proofs.lemmas.Bool.{cases_lt}
@@ -8,9 +8,11 @@ use Rattle.never_heap.specs.Histories.{HistoryItem}
 use Rattle.never_heap.specs.Licensed.{NoFulls}
 use Rattle.never_heap.specs.Runs.{IsRun}
 use Rattle.operations.specs.Linearizations.{Call, calls_of, replies_in, IsLinearization}
-use Rattle.operations.proofs.Applied.{ordered, as_many_replies}
+use Rattle.operations.proofs.Applied.{applied, as_many_replies}
+use Rattle.operations.proofs.LinearizedRuns.{linearized}
+use Rattle.operations.proofs.Calls.{by_threads}
 use Rattle.number_rings.specs.Rings.{Operation, Cell, answer, cells_after, empty_cells, rows_of, command_at, decides, ends, AreInCells, ring_config, ring_traces, scripts_from, script_of, recalled, last_numbers}
-use Rattle.number_rings.proofs.Alone.{IsOwn, Agree, alone, all_own, answers_alone}
+use Rattle.number_rings.proofs.Alone.{IsOwn, Agree, alone, answers_alone}
 use Rattle.number_rings.proofs.Chunks.{numbers_in, by_chunks, script_tells, answers_of}
 use Rattle.number_rings.proofs.LastEight.{script_own, script_shows}
 use Rattle.number_rings.proofs.RingTable.{rings, rings_owe}
@@ -33,34 +35,26 @@ pub own_script : (lists : List (List ℕ)) (t : ℕ) → t < length lists
 own_script lists t low =
     script_at 0 t lists low ∙ ap (λ (k : ℕ). script_of k (slice_index_or lists t [])) (omega arith)
 
-none_behind : (lists : List (List ℕ)) (t : ℕ) → length lists ≤ t
-    → slice_index_or (scripts_from 0 lists) t [] ≡ []
-none_behind lists t high =
-    get_or_past (scripts_from 0 lists) t [] (omega (arith, scripts_long 0 lists))
-
-own_low : (size t : ℕ) (ops : List Operation) → 8 * t + 8 ≤ size → AllByRecursion (IsOwn t) ops
-    → AreInCells size ops
-own_low size t [] room own = tt
-own_low size t (op ∷ ops) room own =
-    (omega (arith, room, own.0.is, own.0.low), own_low size t ops room own.1)
-
-pub each_own : (lists : List (List ℕ)) (t : ℕ)
+-- each script is in its thread's ring
+each_own : (lists : List (List ℕ)) (t : ℕ)
     → AllByRecursion (IsOwn t) (slice_index_or (scripts_from 0 lists) t [])
+    × AreInCells (8 * length lists) (slice_index_or (scripts_from 0 lists) t [])
 each_own lists t = elim (cases_lt t (length lists)) [
-  | inl low ↦ subst (λ (ops : List Operation). AllByRecursion (IsOwn t) ops)
-      (sym (own_script lists t low)) (script_own t (slice_index_or lists t []))
-  | inr high ↦ subst (λ (ops : List Operation). AllByRecursion (IsOwn t) ops)
-      (sym (none_behind lists t high)) tt
+  | inl low ↦ subst (λ (ops : List Operation). AllByRecursion (IsOwn t) ops
+      × AreInCells (8 * length lists) ops) (sym (own_script lists t low)) (
+        script_own t (slice_index_or lists t []),
+        all_low low (script_of t (slice_index_or lists t []))
+            (script_own t (slice_index_or lists t [])),
+      )
+  | inr high ↦ subst (λ (ops : List Operation). AllByRecursion (IsOwn t) ops
+      × AreInCells (8 * length lists) ops) (sym (get_or_past (scripts_from 0 lists) t []
+      (omega (arith, scripts_long 0 lists)))) (tt, tt)
 ]
-
-each_low : (lists : List (List ℕ)) (t : ℕ)
-    → AreInCells (8 * length lists) (slice_index_or (scripts_from 0 lists) t [])
-each_low lists t = elim (cases_lt t (length lists)) [
-  | inl low ↦ own_low (8 * length lists) t (slice_index_or (scripts_from 0 lists) t [])
-      (omega arith) (each_own lists t)
-  | inr high ↦ subst (λ (ops : List Operation). AreInCells (8 * length lists) ops)
-      (sym (none_behind lists t high)) tt
-]
+  where
+    all_low : t < length lists → (ops : List Operation) → AllByRecursion (IsOwn t) ops
+        → AreInCells (8 * length lists) ops
+    all_low low [] own = tt
+    all_low low (op ∷ ops) own = (omega (arith, own.0.is, own.0.low), all_low low ops own.1)
 
 abbrev Runs : List (List ℕ) → ℕ → List HistoryItem → Type 0
 Runs lists rate h = IsRun (ring_config (length lists)) rate (ring_traces lists) h
@@ -82,7 +76,8 @@ shown lists rate h order run linear t low =
     let scripts = scripts_from 0 lists in
     let rs = replies_in t h in
     let is : slice_index_or scripts t [] ≡ script_of t vs = own_script lists t low in
-    let many = as_many_replies (ring_config (length lists)) rate rows_of command_at scripts h run t in
+    let c = ring_config (length lists) in
+    let many = as_many_replies c rate rows_of command_at scripts h run t in
     let enough = by_chunks (slice_index_or scripts t []) rs (omega (arith, many)) in
     let by_log : map (λ (d : Call Operation Cell). d.answer) (calls_of t order)
     ≡ answers_of (script_of t vs) rs =
@@ -90,14 +85,14 @@ shown lists rate h order run linear t low =
     let long = length-replicate {A = Cell} size None in
     let agree : Agree t (empty_cells size) (empty_cells size) =
     record { room = omega (arith, long); long = refl; same = λ i own. refl } in
-    let own = all_own order (λ u.
+    let own = by_threads IsOwn order (λ u.
     subst (λ (ops : List Operation). AllByRecursion (IsOwn u) ops) (sym (linear.each u))
-    (each_own lists u)) in
+    (each_own lists u).0) in
     let by_order : map (λ (d : Call Operation Cell). d.answer) (calls_of t order)
     ≡ alone (script_of t vs) (empty_cells size) =
     answers_alone t order (empty_cells size) (empty_cells size) linear.answered own agree
     ∙ ap (λ (ops : List Operation). alone ops (empty_cells size)) (linear.each t ∙ is) in
-    sym (script_tells t vs rs (many ∙ ap (λ (ops : List Operation). length (flat_map rows_of ops)) is))
+    sym (script_tells t vs rs (many ∙ ap (λ ops. length (flat_map rows_of ops)) is))
     ∙ ap numbers_in (sym by_log ∙ by_order)
     ∙ script_shows t vs (empty_cells size) (omega (arith, long))
 
@@ -109,6 +104,7 @@ pub rings_show : (rate : ℕ) (lists : List (List ℕ)) (h : List HistoryItem) �
 rings_show rate lists h run =
     let n = length lists in
     let scripts = scripts_from 0 lists in
-    let all = ordered (rings (8 * n)) (ring_config n) rows_of scripts
-    (rings_owe n (8 * n) _ scripts (scripts_long 0 lists) (each_low lists)) rate h run in
+    let all = linearized (applied (rings (8 * n)) (ring_config n) rows_of scripts
+    (rings_owe n (8 * n) _ scripts (scripts_long 0 lists)
+    (λ t. (each_own lists t).1))) rate h run in
     (shown lists rate h all.0 run all.1, all.2)

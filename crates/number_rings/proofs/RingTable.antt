@@ -1,17 +1,16 @@
 -- The table of the rings: what is known before each row, and that each row keeps it.
-use Rattle.std.proofs.Common.{◌≡◌, ℕ, zero, suc, ◌+◌, ◌<◌, true, Option, Some, None, List, [], ◌∷◌, ◌++◌, length, get_or, refl, ap, ◌∙◌, arith}
+use Rattle.std.proofs.Common.{◌≡◌, ℕ, ◌+◌, ◌<◌, true, Option, Some, None, List, [], ◌∷◌, ◌++◌, length, refl, ap, ◌∙◌, arith}
 use Rattle.std.specs.Prelude.{flat_map, slice_index_or}
 use Rattle.block_store.specs.declared.Value.{Value}
-use Rattle.block_store.specs.declared.Value.TheVariants.{Nil, Int}
+use Rattle.block_store.specs.declared.Value.TheVariants.{Int}
 use Rattle.never_heap.specs.declared.Reply.{Reply}
 use Rattle.never_heap.specs.Steps.{step}
 use Rattle.number_rings.specs.Rings.{Operation, Keep, Recall, Cell, answer, cells_after, Row, Make, SetNumber, PutNumber, Store, Fetch, Tell, rows_of, command_at, decides, ends, number_of, last_of, number_told, nothing_told, AreInCells, cell_config}
 use Rattle.operations.specs.Applications.{ops_in}
 use Rattle.operations.proofs.Applied.{Owes}
-use Rattle.operations.proofs.LiveBound.{IsPlain}
 use Rattle.operations.proofs.Pairs.{◌▸◌}
 use Rattle.operations.proofs.RecordRows.{RecordRows, recorded, limit, weights, nil_shown, nil_rests, finish_own, field_told, field_last}
-use Rattle.operations.proofs.Records.{IsSlim, HasField, reply_by}
+use Rattle.operations.proofs.Records.{IsSlim, HasField, plain_numbers, reply_by}
 use Rattle.operations.proofs.RowRules.{Says, news, sets, puts_in, fetches, stores_last, tells_what}
 use Rattle.operations.proofs.Turns.{Before, Goes, place}
 use Rattle.operations.proofs.Tables.{Empty, Number, Own, Shown, Is, Has, Spot, nowhere, making, telling, Table, spot_of, IsProper}
@@ -24,11 +23,7 @@ shape (Some v) = Some (Int v ∷ [])
 
 pub slim : (c : Cell) → IsSlim (shape c)
 slim None = tt
-slim (Some v) = (omega arith, plain)
-  where
-    plain : (i : ℕ) → IsPlain (get_or (Int v ∷ []) i Nil)
-    plain zero = tt
-    plain (suc i) = tt
+slim (Some v) = (omega arith, plain_numbers (v ∷ []))
 
 has_number : (c : Cell) → HasField (shape c) 0
 has_number None = tt
@@ -108,34 +103,29 @@ number_again None = refl
 number_again (Some v) = refl
 
 module _ (size : ℕ) where
-  goes : (row : Row) (b : Before (rings size) row) → Goes (rings size) b
-  goes (Make i v) b =
-      news (rings size) b 1 1 (omega arith, omega arith) refl (λ c. refl) (refl, refl, λ l. refl)
+  goes : (row : Row) (b : Before (rings size) row) → Goes b
+  goes (Make i v) b = news b 1 1 refl refl (λ c. refl) (refl, refl, λ l. refl)
   goes (SetNumber i v) b =
-      sets (rings size) b 2 (Number v) (omega arith, omega arith) (λ g t o. refl) (λ c. refl)
-      (refl, refl, λ l. refl)
+      sets b 2 (Number v) refl (λ g t o. refl) (λ c. refl) (refl, refl, λ l. refl)
   goes (PutNumber i v) b =
-      puts_in (rings size) b 1 0 2 0 (Number v) (omega arith) (omega arith) refl (λ r c. refl)
-      (λ r c. refl) (λ c. (omega arith, omega arith)) (λ c. refl) (refl, refl, λ l. refl)
+      puts_in b 1 0 2 0 (Number v) (omega arith) (omega arith) refl (λ r c. refl)
+      (λ r c. refl) (λ c. refl) (λ c. refl) (refl, refl, λ l. refl)
   goes (Store i v) b =
-      stores_last (rings size) b i 1 (Some v) nothing_told (place (rings size) b).proper.0.0 refl refl
-      refl refl (λ l c. refl)
+      stores_last b i 1 (Some v) nothing_told (place b).proper.0.0 refl refl refl refl (λ l c. refl)
       (finish_own (table size) b (Some v) (Number v ∷ []) (λ c. refl) (λ c. refl) (λ r c. refl)
       (λ t o. refl))
-  goes (Fetch i) b =
-      fetches (rings size) b 1 i (omega arith, omega arith) (place (rings size) b).proper.0.0 refl refl
-      refl (λ l. refl) (λ c. refl)
+  goes (Fetch i) b = fetches b 1 i refl (place b).proper.0.0 refl refl refl (λ l. refl) (λ c. refl)
   goes Tell b =
-      field_last (table size) b 2 0 (omega arith, omega arith) refl has_number (λ r c. refl) (λ c. refl)
+      field_last (table size) b 2 0 refl refl has_number (λ r c. refl) (λ c. refl)
       refl number_told refl refl (λ l. refl) (λ c. refl) refl (λ c. refl)
 
-  tells : (row : Row) (b : Before (rings size) row) → Says (rings size) b
-  tells (Store i v) b = tells_what (rings size) b nothing_told None refl refl refl
+  tells : (row : Row) (b : Before (rings size) row) → Says b
+  tells (Store i v) b = tells_what b nothing_told None refl refl refl
   tells Tell b =
-      let p = place (rings size) b in
-      let heard = field_told (table size) b 2 0 (omega arith, omega arith) refl has_number (λ r c. refl)
+      let p = place b in
+      let heard = field_told (table size) b 2 0 refl refl has_number (λ r c. refl)
       (λ c. refl) in
-      tells_what (rings size) b number_told p.cell refl refl
+      tells_what b number_told p.cell refl refl
       (told_again (p.replies ++ []) (step b.g b.t (command_at Tell)).1
       ∙ ap (λ r. number_of r.1) heard.stepped ∙ number_again p.cell)
   tells _ b = tt

@@ -1,14 +1,14 @@
--- From a table to an application: what has to be shown of the table (`Owes`), and that every run
--- then has a linearization without a full (`ordered`).
+-- From a table to an application: what has to be shown of the table (`Owes`), and what is then
+-- shown of its runs (`applied`).
 use Rattle.std.proofs.Common.{◌≡◌, ℕ, ◌+◌, ◌*◌, ◌<◌, ◌≤◌, inl, inr, cond, List, [], ◌∷◌, ◌++◌, length, map, replicate, slice_index_or, ne_eqb, sym, refl, ap, ◌∙◌, subst, arith}
 use Rattle.std.specs.Prelude.{flat_map}
 use Rattle.std.proofs.lemmas.Bool.{cases_lt}
 use Rattle.std.proofs.lemmas.List.{get_or_past, get_or-replicate, length-map, length-replicate}
 use Rattle.std.proofs.Math.ListN.{get_or-map}
+use Rattle.std.proofs.Math.Path.{subst₂}
 use Rattle.array_trees.specs.Trees.{array_blocks}
 use Rattle.block_store.specs.declared.Config.{Config}
 use Rattle.block_store.specs.declared.Name.{Name}
-use Rattle.block_store.specs.declared.Value.{Value}
 use Rattle.block_store.specs.declared.Value.TheVariants.{Nil, Ref}
 use Rattle.block_store.specs.declared.Width.TheVariants.{Eight}
 use Rattle.never_heap.specs.Graphs.{Graph, Object, Array, nils, shared_name, start_graph, mutator_at, register_of, object_of, field_of}
@@ -16,14 +16,10 @@ use Rattle.never_heap.specs.LiveBlocks.{live_blocks}
 use Rattle.never_heap.proofs.StartGraph.{threads_of_start, count_of_start, object_of_start, has_shared, register_of_start, registers_of_start}
 use Rattle.never_heap.specs.declared.Command.{Command}
 use Rattle.never_heap.specs.declared.Entry.{Entry}
-use Rattle.never_heap.specs.declared.Reply.{Reply}
 use Rattle.never_heap.specs.Histories.{HistoryItem, part}
-use Rattle.never_heap.specs.Licensed.{NoFulls}
 use Rattle.never_heap.specs.Runs.{IsRun}
-use Rattle.operations.specs.Linearizations.{Call, replies_in, traces_of, IsLinearization}
+use Rattle.operations.specs.Linearizations.{replies_in, traces_of}
 use Rattle.operations.specs.Applications.{Progress, Application, fresh, ops_in}
-use Rattle.operations.specs.SoFar.{IsRunSoFar, IsLinearizationSoFar}
-use Rattle.operations.proofs.LinearizedRuns.{linearized, linearized_so_far}
 use Rattle.operations.proofs.LiveBound.{total}
 use Rattle.operations.proofs.Tables.{Spot, nowhere, Table, spot_of, IsProper, Lasts, InSpot}
 use Rattle.operations.proofs.RowRules.{Says}
@@ -55,8 +51,8 @@ module _ {Op Row Answer Cell K L : Type 0} (a : Table Op Row Answer Cell K L) (c
         + (a.size * weights.most + total weights.limit c.threads (upto 1 15)))
         ≤ c.live
     -- each row keeps the invariant, and the last one answers what was decided
-    pub goes : (row : Row) (b : Before a row) → Goes a b
-    pub tells : (row : Row) (b : Before a row) → Says a b
+    pub goes : (row : Row) (b : Before a row) → Goes b
+    pub tells : (row : Row) (b : Before a row) → Says b
 
   module _ (owes : Owes) where
     abbrev n : ℕ
@@ -93,11 +89,9 @@ module _ {Op Row Answer Cell K L : Type 0} (a : Table Op Row Answer Cell K L) (c
           long = ap (λ (o : Object). length o.fields) array_at_start
               ∙ length-replicate c.shared Nil ∙ owes.shared;
           places = length-replicate a.size a.none;
-          slots = λ i low. subst (λ (x : Value). a.Shows (object_of (start_graph c)) (λ t. 0) x
-              (slice_index_or (replicate a.size a.none) i a.none)) (sym (nil_field i))
-              (subst (a.Shows (object_of (start_graph c)) (λ t. 0) Nil)
+          slots = λ i low. subst₂ (a.Shows (object_of (start_graph c)) (λ t. 0)) (sym (nil_field i))
               (sym (get_or-replicate a.size i a.none a.none low))
-              (owes.nil_shown (object_of (start_graph c)) (λ t. 0)));
+              (owes.nil_shown (object_of (start_graph c)) (λ t. 0));
         };
         each = λ t low. record {
           zero = register_of_start c t 0 low (omega arith);
@@ -109,8 +103,9 @@ module _ {Op Row Answer Cell K L : Type 0} (a : Table Op Row Answer Cell K L) (c
             replies = [];
             proper = owes.proper t;
             counts = sym owes.none_finished;
-            spot = subst (λ (s : Spot Answer Cell K). InSpot a (object_of (start_graph c)) (λ u. 0) t
-                owes.first s (register_of (start_graph c) t)) (sym (owes.at_first t a.none)) (record {
+            spot = subst (λ (s : Spot Answer Cell K).
+                InSpot a (object_of (start_graph c)) (λ u. 0) t owes.first s
+                (register_of (start_graph c) t)) (sym (owes.at_first t a.none)) (record {
                   regs = λ q some. subst (Lasts a (object_of (start_graph c)) (λ u. 0)
                       (a.rest t owes.first q)) (sym (nil_register t q low some))
                       (owes.nil_rests (object_of (start_graph c)) (λ u. 0) t q);
@@ -133,9 +128,9 @@ module _ {Op Row Answer Cell K L : Type 0} (a : Table Op Row Answer Cell K L) (c
           ∙ ap (λ (rows : List Row). (spot_of a rows (h.1.each t low).place.cell).pend) none
     ]
 
-    abbrev before : (g : Graph) (at : ℕ → Progress Row Answer) (cells : List Cell) (t : ℕ) (row : Row)
-        (rows : List Row)
-        → Kept a n g at cells → (at t).todo ≡ row ∷ rows → Before a row
+    abbrev before : (g : Graph) (at : ℕ → Progress Row Answer) (cells : List Cell) (t : ℕ)
+        (row : Row) (rows : List Row) → Kept a n g at cells → (at t).todo ≡ row ∷ rows
+        → Before a row
     before g at cells t row rows h next = record {
       n = n;
       g = g;
@@ -162,42 +157,18 @@ module _ {Op Row Answer Cell K L : Type 0} (a : Table Op Row Answer Cell K L) (c
           owes.goes row (before g at cells t row rows h next) new same is;
     }
 
-    -- every run has a linearization, and none of its allocations is full
-    pub ordered : (rate : ℕ) (h : List HistoryItem)
-        → IsRun c rate (traces_of rows_of a.command_at scripts) h
-        → (order : List (Call Op Answer))
-        × IsLinearization rows_of a.decides a.ends a.say a.act (replicate a.size a.none) scripts h order
-        × NoFulls h
-    ordered rate h run =
-        linearized c rows_of a.command_at a.decides a.ends a.say a.act (replicate a.size a.none)
-        scripts (Kept a c.threads) applied rate h run
-
-    -- so has the beginning of every run
-    pub ordered_so_far : (rate : ℕ) (h : List HistoryItem)
-        → IsRunSoFar c rate (traces_of rows_of a.command_at scripts) h
-        → (order : List (Call Op Answer))
-        × IsLinearizationSoFar rows_of a.decides a.ends a.say a.act (replicate a.size a.none)
-        scripts h order
-        × NoFulls h
-    ordered_so_far rate h begun =
-        linearized_so_far c rows_of a.command_at a.decides a.ends a.say a.act
-        (replicate a.size a.none) scripts (Kept a c.threads) applied rate h begun
-
 -- the replies of a run are as many as its rows
 pub as_many_replies : {Op Row : Type 0} (c : Config) (rate : ℕ) (rows_of : Op → List Row)
     (command_at : Row → Command) (scripts : List (List Op)) (h : List HistoryItem)
     → IsRun c rate (traces_of rows_of command_at scripts) h → (t : ℕ)
     → length (replies_in t h) ≡ length (flat_map rows_of (slice_index_or scripts t []))
 as_many_replies {Op} c rate rows_of command_at scripts h run t =
-    let f : Entry → Command = λ e. e.command in
-    let r : Entry → Reply = λ e. e.reply in
-    let whole : map f (part t h) ≡ map command_at (flat_map rows_of (slice_index_or scripts t [])) =
-    run.traces_whole t
-    ∙ get_or-map (λ (ops : List Op). map command_at (flat_map rows_of ops)) scripts t [] in
-    let same = ap length whole in
+    let traced : List Op → List Command = λ ops. map command_at (flat_map rows_of ops) in
+    let same = ap length (run.traces_whole t ∙ get_or-map traced scripts t []) in
     omega (
       arith,
-      length-map (part t h) f,
-      length-map (part t h) r,
+      same,
+      length-map (part t h) (λ (e : Entry). e.command),
+      length-map (part t h) (λ (e : Entry). e.reply),
       length-map (flat_map rows_of (slice_index_or scripts t [])) command_at,
     )

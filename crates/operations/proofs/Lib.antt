@@ -1,3 +1,4 @@
+pub mod Calls
 pub mod LinearizedRuns
 pub mod Effects
 pub mod Among

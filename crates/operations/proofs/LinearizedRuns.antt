@@ -1,10 +1,11 @@
 -- The walk along a run whose threads do operations: what an application owes at each row, and what
 -- then holds of every run.
-use Rattle.std.proofs.Common.{◌≡◌, ◌≢◌, ℕ, zero, suc, ◌≤◌, ◌==◌, inl, inr, Bool, true, false, Option, Some, None, cond, List, [], ◌∷◌, ◌++◌, length, map, drop, get_or, slice_index_or, eq-eqb, ne_eqb, sym, refl, ap, ◌∙◌, subst, append_assoc, append-nil, length-append, arith}
+use Rattle.std.proofs.Common.{◌≡◌, ◌≢◌, ℕ, ◌≤◌, ◌==◌, inl, inr, Bool, true, false, Option, Some, None, cond, List, [], ◌∷◌, ◌++◌, length, map, drop, get_or, slice_index_or, eq-eqb, ne_eqb, sym, refl, ap, ◌∙◌, subst, append_assoc, append-nil, length-append, arith}
 use Rattle.std.specs.Prelude.{flat_map}
 use Rattle.std.proofs.lemmas.Bool.{cases_eq, both_ways}
-use Rattle.std.proofs.lemmas.List.{map-append, drop-map}
+use Rattle.std.proofs.lemmas.List.{map-append, drop-map, drop-drop, drop-append-le, length-drop}
 use Rattle.std.proofs.Math.ListN.{get_or-map}
+use Rattle.std.proofs.Math.Path.{subst₃}
 use Rattle.block_store.specs.declared.Config.{Config}
 use Rattle.never_heap.specs.declared.Command.{Command}
 use Rattle.never_heap.specs.declared.Entry.{Entry}
@@ -14,7 +15,7 @@ use Rattle.never_heap.specs.Histories.{HistoryItem, Started, Did, is_full, repla
 use Rattle.never_heap.specs.Licensed.{NoFulls}
 use Rattle.never_heap.specs.LiveBlocks.{live_blocks}
 use Rattle.never_heap.specs.Runs.{IsRun}
-use Rattle.never_heap.specs.Coming.{left_of, MayCome, IsNoFull}
+use Rattle.never_heap.specs.Coming.{left_of, IsNext, MayCome, IsNoFull}
 use Rattle.never_heap.specs.Steps.{step}
 use Rattle.never_heap.proofs.ItemsOfRuns.{none_left}
 use Rattle.never_heap.proofs.HistoryGrowth.{replay_more, part_append}
@@ -65,20 +66,13 @@ module _ {Op Answer S : Type 0} (say : Op → S → Answer) (act : Op → S → 
   answered_more t (Some op) s0 [] a = (refl, tt)
   answered_more t d s0 (x ∷ order) a = (a.0, answered_more t d (act x.operation s0) order a.1)
 
-  said_of : (t : ℕ) (d : Option Op) (s : S)
-      → map (λ (x : Call Op Answer). x.answer) (calls_by say t d s) ≡ said say d s
-  said_of t None s = refl
-  said_of t (Some op) s = refl
-
-  pairs_of : (t : ℕ) (d : Option Op) (s : S)
-      → map (λ (x : Call Op Answer). (x.thread, x.operation)) (calls_by say t d s) ≡ decided_by t d
-  pairs_of t None s = refl
-  pairs_of t (Some op) s = refl
-
-  ops_of : (t : ℕ) (d : Option Op) (s : S) (ops : List Op)
-      → map (λ (x : Call Op Answer). x.operation) (calls_by say t d s) ++ ops ≡ op_by d ops
-  ops_of t None s ops = refl
-  ops_of t (Some op) s ops = refl
+  parts_of : (t : ℕ) (d : Option Op) (s : S) (ops : List Op)
+      → (map (λ (x : Call Op Answer). x.answer) (calls_by say t d s) ≡ said say d s)
+      × (map (λ (x : Call Op Answer). (x.thread, x.operation)) (calls_by say t d s)
+      ≡ decided_by t d)
+      × (map (λ (x : Call Op Answer). x.operation) (calls_by say t d s) ++ ops ≡ op_by d ops)
+  parts_of t None s ops = (refl, refl, refl)
+  parts_of t (Some op) s ops = (refl, refl, refl)
 
 told_split : {Answer : Type 0} (o : Option (List Reply → Answer)) (seen : List Reply)
     (told pending : List Answer) → Tells o seen pending
@@ -89,48 +83,28 @@ told_split (Some f) seen told pending h =
 
 -- ---- rows and what is left of them
 
-drop_next : {X : Type 0} (n : ℕ) (xs : List X) (a : X) (rest : List X)
-    → drop n xs ≡ a ∷ rest → drop (suc n) xs ≡ rest
-drop_next zero [] a rest e = cc
-drop_next zero (x ∷ xs) a rest e = cc
-drop_next (suc n) [] a rest e = cc
-drop_next (suc n) (x ∷ xs) a rest e = drop_next n xs a rest e
-
-drop_within : {X : Type 0} (n : ℕ) (xs ys : List X) (a : X) (rest : List X)
-    → drop n xs ≡ a ∷ rest → drop n (xs ++ ys) ≡ a ∷ rest ++ ys
-drop_within zero [] ys a rest e = absurd cc
-drop_within zero (x ∷ xs) ys a rest e = ap (λ l. l ++ ys) e
-drop_within (suc n) [] ys a rest e = absurd cc
-drop_within (suc n) (x ∷ xs) ys a rest e = drop_within n xs ys a rest e
-
 -- what may come in a run of the first commands of each trace may come in one of the traces
 may_come_in : (c : Config) (rate : ℕ) (firsts traces : List (List Command))
     (past : List HistoryItem) (i : HistoryItem)
     → ((t : ℕ) → (rest : List Command)
     × (slice_index_or traces t [] ≡ slice_index_or firsts t [] ++ rest))
     → MayCome c rate firsts past i → MayCome c rate traces past i
-may_come_in c rate firsts traces past Started begins may = record {
+may_come_in c rate firsts traces past i begins may = record {
   first = may.first;
-  next = tt;
+  next = item i may.next;
   answered = may.answered;
   licensed = may.licensed;
   right_work = may.right_work;
 }
-may_come_in c rate firsts traces past (Did e) begins may =
-    let t : ℕ = e.thread in
-    let n : ℕ = length (part t past) in
-    let b = begins t in
-    record {
-      first = may.first;
-      next = (
-        may.next.0 ++ b.0,
-        ap (drop n) b.1
-            ∙ drop_within n (slice_index_or firsts t []) b.0 e.command may.next.0 may.next.1,
-      );
-      answered = may.answered;
-      licensed = may.licensed;
-      right_work = may.right_work;
-    }
+  where
+    item : (i : HistoryItem) → IsNext firsts past i → IsNext traces past i
+    item Started next = tt
+    item (Did e) next =
+        let n = length (part e.thread past) in
+        let xs = slice_index_or firsts e.thread [] in
+        let ys = (begins e.thread).0 in
+        let within = drop-append-le n xs ys (omega (arith, length-drop n xs, ap length next.1)) in
+        (next.0 ++ ys, ap (drop n) (begins e.thread).1 ∙ within ∙ ap (λ l. l ++ ys) next.1)
 
 none_told : {Row Answer : Type 0} (ends : Row → Option (List Reply → Answer)) (seen : List Reply)
     (rows : List Row) → answers_told ends seen rows [] ≡ []
@@ -193,11 +167,12 @@ module _ {Op Row : Type 0} (rows_of : Op → List Row) (command_at : Row → Com
 
 -- ---- the walk
 
-module _ {Op Row Answer S : Type 0} (c : Config)
-    (rows_of : Op → List Row) (command_at : Row → Command) (decides : Row → Option Op)
-    (ends : Row → Option (List Reply → Answer))
-    (say : Op → S → Answer) (act : Op → S → S) (empty : S) (scripts : List (List Op))
-    (Holds : Graph → (ℕ → Progress Row Answer) → S → Type 0)
+module _ {Op Row Answer S : Type 0} {c : Config} {rows_of : Op → List Row}
+    {command_at : Row → Command} {decides : Row → Option Op}
+    {ends : Row → Option (List Reply → Answer)} {say : Op → S → Answer} {act : Op → S → S}
+    {empty : S}
+    {scripts : List (List Op)}
+    {Holds : Graph → (ℕ → Progress Row Answer) → S → Type 0}
     (app : Application c rows_of command_at decides ends say act empty scripts Holds) where
   -- the operations of thread t, and their rows
   abbrev script : ℕ → List Op
@@ -212,15 +187,15 @@ module _ {Op Row Answer S : Type 0} (c : Config)
   abbrev left : List HistoryItem → ℕ → List Row
   left past t = rows_left rows_of scripts past t
 
-  -- what holds of one thread's calls and replies
-  record Own (past : List HistoryItem) (order : List (Call Op Answer)) (m : Progress Row Answer)
-      (t : ℕ) : Type 0 where
-    todo : m.todo ≡ left past t
-    each : map (λ (d : Call Op Answer). d.operation) (calls_of t order) ++ ops_in decides m.todo
-        ≡ script t
+  -- what holds of one thread's entries and calls
+  record Own (p : List Entry) (calls : List (Call Op Answer)) (m : Progress Row Answer) (t : ℕ)
+      : Type 0 where
+    todo : m.todo ≡ drop (length p) (script_rows t)
+    each : map (λ (d : Call Op Answer). d.operation) calls ++ ops_in decides m.todo ≡ script t
     told : List Answer
-    pends : map (λ (d : Call Op Answer). d.answer) (calls_of t order) ≡ told ++ m.pending
-    tells : (more : List Reply) → answers_told ends [] (script_rows t) (replies_in t past ++ more)
+    pends : map (λ (d : Call Op Answer). d.answer) calls ≡ told ++ m.pending
+    tells : (more : List Reply)
+        → answers_told ends [] (script_rows t) (map (λ (e : Entry). e.reply) p ++ more)
         ≡ told ++ answers_told ends m.seen m.todo more
 
   record Inv (past : List HistoryItem) : Type 0 where
@@ -230,7 +205,7 @@ module _ {Op Row Answer S : Type 0} (c : Config)
     answered : AreAnswered say act empty order
     deciding : map (λ (d : Call Op Answer). (d.thread, d.operation)) order
         ≡ decided_behind rows_of decides scripts [] past
-    own : (t : ℕ) → Own past order (at t) t
+    own : (t : ℕ) → Own (part t past) (calls_of t order) (at t) t
 
   whole_script : (ops : List Op) → ops_in decides (flat_map rows_of ops) ≡ ops
   whole_script [] = refl
@@ -253,106 +228,44 @@ module _ {Op Row Answer S : Type 0} (c : Config)
     };
   }
 
-  -- a start changes no thread's part
-  own_start : (past : List HistoryItem) (order : List (Call Op Answer)) (m : Progress Row Answer)
-      (t : ℕ) → Own past order m t → Own (past ++ Started ∷ []) order m t
-  own_start past order m t o = record {
-    todo = o.todo ∙ ap (λ (p : List Entry). drop (length p) (script_rows t))
-        (sym (part_start t past));
-    each = o.each;
-    told = o.told;
-    pends = o.pends;
-    tells = λ more. ap (λ (p : List Entry).
-        answers_told ends [] (script_rows t) (map (λ (e : Entry). e.reply) p ++ more))
-        (part_start t past) ∙ o.tells more;
-  }
-
-  -- nor does another thread's entry
-  own_other : (past : List HistoryItem) (e : Entry) (order : List (Call Op Answer))
-      (m : Progress Row Answer) (u : ℕ) (d : Option Op) (s : S)
-      → e.thread ≢ u → Own past order m u
-      → Own (past ++ Did e ∷ []) (order ++ calls_by say e.thread d s) m u
-  own_other past e order m u d s ne o =
-      let same : part u (past ++ Did e ∷ []) ≡ part u past = part_other u e past ne in
-      let calls : calls_of u (order ++ calls_by say e.thread d s) ≡ calls_of u order =
-      calls_append u order (calls_by say e.thread d s)
-      ∙ ap (λ l. calls_of u order ++ l) (calls_other say act e.thread u d s ne)
-      ∙ append-nil (calls_of u order) in
-      record {
-        todo = o.todo ∙ ap (λ (p : List Entry). drop (length p) (script_rows u)) (sym same);
-        each = ap (λ (l : List (Call Op Answer)).
-            map (λ (x : Call Op Answer). x.operation) l ++ ops_in decides m.todo) calls ∙ o.each;
-        told = o.told;
-        pends = ap (map (λ (x : Call Op Answer). x.answer)) calls ∙ o.pends;
-        tells = λ more. ap (λ (p : List Entry).
-            answers_told ends [] (script_rows u) (map (λ (x : Entry). x.reply) p ++ more)) same
-            ∙ o.tells more;
-      }
-
-  -- its own entry takes its next row
-  own_same : (past : List HistoryItem) (e : Entry) (order : List (Call Op Answer))
-      (m : Progress Row Answer) (row : Row) (rows : List Row) (s : S)
-      → m.todo ≡ row ∷ rows
+  -- an entry takes the thread's next row
+  own_next : (t : ℕ) (p : List Entry) (e : Entry) (calls : List (Call Op Answer))
+      (m : Progress Row Answer) (row : Row) (rows : List Row) (s : S) → m.todo ≡ row ∷ rows
       → Tells (ends row) (m.seen ++ e.reply ∷ []) (m.pending ++ said say (decides row) s)
-      → Own past order m e.thread
-      → Own (past ++ Did e ∷ []) (order ++ calls_by say e.thread (decides row) s)
-      (moved decides ends say m row rows e.reply s) e.thread
-  own_same past e order m row rows s next tells o =
-      let t : ℕ = e.thread in
-      let parts : part t (past ++ Did e ∷ []) ≡ part t past ++ e ∷ [] = part_same t e past refl in
-      let long : length (part t (past ++ Did e ∷ [])) ≡ suc (length (part t past)) =
-      ap length parts ∙ length-append (part t past) (e ∷ []) ∙ omega arith in
+      → Own p calls m t → Own (p ++ e ∷ []) (calls ++ calls_by say t (decides row) s)
+      (moved decides ends say m row rows e.reply s) t
+  own_next t p e calls m row rows s next tells o =
       let new : List (Call Op Answer) = calls_by say t (decides row) s in
-      let calls : calls_of t (order ++ new) ≡ calls_of t order ++ new =
-      calls_append t order new
-      ∙ ap (λ l. calls_of t order ++ l) (calls_same say act t (decides row) s) in
       let op : Call Op Answer → Op = λ x. x.operation in
       let ans : Call Op Answer → Answer = λ x. x.answer in
       let rep : Entry → Reply = λ x. x.reply in
       let seen : List Reply = m.seen ++ e.reply ∷ [] in
-      let pending : List Answer = m.pending ++ said say (decides row) s in
+      let parts = parts_of say act t (decides row) s (ops_in decides rows) in
       record {
-        todo = sym (ap (λ (n : ℕ). drop n (script_rows t)) long
-            ∙ drop_next (length (part t past)) (script_rows t) row rows (sym o.todo ∙ next));
-        each = ap (λ (l : List (Call Op Answer)). map op l ++ ops_in decides rows) calls
-            ∙ ap (λ (l : List Op). l ++ ops_in decides rows) (map-append op (calls_of t order) new)
-            ∙ append_assoc (map op (calls_of t order)) (map op new) (ops_in decides rows)
-            ∙ ap (λ (l : List Op). map op (calls_of t order) ++ l)
-            (ops_of say act t (decides row) s (ops_in decides rows))
-            ∙ ap (λ (l : List Row). map op (calls_of t order) ++ ops_in decides l) (sym next)
-            ∙ o.each;
+        todo = ap (drop 1) (sym next ∙ o.todo) ∙ drop-drop 1 (length p) (script_rows t)
+            ∙ ap (λ (n : ℕ). drop n (script_rows t)) (sym (length-append p (e ∷ [])));
+        each = ap (λ (l : List Op). l ++ ops_in decides rows) (map-append op calls new)
+            ∙ append_assoc (map op calls) (map op new) (ops_in decides rows)
+            ∙ ap (λ (l : List Op). map op calls ++ l) parts.2
+            ∙ ap (λ (l : List Row). map op calls ++ ops_in decides l) (sym next) ∙ o.each;
         told = o.told ++ told_next (ends row) seen;
-        pends = ap (map ans) calls ∙ map-append ans (calls_of t order) new
-            ∙ (λ i. o.pends i ++ said_of say act t (decides row) s i)
+        pends = map-append ans calls new
+            ∙ (λ i. o.pends i ++ parts.0 i)
             ∙ append_assoc o.told m.pending (said say (decides row) s)
-            ∙ told_split (ends row) seen o.told pending tells;
-        tells = λ more.
-            ap (λ (p : List Entry). answers_told ends [] (script_rows t) (map rep p ++ more)) parts
-            ∙ ap (λ (l : List Reply). answers_told ends [] (script_rows t) (l ++ more))
-            (map-append rep (part t past) (e ∷ []))
+            ∙ told_split (ends row) seen o.told (m.pending ++ said say (decides row) s) tells;
+        tells = λ more. ap (λ (l : List Reply). answers_told ends [] (script_rows t) (l ++ more))
+            (map-append rep p (e ∷ []))
             ∙ ap (answers_told ends [] (script_rows t))
-            (append_assoc (replies_in t past) (e.reply ∷ []) more)
+            (append_assoc (map rep p) (e.reply ∷ []) more)
             ∙ o.tells (e.reply ∷ more)
             ∙ ap (λ (l : List Row). o.told ++ answers_told ends m.seen l (e.reply ∷ more)) next
             ∙ sym (append_assoc o.told (told_next (ends row) seen)
             (answers_told ends (seen_next (ends row) seen) rows more));
       }
 
-  -- a state and a graph that are those after an entry
-  carry : (g k : Graph) (at : ℕ → Progress Row Answer) (s z : S) → g ≡ k → s ≡ z → Holds g at s
-      → Holds k at z
-  carry g k at s z eg es h = subst (λ x. Holds k at x) es (subst (λ x. Holds x at s) eg h)
-
   -- who has this row next, after the entry
   abbrev places : (ℕ → Progress Row Answer) → ℕ → Progress Row Answer → ℕ → Progress Row Answer
   places at t m u = cond (t == u) m (at u)
-
-  place_same : (at : ℕ → Progress Row Answer) (t : ℕ) (m : Progress Row Answer) → places at t m t ≡ m
-  place_same at t m = rw (eq-eqb t t refl)
-
-  place_other : (at : ℕ → Progress Row Answer) (t : ℕ) (m : Progress Row Answer) (u : ℕ) → t ≢ u
-      → places at t m u ≡ at u
-  place_other at t m u ne = rw (ne_eqb t u ne)
 
   answer_is : (g : Graph) (e : Entry) → IsNoFull (Did e) → IsAnswered g (Did e)
       → e.reply ≡ (step g e.thread e.command).1
@@ -367,7 +280,7 @@ module _ {Op Row Answer S : Type 0} (c : Config)
         let g : Graph = replay c past in
         let s : S = after_calls act empty inv.order in
         let m : Progress Row Answer = inv.at t in
-        let o : Own past inv.order m t = inv.own t in
+        let o = inv.own t in
         let found = next_of command_at (left past t) e.command may.next.0
         (sym (left_rows rows_of command_at decides scripts past t) ∙ may.next.1) in
         let row : Row = found.0 in
@@ -380,40 +293,41 @@ module _ {Op Row Answer S : Type 0} (c : Config)
         ap (λ (k : Command). (step g t k).0) is_row
         ∙ sym (replay_more (start_graph c) past (Did e)
         ∙ ap (λ (b : Bool). cond b g (step g t e.command).0) nf) in
-        let new : ℕ → Progress Row Answer =
-        places inv.at t (moved decides ends say m row rows e.reply s) in
-        let tells : Tells (ends row) (m.seen ++ e.reply ∷ []) (m.pending ++ said say (decides row) s) =
-        subst (λ (r : Reply). Tells (ends row) (m.seen ++ r ∷ []) (m.pending ++ said say (decides row) s))
-        (sym reply) (app.tells g inv.at s t row rows inv.holds next) in
+        let after : Progress Row Answer = moved decides ends say m row rows e.reply s in
+        let new : ℕ → Progress Row Answer = places inv.at t after in
+        let same : new t ≡ after = rw (eq-eqb t t refl) refl in
+        let other : (u : ℕ) → t ≢ u → new u ≡ inv.at u = λ u ne. rw (ne_eqb t u ne) refl in
+        let order : List (Call Op Answer) = inv.order ++ calls_by say t (decides row) s in
+        let pending : List Answer = m.pending ++ said say (decides row) s in
+        let tells : Tells (ends row) (m.seen ++ e.reply ∷ []) pending =
+        subst (λ (r : Reply). Tells (ends row) (m.seen ++ r ∷ []) pending) (sym reply)
+        (app.tells g inv.at s t row rows inv.holds next) in
         record {
-          order = inv.order ++ calls_by say t (decides row) s;
+          order = order;
           at = new;
-          holds = carry (step g t (command_at row)).0 (replay c (past ++ Did e ∷ [])) new
-              (acted act (decides row) s)
-              (after_calls act empty (inv.order ++ calls_by say t (decides row) s))
-              graph (sym (after_more say act t (decides row) empty s inv.order))
-              (app.goes g inv.at new s t row rows inv.holds next
-              (λ u ne. place_other inv.at t (moved decides ends say m row rows e.reply s) u ne)
-              (place_same inv.at t (moved decides ends say m row rows e.reply s)
-              ∙ ap (λ (r : Reply). moved decides ends say m row rows r s) reply));
+          holds = subst (λ (k : Graph). Holds k new (after_calls act empty order)) graph
+              (subst (Holds (step g t (command_at row)).0 new)
+              (sym (after_more say act t (decides row) empty s inv.order))
+              (app.goes g inv.at new s t row rows inv.holds next other
+              (same ∙ ap (λ (r : Reply). moved decides ends say m row rows r s) reply)));
           answered = answered_more say act t (decides row) empty inv.order inv.answered;
           deciding = map-append (λ (d : Call Op Answer). (d.thread, d.operation)) inv.order
               (calls_by say t (decides row) s)
-              ∙ (λ i. inv.deciding i ++ pairs_of say act t (decides row) s i)
+              ∙ (λ i. inv.deciding i ++ (parts_of say act t (decides row) s []).1 i)
               ∙ ap (λ l. decided_behind rows_of decides scripts [] past ++ l)
               (sym (ap (λ (l : List Row). decided_next decides t l) (sym o.todo ∙ next)))
               ∙ sym (decided_more rows_of command_at decides scripts [] past (Did e));
           own = λ u. elim (cases_eq t u) [
-            | inl same ↦ subst (λ (k : ℕ). Own (past ++ Did e ∷ [])
-                (inv.order ++ calls_by say t (decides row) s) (new k) k) same
-                (subst (λ (x : Progress Row Answer). Own (past ++ Did e ∷ [])
-                (inv.order ++ calls_by say t (decides row) s) x t)
-                (sym (place_same inv.at t (moved decides ends say m row rows e.reply s)))
-                (own_same past e inv.order m row rows s next tells o))
-            | inr ne ↦ subst (λ (x : Progress Row Answer). Own (past ++ Did e ∷ [])
-                (inv.order ++ calls_by say t (decides row) s) x u)
-                (sym (place_other inv.at t (moved decides ends say m row rows e.reply s) u ne))
-                (own_other past e inv.order (inv.at u) u (decides row) s ne (inv.own u))
+            | inl is ↦ subst (λ k. Own (part k (past ++ Did e ∷ [])) (calls_of k order) (new k) k)
+                is (subst₃ (λ p ds x. Own p ds x t) (sym (part_same t e past refl))
+                (sym (calls_append t inv.order (calls_by say t (decides row) s)
+                ∙ ap (λ l. calls_of t inv.order ++ l) (calls_same say act t (decides row) s)))
+                (sym same)
+                (own_next t (part t past) e (calls_of t inv.order) m row rows s next tells o))
+            | inr ne ↦ subst₃ (λ p ds x. Own p ds x u) (sym (part_other u e past ne))
+                (sym (calls_append u inv.order (calls_by say t (decides row) s)
+                ∙ ap (λ l. calls_of u inv.order ++ l) (calls_other say act t u (decides row) s ne)
+                ∙ append-nil (calls_of u inv.order))) (sym (other u ne)) (inv.own u)
           ];
         }
 
@@ -427,7 +341,8 @@ module _ {Op Row Answer S : Type 0} (c : Config)
       deciding = inv.deciding
           ∙ sym (decided_more rows_of command_at decides scripts [] past Started
           ∙ append-nil (decided_behind rows_of decides scripts [] past));
-      own = λ t. own_start past inv.order (inv.at t) t (inv.own t);
+      own = λ t. subst (λ (p : List Entry). Own p (calls_of t inv.order) (inv.at t) t)
+          (sym (part_start t past)) (inv.own t);
     }
 
     item_step : (past : List HistoryItem) (i : HistoryItem) → MayCome c rate traces past i
@@ -446,37 +361,7 @@ module _ {Op Row Answer S : Type 0} (c : Config)
         ∙ none_of command_at (left h t)
         (sym (left_rows rows_of command_at decides scripts h t) ∙ none_left c rate traces h t run)
 
-    done : (h : List HistoryItem) → IsRun c rate traces h → (inv : Inv h)
-        → IsLinearization rows_of decides ends say act empty scripts h inv.order
-    done h run inv = record {
-      each = λ t. let o = inv.own t in
-          sym (append-nil (map (λ (d : Call Op Answer). d.operation) (calls_of t inv.order)))
-          ∙ ap (λ (l : List Row). map (λ (d : Call Op Answer). d.operation) (calls_of t inv.order)
-          ++ ops_in decides l) (sym (ended h run inv t)) ∙ o.each;
-      deciding = inv.deciding;
-      answered = inv.answered;
-      told = λ t. let o = inv.own t in
-          o.pends
-          ∙ ap (λ (l : List Answer). o.told ++ l)
-          (app.rests (replay c h) inv.at (after_calls act empty inv.order) t inv.holds
-          (ended h run inv t))
-          ∙ sym (ap (λ (l : List Reply). answers_told ends [] (script_rows t) l)
-          (sym (append-nil (replies_in t h)))
-          ∙ o.tells []
-          ∙ ap (λ (l : List Row). o.told ++ answers_told ends (inv.at t).seen l [])
-          (ended h run inv t));
-    }
-
-    -- every run does all operations in one order, and has no full
-    pub linearized : (h : List HistoryItem) → IsRun c rate traces h
-        → (order : List (Call Op Answer))
-        × IsLinearization rows_of decides ends say act empty scripts h order
-        × NoFulls h
-    linearized h run =
-        let both = walk_all c rate traces Inv within item_step h first run in
-        (both.0.order, done h run both.0, both.1)
-
-    so_far : (h : List HistoryItem) → (inv : Inv h)
+    abbrev so_far : (h : List HistoryItem) → (inv : Inv h)
         → IsLinearizationSoFar rows_of decides ends say act empty scripts h inv.order
     so_far h inv = record {
       each = λ t. (ops_in decides (inv.at t).todo, (inv.own t).each);
@@ -494,6 +379,30 @@ module _ {Op Row Answer S : Type 0} (c : Config)
             ∙ append-nil o.told)),
       );
     }
+
+    done : (h : List HistoryItem) → IsRun c rate traces h → (inv : Inv h)
+        → IsLinearization rows_of decides ends say act empty scripts h inv.order
+    done h run inv = let s = so_far h inv in record {
+      each = λ t. sym (append-nil (map (λ (d : Call Op Answer). d.operation)
+          (calls_of t inv.order)))
+          ∙ ap (λ (l : List Row). map (λ (d : Call Op Answer). d.operation) (calls_of t inv.order)
+          ++ ops_in decides l) (sym (ended h run inv t)) ∙ (s.each t).1;
+      deciding = inv.deciding;
+      answered = inv.answered;
+      told = λ t. (s.told t).1
+          ∙ ap (λ (l : List Answer). answers_told ends [] (script_rows t) (replies_in t h) ++ l)
+          (app.rests (replay c h) inv.at (after_calls act empty inv.order) t inv.holds
+          (ended h run inv t)) ∙ append-nil _;
+    }
+
+    -- every run does all operations in one order, and has no full
+    pub linearized : (h : List HistoryItem) → IsRun c rate traces h
+        → (order : List (Call Op Answer))
+        × IsLinearization rows_of decides ends say act empty scripts h order
+        × NoFulls h
+    linearized h run =
+        let both = walk_all c rate traces Inv within item_step h first run in
+        (both.0.order, done h run both.0, both.1)
 
     -- so does the beginning of every run
     pub linearized_so_far : (h : List HistoryItem) → IsRunSoFar c rate traces h

@@ -43,16 +43,22 @@ pub data Hold (Cell K : Type 0) : Type 0 where
   Has : (y : Lasting Cell K) → Hold Cell K
 
 -- the objects that thread t makes after the first o, and the values and the records of symbols
+abbrev pub name_at : ℕ → ℕ → Name
+name_at t serial = record { thread = t; serial = serial }
+
 abbrev pub own_name : ℕ → ℕ → ℕ → Name
-own_name t o k = record { thread = t; serial = o + k + 1 }
+own_name t o k = name_at t (o + k + 1)
 
 abbrev pub value_of : ℕ → ℕ → Sym → Value
 value_of t o Empty = Nil
 value_of t o (Number n) = Int n
 value_of t o (Own k) = Ref (own_name t o k)
 
+abbrev pub record_with : List Value → Object
+record_with fields = record { kind = Record; fields = fields }
+
 abbrev pub record_of : ℕ → ℕ → List Sym → Object
-record_of t o fields = record { kind = Record; fields = map (value_of t o) fields }
+record_of t o fields = record_with (map (value_of t o) fields)
 
 -- what is known of register q: the first entry for it in the list, or else what is known at rest
 abbrev pub held : {Cell K : Type 0} → (ℕ → Lasting Cell K) → List (ℕ × Hold Cell K) → ℕ
@@ -64,8 +70,8 @@ pub held_here : {Cell K : Type 0} (rest : ℕ → Lasting Cell K) (ps : List (�
     (h : Hold Cell K) → held rest ((d, h) ∷ ps) d ≡ h
 held_here rest ps d h = ap (λ (z : Bool). cond z h (held rest ps d)) (eq-eqb d d refl)
 
-pub held_past : {Cell K : Type 0} (rest : ℕ → Lasting Cell K) (ps : List (ℕ × Hold Cell K)) (d q : ℕ)
-    (h : Hold Cell K) → d ≢ q → held rest ((d, h) ∷ ps) q ≡ held rest ps q
+pub held_past : {Cell K : Type 0} (rest : ℕ → Lasting Cell K) (ps : List (ℕ × Hold Cell K))
+    (d q : ℕ) (h : Hold Cell K) → d ≢ q → held rest ((d, h) ∷ ps) q ≡ held rest ps q
 held_past rest ps d q h ne = ap (λ (z : Bool). cond z h (held rest ps q)) (ne_eqb d q ne)
 
 -- What is known before a row: the registers that are not at rest, the objects in the making, the
@@ -142,7 +148,8 @@ module _ {Op Row Answer Cell K L : Type 0} (a : Table Op Row Answer Cell K L) wh
   abbrev pub IsProper : ℕ → L → List Row → Type 0
   IsProper t l [] = Unit {0}
   IsProper t l (row ∷ rows) =
-      (a.Fits t l row × ((c : Cell) → spot_of rows c ≡ behind row c)) × IsProper t (a.next l row) rows
+      (a.Fits t l row × ((c : Cell) → spot_of rows c ≡ behind row c))
+      × IsProper t (a.next l row) rows
 
   abbrev pub Lasts : (Name → Object) → (ℕ → ℕ) → Lasting Cell K → Value → Type 0
   Lasts obj out Plain v = IsPlain v
@@ -175,7 +182,7 @@ module _ {Op Row Answer Cell K L : Type 0} (a : Table Op Row Answer Cell K L) wh
 
   -- ---- all this stays true
 
-  module _ (obj new : Name → Object) (out more : ℕ → ℕ) (frame : Frame obj new out more) where
+  module _ {obj new : Name → Object} {out more : ℕ → ℕ} (frame : Frame obj new out more) where
     pub lasts_move : (y : Lasting Cell K) (v : Value) → Lasts obj out y v → Lasts new more y v
     lasts_move Plain v s = s
     lasts_move (Shown c) v s = a.shows_move obj new out more frame v c s

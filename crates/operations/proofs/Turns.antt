@@ -5,6 +5,7 @@ use Rattle.std.proofs.Common.{◌≡◌, ◌≢◌, ℕ, ◌+◌, ◌<◌, ◌�
 use Rattle.std.specs.Prelude.{slice_set}
 use Rattle.std.proofs.lemmas.Bool.{cases_eq, cases_lt}
 use Rattle.std.proofs.lemmas.List.{length-set}
+use Rattle.std.proofs.Math.Path.{subst₂}
 use Rattle.block_store.specs.declared.Name.{Name}
 use Rattle.block_store.specs.declared.Value.{Value}
 use Rattle.block_store.specs.declared.Value.TheVariants.{Nil, Ref}
@@ -35,10 +36,7 @@ pub finishes_more : (out : ℕ → ℕ) (t j : ℕ) → Finishes out (out_after 
 finishes_more out t j = record { own = out_same out t j; others = λ u ne. rw (ne_eqb t u ne) }
 
 pub grown : (out now : ℕ → ℕ) (t j : ℕ) → Finishes out now t j → (u : ℕ) → out u ≤ now u
-grown out now t j f u = elim (cases_eq t u) [
-  | inl e ↦ subst (λ (x : ℕ). out x ≤ now x) e (omega (arith, f.own))
-  | inr ne ↦ omega (arith, f.others u ne)
-]
+grown out now t j f u = grind arith
 
 module _ {Op Row Answer Cell K L : Type 0} (a : Table Op Row Answer Cell K L) where
   -- thread t: its registers, how many objects it made, and how far it is
@@ -81,195 +79,189 @@ module _ {Op Row Answer Cell K L : Type 0} (a : Table Op Row Answer Cell K L) wh
     pub rows : List Row
     pub next : (at t).todo ≡ row ∷ rows
 
-  module _ {row : Row} (b : Before row) where
-    pub there : b.t < b.n
-    there = elim (cases_lt b.t b.n) [
-      | inl low ↦ low
-      | inr high ↦ (let bad : [] ≡ row ∷ b.rows = sym (b.holds.beyond b.t high).0 ∙ b.next in absurd cc)
-    ]
+module _ {Op Row Answer Cell K L : Type 0} {a : Table Op Row Answer Cell K L} {row : Row}
+    (b : Before a row) where
+  abbrev pub shared : Name
+  shared = shared_name b.n
 
-    pub thread : Thread b.n b.g b.out (b.at b.t) b.t
-    thread = b.holds.each b.t there
+  abbrev pub array : Object
+  array = object_of b.g shared
 
-    pub inside : b.t < length b.g.mutators
-    inside = omega (arith, there, b.holds.threads)
+  pub there : b.t < b.n
+  there = elim (cases_lt b.t b.n) [
+    | inl low ↦ low
+    | inr high ↦
+        let bad : [] ≡ row ∷ b.rows = sym (b.holds.beyond b.t high).0 ∙ b.next in absurd cc
+  ]
 
-    pub room : (d : ℕ) → d < 16 → d < length (mutator_at b.g b.t).registers
-    room d low = omega (arith, thread.sixteen)
+  pub thread : Thread a b.n b.g b.out (b.at b.t) b.t
+  thread = b.holds.each b.t there
 
-    -- how far the thread is, which has this row next, and what is known there
-    pub place : Place a (object_of b.g) b.out b.t
-        (record { todo = row ∷ b.rows; seen = (b.at b.t).seen; pending = (b.at b.t).pending })
-        (register_of b.g b.t)
-    place = subst (λ (rows : List Row). Place a (object_of b.g) b.out b.t
-        (record { todo = rows; seen = (b.at b.t).seen; pending = (b.at b.t).pending })
-        (register_of b.g b.t)) b.next thread.place
+  pub inside : b.t < length b.g.mutators
+  inside = omega (arith, there, b.holds.threads)
 
-    abbrev pub known : Spot Answer Cell K
-    known = a.before row place.cell
+  pub room : (d : ℕ) → d < 16 → d < length (mutator_at b.g b.t).registers
+  room d low = omega (arith, thread.sixteen)
 
-    pub owes : owed a (b.at b.t).todo ≡ length known.made
-    owes = ap (owed a) b.next ∙ a.same_made row a.none place.cell
+  -- how far the thread is, which has this row next, and what is known there
+  pub place : Place a (object_of b.g) b.out b.t
+      (record { todo = row ∷ b.rows; seen = (b.at b.t).seen; pending = (b.at b.t).pending })
+      (register_of b.g b.t)
+  place = subst (λ (rows : List Row). Place a (object_of b.g) b.out b.t
+      (record { todo = rows; seen = (b.at b.t).seen; pending = (b.at b.t).pending })
+      (register_of b.g b.t)) b.next thread.place
 
-    abbrev pub reply : Reply
-    reply = (step b.g b.t (a.command_at row)).1
+  abbrev pub known : Spot Answer Cell K
+  known = a.before row place.cell
 
-    abbrev pub after : Progress Row Answer
-    after = moved a.decides a.ends a.say (b.at b.t) row b.rows reply b.cells
+  pub owes : owed a (b.at b.t).todo ≡ length known.made
+  owes = ap (owed a) b.next ∙ a.same_made row a.none place.cell
 
-    abbrev pub acts : List Cell
-    acts = acted a.act (a.decides row) b.cells
+  abbrev pub reply : Reply
+  reply = (step b.g b.t (a.command_at row)).1
 
-    abbrev pub told : List Answer
-    told = said a.say (a.decides row) b.cells
+  abbrev pub after : Progress Row Answer
+  after = moved a.decides a.ends a.say (b.at b.t) row b.rows reply b.cells
 
-    -- the row keeps the invariant
-    abbrev pub Goes : Type 0
-    Goes = (new : ℕ → Progress Row Answer) → ((u : ℕ) → b.t ≢ u → new u ≡ b.at u)
-        → new b.t ≡ after → Kept b.n (step b.g b.t (a.command_at row)).0 new acts
+  abbrev pub acts : List Cell
+  acts = acted a.act (a.decides row) b.cells
 
-    -- what holds of the thread at its next row, if it has finished so many objects
-    pub record Arrives (now : ℕ → ℕ) : Type 0 where
-      pub state : L
-      pub cell : Cell
-      pub spot : Spot Answer Cell K
-      pub replies : List Reply
-      pub state_is : a.next place.state row ≡ state
-      pub spot_is : behind a row cell ≡ spot
-      pub counts : now b.t ≡ a.finished state
-      pub pending : kept_next (a.ends row) ((b.at b.t).pending ++ told) ≡ spot.pend
-      pub seen : seen_next (a.ends row) ((b.at b.t).seen ++ reply ∷ []) ≡ replies ++ spot.heard
+  abbrev pub told : List Answer
+  told = said a.say (a.decides row) b.cells
 
-    pub arrive : (obj : Name → Object) (now : ℕ → ℕ) (r : ℕ → Value) (s : Arrives now)
-        → InSpot a obj now b.t s.state s.spot r → Place a obj now b.t after r
-    arrive obj now r s holds =
-        let is : s.spot ≡ spot_of a b.rows s.cell = sym (place.proper.0.1 s.cell ∙ s.spot_is) in
-        record {
-          state = a.next place.state row;
-          cell = s.cell;
-          replies = s.replies;
-          proper = place.proper.1;
-          counts = s.counts ∙ ap a.finished (sym s.state_is);
-          spot = subst (λ (l : L). InSpot a obj now b.t l (spot_of a b.rows s.cell) r) (sym s.state_is)
-              (subst (λ (x : Spot Answer Cell K). InSpot a obj now b.t s.state x r) is holds);
-          pending = s.pending ∙ ap (λ (x : Spot Answer Cell K). x.pend) is;
-          seen = s.seen ∙ ap (λ (x : Spot Answer Cell K). s.replies ++ x.heard) is;
+  -- the row keeps the invariant
+  abbrev pub Goes : Type 0
+  Goes = (new : ℕ → Progress Row Answer) → ((u : ℕ) → b.t ≢ u → new u ≡ b.at u)
+      → new b.t ≡ after → Kept a b.n (step b.g b.t (a.command_at row)).0 new acts
+
+  -- what holds of the thread at its next row, if it has finished so many objects
+  pub record Arrives (now : ℕ → ℕ) : Type 0 where
+    pub state : L
+    pub cell : Cell
+    pub spot : Spot Answer Cell K
+    pub replies : List Reply
+    pub state_is : a.next place.state row ≡ state
+    pub spot_is : behind a row cell ≡ spot
+    pub counts : now b.t ≡ a.finished state
+    pub pending : kept_next (a.ends row) ((b.at b.t).pending ++ told) ≡ spot.pend
+    pub seen : seen_next (a.ends row) ((b.at b.t).seen ++ reply ∷ []) ≡ replies ++ spot.heard
+
+  -- ---- one register and one object changed
+
+  module _ {k : Graph} {d : ℕ} {v : Value} {x : Name} {o : Object} {more : ℕ}
+      (e : Effect b.g k b.t d v x o more) (safe : (x ≡ shared) ⊎ IsMade b.out b.t x)
+      {now : ℕ → ℕ} {j : ℕ} (f : Finishes b.out now b.t j) where
+    -- the object that changed is no finished one, and no other thread's
+    apart : (y : Name) → 1 ≤ y.serial → (y.thread ≡ b.t → y.serial ≤ b.out b.t) → x ≢ y
+    apart y some low = grind arith
+
+    pub frame : Frame (object_of b.g) (object_of k) b.out now
+    frame = record {
+      grows = grown b.out now b.t j f;
+      kept = λ y some low. e.objects y (apart y some
+          (λ is. subst (λ (u : ℕ). y.serial ≤ b.out u) is low));
+    }
+
+    other : (u : ℕ) → b.t ≢ u → (m : Progress Row Answer) → Thread a b.n b.g b.out m u
+        → Thread a b.n k now m u
+    other u ne m th = record {
+      zero = e.others u 0 ne ∙ th.zero;
+      counted = e.counts u ne ∙ th.counted ∙ ap (λ (y : ℕ). y + owed a m.todo)
+          (sym (f.others u ne));
+      place = subst (λ (r : ℕ → Value). Place a (object_of k) now u m r)
+          (sym (λ i q. e.others u q ne i))
+          (place_move a frame u (f.others u ne) (λ y made_by. e.objects y
+          (apart y (omega (arith, made_by.1)) (λ is. absurd (ne (sym is ∙ made_by.0))))) m
+          (register_of b.g u) th.place);
+      sixteen = e.sixteen u ∙ th.sixteen;
+    }
+
+    -- the invariant holds again
+    pub leaves : 1 ≤ d → (step b.g b.t (a.command_at row)).0 ≡ k → Shared a b.n k now acts
+        → (s : Arrives now) → length known.made + more ≡ j + length s.spot.made
+        → InSpot a (object_of k) now b.t s.state s.spot (register_of k b.t) → Goes
+    leaves one stepped shows s counted holds new same is =
+        subst (λ (y : Graph). Kept a b.n y new acts) (sym stepped) (
+          now,
+          record {
+            threads = e.threads ∙ b.holds.threads;
+            shared = shows;
+            each = λ u low. elim (cases_eq b.t u) [
+              | inl here_u ↦ subst (λ (y : ℕ). Thread a b.n k now (new y) y) here_u
+                  (subst (λ (m : Progress Row Answer). Thread a b.n k now m b.t) (sym is) mine)
+              | inr ne ↦ subst (λ (m : Progress Row Answer). Thread a b.n k now m u)
+                  (sym (same u ne)) (other u ne (b.at u) (b.holds.each u low))
+            ];
+            beyond = λ u high. subst (λ (m : Progress Row Answer). (m.todo ≡ []) × (m.pending ≡ []))
+                (sym (same u (λ here_u. omega (arith, there)))) (b.holds.beyond u high);
+          },
+        )
+      where
+        spot_is : s.spot ≡ spot_of a b.rows s.cell
+        spot_is = sym (place.proper.0.1 s.cell ∙ s.spot_is)
+
+        mine : Thread a b.n k now after b.t
+        mine = record {
+          zero = e.own 0 (λ z. omega arith) ∙ thread.zero;
+          counted = omega (
+            arith,
+            e.count,
+            thread.counted,
+            owes,
+            counted,
+            f.own,
+            owed_is a b.rows s.cell,
+            ap (λ (y : Spot Answer Cell K). length y.made) spot_is,
+          );
+          place = record {
+            state = a.next place.state row;
+            cell = s.cell;
+            replies = s.replies;
+            proper = place.proper.1;
+            counts = s.counts ∙ ap a.finished (sym s.state_is);
+            spot = subst₂ (λ (l : L) (y : Spot Answer Cell K).
+                InSpot a (object_of k) now b.t l y (register_of k b.t))
+                (sym s.state_is) spot_is holds;
+            pending = s.pending ∙ ap (λ (y : Spot Answer Cell K). y.pend) spot_is;
+            seen = s.seen ∙ ap (λ (y : Spot Answer Cell K). s.replies ++ y.heard) spot_is;
+          };
+          sixteen = e.sixteen b.t ∙ thread.sixteen;
         }
 
-    -- ---- one register and one object changed
+    -- what places showed they still show
+    still_shown : (i : ℕ) → i < a.size
+        → a.Shows (object_of k) now (field_of array i) (slice_index_or b.cells i a.none)
+    still_shown i low =
+        a.shows_move (object_of b.g) (object_of k) b.out now frame _ _ (b.holds.shared.slots i low)
 
-    module _ (k : Graph) (d : ℕ) (v : Value) (x : Name) (o : Object) (more : ℕ)
-        (e : Effect b.g k b.t d v x o more) (safe : (x ≡ shared_name b.n) ⊎ IsMade b.out b.t x)
-        (now : ℕ → ℕ) (j : ℕ) (f : Finishes b.out now b.t j) where
-      -- the object that changed is no finished one, and no other thread's
-      apart : (y : Name) → 1 ≤ y.serial → (y.thread ≡ b.t → y.serial ≤ b.out b.t) → x ≢ y
-      apart y some low is = elim safe [
-        | inl s ↦ (let zero : y.serial ≡ 0 = ap (λ (z : Name). z.serial) (sym is ∙ s) in omega arith)
-        | inr own ↦ (
-            let few = low (sym (ap (λ (z : Name). z.thread) is) ∙ own.0) in
-            let same : x.serial ≡ y.serial = ap (λ (z : Name). z.serial) is in
-            omega (arith, own.1))
-      ]
+    -- the array and the state as they were
+    pub shared_stays : object_of k shared ≡ array → acts ≡ b.cells → Shared a b.n k now acts
+    shared_stays is same = subst (Shared a b.n k now) (sym same) (record {
+      kind = ap (λ (y : Object). y.kind) is ∙ b.holds.shared.kind;
+      long = ap (λ (y : Object). length y.fields) is ∙ b.holds.shared.long;
+      places = b.holds.shared.places;
+      slots = λ i low. subst (λ (y : Object). a.Shows (object_of k) now (field_of y i)
+          (slice_index_or b.cells i a.none)) (sym is) (still_shown i low);
+    })
 
-      pub frame : Frame (object_of b.g) (object_of k) b.out now
-      frame = record {
-        grows = grown b.out now b.t j f;
-        kept = λ y some low. e.objects y (apart y some (λ is. subst (λ (u : ℕ). y.serial ≤ b.out u) is low));
-      }
-
-      other : (u : ℕ) → b.t ≢ u → (m : Progress Row Answer) → Thread b.n b.g b.out m u
-          → Thread b.n k now m u
-      other u ne m th = record {
-        zero = e.others u 0 ne ∙ th.zero;
-        counted = e.counts u ne ∙ th.counted ∙ ap (λ (y : ℕ). y + owed a m.todo) (sym (f.others u ne));
-        place = subst (λ (r : ℕ → Value). Place a (object_of k) now u m r)
-            (sym (λ i q. e.others u q ne i))
-            (place_move a (object_of b.g) (object_of k) b.out now frame u (f.others u ne)
-            (λ y made_by. e.objects y (apart y (omega (arith, made_by.1))
-            (λ is. absurd (ne (sym is ∙ made_by.0))))) m (register_of b.g u) th.place);
-        sixteen = e.sixteen u ∙ th.sixteen;
-      }
-
-      -- the invariant holds again
-      pub leaves : 1 ≤ d → (step b.g b.t (a.command_at row)).0 ≡ k → Shared b.n k now acts
-          → (s : Arrives now) → length known.made + more ≡ j + length s.spot.made
-          → InSpot a (object_of k) now b.t s.state s.spot (register_of k b.t) → Goes
-      leaves one stepped shared s counted holds new same is =
-          subst (λ (y : Graph). Kept b.n y new acts) (sym stepped) (
-            now,
-            record {
-              threads = e.threads ∙ b.holds.threads;
-              shared = shared;
-              each = λ u low. elim (cases_eq b.t u) [
-                | inl here_u ↦ subst (λ (y : ℕ). Thread b.n k now (new y) y) here_u
-                    (subst (λ (m : Progress Row Answer). Thread b.n k now m b.t) (sym is) mine)
-                | inr ne ↦ subst (λ (m : Progress Row Answer). Thread b.n k now m u)
-                    (sym (same u ne)) (other u ne (b.at u) (b.holds.each u low))
-              ];
-              beyond = λ u high. subst (λ (m : Progress Row Answer). (m.todo ≡ []) × (m.pending ≡ []))
-                  (sym (same u (λ here_u. omega (arith, there)))) (b.holds.beyond u high);
-            },
-          )
-        where
-          mine : Thread b.n k now after b.t
-          mine = record {
-            zero = e.own 0 (λ z. omega arith) ∙ thread.zero;
-            counted = omega (
-              arith,
-              e.count,
-              thread.counted,
-              owes,
-              counted,
-              f.own,
-              owed_is a b.rows s.cell,
-              ap (λ (x : Spot Answer Cell K). length x.made) (place.proper.0.1 s.cell ∙ s.spot_is),
-            );
-            place = arrive (object_of k) now (register_of k b.t) s holds;
-            sixteen = e.sixteen b.t ∙ thread.sixteen;
-          }
-
-      -- the array and the state as they were
-      pub shared_stays : object_of k (shared_name b.n) ≡ object_of b.g (shared_name b.n)
-          → acts ≡ b.cells → Shared b.n k now acts
-      shared_stays is same = subst (Shared b.n k now) (sym same) (record {
-        kind = ap (λ (y : Object). y.kind) is ∙ b.holds.shared.kind;
-        long = ap (λ (y : Object). length y.fields) is ∙ b.holds.shared.long;
-        places = b.holds.shared.places;
-        slots = λ i low. subst (λ (y : Object). a.Shows (object_of k) now (field_of y i)
-            (slice_index_or b.cells i a.none)) (sym is)
-            (a.shows_move (object_of b.g) (object_of k) b.out now frame _ _ (b.holds.shared.slots i low));
-      })
-
-      -- place i of the array has another value, which shows another cell
-      pub shared_changes : (i : ℕ) (y : Value) (cell : Cell)
-          → object_of k (shared_name b.n) ≡ set_field (object_of b.g (shared_name b.n)) i y → i < a.size
-          → acts ≡ slice_set b.cells i cell
-          → a.Shows (object_of k) now y cell → Shared b.n k now acts
-      shared_changes i y cell is low same shows_y = subst (Shared b.n k now) (sym same) (record {
-        kind = ap (λ (z : Object). z.kind) is ∙ b.holds.shared.kind;
-        long = ap (λ (z : Object). length z.fields) is
-            ∙ length-set (object_of b.g (shared_name b.n)).fields i y ∙ b.holds.shared.long;
-        places = length-set b.cells i cell ∙ b.holds.shared.places;
-        slots = λ q below.
-            let value : field_of (object_of k (shared_name b.n)) q
-            ≡ cond (eqb i q) y (field_of (object_of b.g (shared_name b.n)) q) =
-            ap (λ (z : Object). field_of z q) is
-            ∙ get_or_set (object_of b.g (shared_name b.n)).fields i q y Nil
-            (omega (arith, low, b.holds.shared.long)) in
-            let now_there : slice_index_or (slice_set b.cells i cell) q a.none
-            ≡ cond (eqb i q) cell (slice_index_or b.cells q a.none) =
-            get_or_set b.cells i q cell a.none (omega (arith, low, b.holds.shared.places)) in
-            let both : Bool → Type 0 = λ c. a.Shows (object_of k) now
-            (cond c y (field_of (object_of b.g (shared_name b.n)) q))
-            (cond c cell (slice_index_or b.cells q a.none)) in
-            let chosen : both (eqb i q) = elim (cases_eq i q) [
-              | inl yes_q ↦ subst both (sym (eq-eqb i q yes_q)) shows_y
-              | inr ne ↦ subst both (sym (ne_eqb i q ne))
-                  (a.shows_move (object_of b.g) (object_of k) b.out now frame _ _
-                  (b.holds.shared.slots q below))
-            ] in
-            subst (λ (z : Value). a.Shows (object_of k) now z
-            (slice_index_or (slice_set b.cells i cell) q a.none)) (sym value)
-            (subst (λ (z : Cell). a.Shows (object_of k) now
-            (cond (eqb i q) y (field_of (object_of b.g (shared_name b.n)) q)) z) (sym now_there) chosen);
-      })
+    -- place i of the array has another value, which shows another cell
+    pub shared_changes : (i : ℕ) (y : Value) (cell : Cell)
+        → object_of k shared ≡ set_field array i y → i < a.size → acts ≡ slice_set b.cells i cell
+        → a.Shows (object_of k) now y cell → Shared a b.n k now acts
+    shared_changes i y cell is low same shows_y = subst (Shared a b.n k now) (sym same) (record {
+      kind = ap (λ (z : Object). z.kind) is ∙ b.holds.shared.kind;
+      long = ap (λ (z : Object). length z.fields) is ∙ length-set array.fields i y
+          ∙ b.holds.shared.long;
+      places = length-set b.cells i cell ∙ b.holds.shared.places;
+      slots = λ q below.
+          let both : Bool → Type 0 = λ z. a.Shows (object_of k) now (cond z y (field_of array q))
+          (cond z cell (slice_index_or b.cells q a.none)) in
+          subst₂ (a.Shows (object_of k) now)
+          (sym (ap (λ (z : Object). field_of z q) is
+          ∙ get_or_set array.fields i q y Nil (omega (arith, low, b.holds.shared.long))))
+          (sym (get_or_set b.cells i q cell a.none (omega (arith, low, b.holds.shared.places))))
+          (elim (cases_eq i q) as (λ z. both (eqb i q)) [
+            | inl yes_q ↦ subst both (sym (eq-eqb i q yes_q)) shows_y
+            | inr ne ↦ subst both (sym (ne_eqb i q ne)) (still_shown q below)
+          ]);
+    })

@@ -6,7 +6,7 @@ use Rattle.std.proofs.lemmas.List.{get_or_past, length-map}
 use Rattle.std.proofs.lemmas.List.Sums.{sum_by-append}
 use Rattle.block_store.specs.declared.Name.{Name}
 use Rattle.block_store.specs.declared.Value.{Value}
-use Rattle.block_store.specs.declared.Value.TheVariants.{Nil, Int, Ref}
+use Rattle.block_store.specs.declared.Value.TheVariants.{Nil, Ref}
 use Rattle.block_store.specs.declared.Width.TheVariants.{Eight}
 use Rattle.array_trees.specs.Trees.{array_blocks}
 use Rattle.object_lists.specs.Records.{record_blocks}
@@ -16,7 +16,7 @@ use Rattle.operations.specs.Applications.{Progress}
 use Rattle.operations.proofs.Among.{refs, thread_of}
 use Rattle.operations.proofs.LiveBound.{IsPlain, no_ref, Carries, IsIn, total, few as few_of}
 use Rattle.operations.proofs.Turns.{HoldsBy, Thread}
-use Rattle.operations.proofs.Tables.{Sym, Empty, Number, Own, Lasting, Plain, Shown, Any, Meant, Hold, Is, Has, Spot, Table, own_name, value_of, record_of, held, spot_of, IsProper, Lasts, Meets}
+use Rattle.operations.proofs.Tables.{Sym, Own, Lasting, Plain, Shown, Any, Meant, Hold, Is, Has, Spot, Table, own_name, value_of, record_of, held, spot_of, IsProper, Lasts, Meets}
 
 -- fields that refer to no object in the making; and an object of one block that has such fields
 abbrev pub all_plain : List Sym → Bool
@@ -24,14 +24,20 @@ all_plain [] = true
 all_plain (Own k ∷ fs) = false
 all_plain (_ ∷ fs) = all_plain fs
 
+abbrev pub is_one : List Sym → Bool
+is_one fs = leb (record_blocks Eight (length fs)) 1
+
 abbrev pub is_slim : List Sym → Bool
-is_slim fs = all_plain fs && leb (record_blocks Eight (length fs)) 1
+is_slim fs = all_plain fs && is_one fs
+
+-- the k-th object in the making is there, and of this kind
+abbrev pub has_made : (List Sym → Bool) → List (List Sym) → ℕ → Bool
+has_made kind made k = ltb k (length made) && kind (get_or made k [])
 
 -- an object refers to such objects alone
 abbrev pub refers_slim : List (List Sym) → List Sym → Bool
 refers_slim made [] = true
-refers_slim made (Own j ∷ fs) =
-    (ltb j (length made) && is_slim (get_or made j [])) && refers_slim made fs
+refers_slim made (Own j ∷ fs) = has_made is_slim made j && refers_slim made fs
 refers_slim made (_ ∷ fs) = refers_slim made fs
 
 -- the blocks of an object with those to which it refers
@@ -40,107 +46,89 @@ weight [] = 1
 weight (Own j ∷ fs) = suc (weight fs)
 weight (_ ∷ fs) = weight fs
 
--- the k-th object in the making takes at most m blocks
+-- that takes at most m blocks
+abbrev pub is_light : List (List Sym) → ℕ → List Sym → Bool
+is_light made m fs = is_one fs && (refers_slim made fs && leb (weight fs) m)
+
 abbrev pub light_own : List (List Sym) → ℕ → ℕ → Bool
-light_own made m k =
-    (ltb k (length made) && leb (record_blocks Eight (length (get_or made k []))) 1)
-    && (refers_slim made (get_or made k []) && leb (weight (get_or made k [])) m)
+light_own made m k = has_made (is_light made m) made k
 
-module _ (t o : ℕ) where
-  plain_fields : (fs : List Sym) → all_plain fs ≡ true → (i : ℕ)
-      → IsPlain (get_or (map (value_of t o) fs) i Nil)
-  plain_fields [] e i = tt
-  plain_fields (Own k ∷ fs) e i = absurd cc
-  plain_fields (Empty ∷ fs) e zero = tt
-  plain_fields (Empty ∷ fs) e (suc i) = plain_fields fs e i
-  plain_fields (Number n ∷ fs) e zero = tt
-  plain_fields (Number n ∷ fs) e (suc i) = plain_fields fs e i
+plain_fields : (t o : ℕ) (fs : List Sym) → all_plain fs ≡ true → (i : ℕ)
+    → IsPlain (get_or (map (value_of t o) fs) i Nil)
+plain_fields t o [] e i = tt
+plain_fields t o (Own k ∷ fs) e i = absurd cc
+plain_fields t o (_ ∷ fs) e zero = tt
+plain_fields t o (_ ∷ fs) e (suc i) = plain_fields t o fs e i
 
-  -- an object in the making to which another one refers
-  record Inner (made : List (List Sym)) (c : Name) : Type 0 where
-    index : ℕ
-    low : index < length made
-    slim : is_slim (get_or made index []) ≡ true
-    is : c ≡ own_name t o index
+each_field : (P : Value → Type 0) (v : Value) (vs : List Value) → P v
+    → ((i : ℕ) → P (get_or vs i Nil)) → (i : ℕ) → P (get_or (v ∷ vs) i Nil)
+each_field P v vs here rest zero = here
+each_field P v vs here rest (suc i) = rest i
 
-  abbrev name_in : Name → Value → Name
-  name_in d (Ref a) = a
-  name_in d _ = d
+module _ (t o : ℕ) (g : Graph) (made : List (List Sym))
+    (own : (k : ℕ) → k < length made
+    → object_of g (own_name t o k) ≡ record_of t o (get_or made k []))
+  where
+    abbrev blocks : Name → ℕ
+    blocks c = object_blocks Eight (object_of g c)
 
-  inner_of : (made : List (List Sym)) (fs : List Sym) (i : ℕ) (c : Name)
-      → refers_slim made fs ≡ true → get_or (map (value_of t o) fs) i Nil ≡ Ref c → Inner made c
-  inner_of made [] i c s e = absurd cc
-  inner_of made (Own j ∷ fs) zero c s e =
-      let first = and_parts (ltb j (length made) && is_slim (get_or made j [])) (refers_slim made fs) s in
-      let parts = and_parts (ltb j (length made)) (is_slim (get_or made j [])) first.0 in
-      record {
-        index = j;
-        low = ltb-true j (length made) parts.0;
-        slim = parts.1;
-        is = sym (ap (name_in c) e);
-      }
-  inner_of made (Own j ∷ fs) (suc i) c s e =
-      inner_of made fs i c (and_parts (ltb j (length made) && is_slim (get_or made j [])) (refers_slim made fs) s).1 e
-  inner_of made (Empty ∷ fs) zero c s e = absurd cc
-  inner_of made (Empty ∷ fs) (suc i) c s e = inner_of made fs i c s e
-  inner_of made (Number n ∷ fs) zero c s e = absurd cc
-  inner_of made (Number n ∷ fs) (suc i) c s e = inner_of made fs i c s e
+    abbrev values : List Sym → List Value
+    values fs = map (value_of t o) fs
 
-  module _ (g : Graph) (made : List (List Sym))
-      (own : (k : ℕ) → k < length made → object_of g (own_name t o k) ≡ record_of t o (get_or made k []))
-    where
-      abbrev blocks : Name → ℕ
-      blocks c = object_blocks Eight (object_of g c)
+    one_block : (j : ℕ) → j < length made → is_one (get_or made j []) ≡ true
+        → blocks (own_name t o j) ≤ 1
+    one_block j low s = subst (λ (x : Object). object_blocks Eight x ≤ 1) (sym (own j low))
+        (subst (λ (k : ℕ). record_blocks Eight k ≤ 1)
+        (sym (length-map (get_or made j []) (value_of t o)))
+        (leb-true (record_blocks Eight (length (get_or made j []))) 1 s))
 
-      slim_blocks : (j : ℕ) → j < length made → is_slim (get_or made j []) ≡ true
-          → object_blocks Eight (object_of g (own_name t o j)) ≤ 1
-      slim_blocks j low s =
-          let parts = and_parts (all_plain (get_or made j [])) (leb (record_blocks Eight (length (get_or made j []))) 1) s in
-          subst (λ (x : Object). object_blocks Eight x ≤ 1) (sym (own j low))
-          (subst (λ (k : ℕ). record_blocks Eight k ≤ 1) (sym (length-map (get_or made j []) (value_of t o)))
-          (leb-true (record_blocks Eight (length (get_or made j []))) 1 parts.1))
+    -- where a value refers to an object, that refers to none
+    abbrev LeadsTo : Value → Type 0
+    LeadsTo v = (c : Name) → v ≡ Ref c → (q : ℕ) → IsPlain (field_of (object_of g c) q)
 
-      inner_weight : (fs : List Sym) → refers_slim made fs ≡ true
-          → sum_by blocks (refs (map (value_of t o) fs)) + 1 ≤ weight fs
-      inner_weight [] s = omega arith
-      inner_weight (Own j ∷ fs) s =
-          let first = and_parts (ltb j (length made) && is_slim (get_or made j [])) (refers_slim made fs) s in
-          let parts = and_parts (ltb j (length made)) (is_slim (get_or made j [])) first.0 in
-          let rest = inner_weight fs first.1 in
-          let one = slim_blocks j (ltb-true j (length made) parts.0) parts.1 in
-          let split = sum_by-append blocks (own_name t o j ∷ []) (refs (map (value_of t o) fs)) in
-          omega arith
-      inner_weight (Empty ∷ fs) s = inner_weight fs s
-      inner_weight (Number n ∷ fs) s = inner_weight fs s
+    -- so do the fields of an object, and this is what it takes with those to which it refers
+    fields_lead : (fs : List Sym) → refers_slim made fs ≡ true
+        → (sum_by blocks (refs (values fs)) + 1 ≤ weight fs)
+        × ((i : ℕ) → LeadsTo (get_or (values fs) i Nil))
+    fields_lead [] s = (omega arith, λ i c e. absurd cc)
+    fields_lead (Own j ∷ fs) s =
+        let ds : List Sym = get_or made j [] in
+        let parts = and_parts (has_made is_slim made j) (refers_slim made fs) s in
+        let there = and_parts (ltb j (length made)) (is_slim ds) parts.0 in
+        let slim = and_parts (all_plain ds) (is_one ds) there.1 in
+        let low = ltb-true j (length made) there.0 in
+        let rest = fields_lead fs parts.1 in
+        let one = one_block j low slim.1 in
+        let split = sum_by-append blocks (own_name t o j ∷ []) (refs (values fs)) in (
+          omega (arith, rest.0, one, split),
+          each_field LeadsTo (Ref (own_name t o j)) (values fs) (λ c e q.
+              let same : own_name t o j ≡ c = cc in
+              subst (λ (x : Name). IsPlain (field_of (object_of g x) q)) same
+              (subst (λ (x : Object). IsPlain (field_of x q)) (sym (own j low))
+              (plain_fields t o ds slim.0 q))) rest.1,
+        )
+    fields_lead (f ∷ fs) s =
+        let rest = fields_lead fs s in
+        (rest.0, each_field LeadsTo (value_of t o f) (values fs) (λ c e. absurd cc) rest.1)
 
-      pub carries_own : (m k : ℕ) → light_own made m k ≡ true → Carries Eight g (own_name t o k) m
-      carries_own m k s =
-          let fs : List Sym = get_or made k [] in
-          let two = and_parts (ltb k (length made) && leb (record_blocks Eight (length fs)) 1)
-          (refers_slim made fs && leb (weight fs) m) s in
-          let left = and_parts (ltb k (length made)) (leb (record_blocks Eight (length fs)) 1) two.0 in
-          let right = and_parts (refers_slim made fs) (leb (weight fs) m) two.1 in
-          let is : object_of g (own_name t o k) ≡ record_of t o fs =
-          own k (ltb-true k (length made) left.0) in
-          let light = leb-true (weight fs) m right.1 in
-          let sum = inner_weight fs right.0 in
-          let one : object_blocks Eight (object_of g (own_name t o k)) ≤ 1 =
-          subst (λ (x : Object). object_blocks Eight x ≤ 1) (sym is)
-          (subst (λ (j : ℕ). record_blocks Eight j ≤ 1) (sym (length-map fs (value_of t o)))
-          (leb-true (record_blocks Eight (length fs)) 1 left.1)) in
-          record {
-            inner = λ i c e j.
-                let d = inner_of made fs i c right.0 (ap (λ (x : Object). field_of x i) (sym is) ∙ e) in
-                subst (λ (x : Name). IsPlain (field_of (object_of g x) j)) (sym d.is)
-                (subst (λ (x : Object). IsPlain (field_of x j)) (sym (own d.index d.low))
-                (plain_fields (get_or made d.index []) (and_parts (all_plain (get_or made d.index []))
-                (leb (record_blocks Eight (length (get_or made d.index []))) 1) d.slim).0 j));
-            weight =
-                let same : sum_by blocks (refs (object_of g (own_name t o k)).fields)
-                ≡ sum_by blocks (refs (map (value_of t o) fs)) =
-                ap (λ (x : Object). sum_by blocks (refs x.fields)) is in
-                omega arith;
-          }
+    pub carries_own : (m k : ℕ) → light_own made m k ≡ true → Carries Eight g (own_name t o k) m
+    carries_own m k s =
+        let fs : List Sym = get_or made k [] in
+        let there = and_parts (ltb k (length made)) (is_light made m fs) s in
+        let light = and_parts (is_one fs) (refers_slim made fs && leb (weight fs) m) there.1 in
+        let few = and_parts (refers_slim made fs) (leb (weight fs) m) light.1 in
+        let low = ltb-true k (length made) there.0 in
+        let lead = fields_lead fs few.0 in
+        record {
+          inner = λ i c e. lead.1 i c (ap (λ (x : Object). field_of x i) (sym (own k low)) ∙ e);
+          weight = omega (
+            arith,
+            one_block k low light.0,
+            lead.0,
+            leb-true (weight fs) m few.1,
+            ap (λ (x : Object). sum_by blocks (refs x.fields)) (own k low),
+          );
+        }
 
 -- registers from a on
 abbrev pub upto : ℕ → ℕ → List ℕ
@@ -157,7 +145,8 @@ in_upto a (suc k) d low high = elim (cases_eq a d) [
 pub upto_has : (a k d : ℕ) → IsIn d (upto a k) → (a ≤ d) × (d < a + k)
 upto_has a zero d i = absurd i
 upto_has a (suc k) d (inl is) = (omega arith, omega arith)
-upto_has a (suc k) d (inr i) = let u = upto_has (a + 1) k d i in (omega (arith, u.0), omega (arith, u.1))
+upto_has a (suc k) d (inr i) =
+    let u = upto_has (a + 1) k d i in (omega (arith, u.0), omega (arith, u.1))
 
 module _ {Cell K : Type 0} (most : ℕ) (weigh : K → ℕ) where
   abbrev pub light_lasting : ℕ → Lasting Cell K → Bool
@@ -202,7 +191,8 @@ module _ {Op Row Answer Cell K L : Type 0} (a : Table Op Row Answer Cell K L) wh
     pub rows : (t : ℕ) (l : L) (row : Row) (c : Cell) → a.Fits t l row
         → all_light most weigh limit (a.before row c).made (a.before row c).puts ≡ true
 
-  more : (g : Graph) (x : Name) (m k : ℕ) → leb m k ≡ true → Carries Eight g x m → Carries Eight g x k
+  more : (g : Graph) (x : Name) (m k : ℕ) → leb m k ≡ true → Carries Eight g x m
+      → Carries Eight g x k
   more g x m k low c =
       let le = leb-true m k low in record { inner = c.inner; weight = omega (arith, c.weight) }
 
@@ -222,12 +212,10 @@ module _ {Op Row Answer Cell K L : Type 0} (a : Table Op Row Answer Cell K L) wh
         → light_hold w.most w.weigh made m y ≡ true → Meets a (object_of g) out t y v → v ≡ Ref x
         → Carries Eight g x m
     of_hold t m made (Is (Own k)) v x own s p e =
-        subst (λ (z : Name). Carries Eight g z m) (ap (name_in 0 0 x) (sym p ∙ e))
-        (carries_own t (out t) g made own m k s)
-    of_hold t m made (Is Empty) v x own s p e = let bad : Nil ≡ Ref x = sym p ∙ e in absurd cc
-    of_hold t m made (Is (Number i)) v x own s p e =
-        let bad : Int i ≡ Ref x = sym p ∙ e in absurd cc
+        let same : own_name t (out t) k ≡ x = cc in
+        subst (λ (z : Name). Carries Eight g z m) same (carries_own t (out t) g made own m k s)
     of_hold t m made (Has y) v x own s p e = of_lasting m y v x s p e
+    of_hold t m made (Is _) v x own s p e = absurd cc
 
     one_of : (t d : ℕ) (x : Name) → register_of g t d ≡ Ref x
         → Thread a n g out (at t) t
@@ -243,7 +231,8 @@ module _ {Op Row Answer Cell K L : Type 0} (a : Table Op Row Answer Cell K L) wh
     by_register t d x some e =
         let p = (one_of t d x e).place in
         let s : Spot Answer Cell K = spot_of a (at t).todo p.cell in
-        of_hold t (w.limit d) s.made (held (a.rest t p.state) s.puts d) (register_of g t d) x p.spot.own
+        of_hold t (w.limit d) s.made (held (a.rest t p.state) s.puts d) (register_of g t d) x
+        p.spot.own
         (light_held w.most w.weigh w.limit s.made (a.rest t p.state) d (w.rests t p.state d) s.puts
         (light_todo t p.state (at t).todo p.cell p.proper)) (p.spot.regs d some) e
 
@@ -268,7 +257,8 @@ module _ {Op Row Answer Cell K L : Type 0} (a : Table Op Row Answer Cell K L) wh
     pub few : live_blocks Eight g
         ≤ 3 * n + (array_blocks Eight a.size + (a.size * w.most + total w.limit n (upto 1 15)))
     few =
-        let all = few_of Eight n g w.most (upto 1 15) w.limit h.threads (λ t low. (h.each t low).zero)
+        let all = few_of Eight n g w.most (upto 1 15) w.limit h.threads
+        (λ t low. (h.each t low).zero)
         (λ t d x some e. in_upto 1 15 d some (omega (arith, register_low t d x e)))
         by_cell (λ t d x is e. by_register t d x (upto_has 1 15 d is).0 e) in
         let array : object_blocks Eight (object_of g (shared_name n)) ≡ array_blocks Eight a.size =

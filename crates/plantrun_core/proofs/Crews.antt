@@ -3,7 +3,7 @@ use Rattle.std.proofs.Common.{◌≡◌, ◌∙◌, ℕ, zero, suc, ◌<◌, Lis
 use Rattle.std.specs.Prelude.{remove}
 use Rattle.block_store.specs.declared.Config.{Config}
 use Rattle.shared_heap.specs.Workers.{HeapState}
-use Rattle.plantrun_core.specs.Ends.{IsWorker}
+use Rattle.plantrun_core.specs.Crews.{IsWorker}
 use Rattle.live_tags.specs.Live.{AreEachOnce, AreInOrder, AreFresh, HasWorker, IsFresh, IsOf, TagWorkerState, opened_config}
 
 -- four workers, by their threads, are all workers of a table with four

@@ -2,5 +2,10 @@ pub mod Laws
 pub mod Alarms
 pub mod Logs
 pub mod Roles
-pub mod Ends
+pub mod Readings
+pub mod Refusals
+pub mod Works
+pub mod Crews
+pub mod Orders
 pub mod Texts
+pub mod Exits

@@ -1,14 +1,13 @@
 -- What each thread does at a time, by its log.
-use Rattle.std.specs.Prelude.{ℕ, ◌+◌, ◌*◌, ◌%◌, ◌≡◌, ◌≤◌, ◌++◌, min, ◌^◌, ◌-◌, List, [], ◌∷◌, Option, Some, None, Bool, true, false, if◌then◌else◌}
+use Rattle.std.specs.Prelude.{ℕ, zero, suc, ◌+◌, ◌*◌, ◌/◌, ◌%◌, ◌≡◌, ◌==◌, ◌≤◌, ◌++◌, min, ◌^◌, ◌-◌, List, [], ◌∷◌, Option, Some, None, Bool, true, false, if◌then◌else◌}
 use Rattle.tag_table.specs.declared.operation.Operation.{Operation}
 use Rattle.tag_table.specs.declared.operation.Operation.TheVariants.{Write, Read}
 use Rattle.tag_table.specs.Tables.{Tag}
 use Rattle.plantrun_core.specs.declared.calls.Done.{Done}
 use Rattle.plantrun_core.specs.declared.alarms.Limits.{Limits}
 use Rattle.plantrun_core.specs.declared.law.Loop.{Loop}
-use Rattle.plantrun_core.specs.declared.readings.Reading.{Reading}
 use Rattle.plantrun_core.specs.declared.roles.Role.{Role}
-use Rattle.plantrun_core.specs.declared.roles.Role.TheVariants.{Control}
+use Rattle.plantrun_core.specs.declared.roles.Role.TheVariants.{Control, Alarms, History}
 use Rattle.plantrun_core.specs.Laws.{value_of, loop_after}
 use Rattle.plantrun_core.specs.Alarms.{move_of, act_of}
 
@@ -60,12 +59,57 @@ pub record HasKept (number : ℕ) (old new : List Done) : Type 0 where
   pub replaced : Tag
   pub log : new ≡ old ++ did (Read 0) measured ∷ put_in_ring number measured replaced
 
--- a reading was written into its tag
-pub record HasPut (r : Reading) (number : ℕ) (old new : List Done) : Type 0 where
-  pub replaced : Tag
-  pub log : new ≡ old ++ did (Write r.tag r.value (word number r.good)) replaced ∷ []
-
--- the integral of a controller is in its range
+-- the integral and the output of a controller are in their ranges
 abbrev pub IsFine : Role → Type 0
-IsFine (Control l) = l.integral ≤ 16384000
+IsFine (Control l) = (l.integral ≤ 16384000) × (l.output ≤ 1000)
 IsFine _ = Unit {0}
+
+-- the limits of alarm i, of which there are four
+abbrev pub limits_of : ℕ → Limits
+limits_of zero = record { low = 100000; high = 900000; dead = 20000 }
+limits_of (suc zero) = record { low = 200000; high = 700000; dead = 10000 }
+limits_of (suc (suc zero)) = record { low = 0; high = 800000; dead = 30000 }
+limits_of (suc (suc (suc n))) = record { low = 50000; high = 950000; dead = 5000 }
+
+-- the first so many alarms were scanned, one after the other
+abbrev pub HasScannedTo : ℕ → List Done → List Done → Type 0
+HasScannedTo zero old new = new ≡ old
+HasScannedTo (suc i) old new =
+    (mid : List Done) × HasScannedTo i old mid × HasScanned (limits_of i) i mid new
+
+-- all four alarms were scanned, if this is a tick for it
+abbrev pub HasWatched : Bool → List Done → List Done → Type 0
+HasWatched true old new = HasScannedTo 4 old new
+HasWatched false old new = new ≡ old
+
+-- a reading with this number was kept, if this is a tick for it
+abbrev pub HasRecorded : Bool → ℕ → List Done → List Done → Type 0
+HasRecorded true number old new = HasKept number old new
+HasRecorded false number old new = new ≡ old
+
+-- What a role adds to its log at a tick, and what it is for the next. Alarms are scanned and readings
+-- are kept at each fifth tick.
+abbrev pub HasTicked : Role → ℕ → List Done → List Done → Role → Type 0
+HasTicked (Control before) tick old new role =
+    (after : Loop) × HasControlled before tick old new after × (role ≡ Control after)
+HasTicked Alarms tick old new role = HasWatched (tick % 5 == 0) old new × (role ≡ Alarms)
+HasTicked History tick old new role =
+    HasRecorded (tick % 5 == 0) (tick / 5) old new × (role ≡ History)
+
+-- the log of a role after its first n ticks: what each of them added, one after the other
+abbrev pub AfterTicks : Role → ℕ → List Done → Role → Type 0
+AfterTicks first zero log role = (log ≡ []) × (role ≡ first)
+AfterTicks first (suc n) log role =
+    (old : List Done) × (before : Role) × AfterTicks first n old before
+    × HasTicked before n old log role
+
+-- the first so many places of the ring were read
+abbrev pub HasReread : ℕ → List Done → List Done → Type 0
+HasReread zero old new = new ≡ old
+HasReread (suc k) old new =
+    (mid : List Done) × (tag : Tag) × HasReread k old mid
+    × (new ≡ mid ++ did (Read (14 + k)) tag ∷ [])
+
+-- the controller before its first tick: its output is closed
+abbrev pub closed : Role
+closed = Control (record { integral = 0; output = 0 })

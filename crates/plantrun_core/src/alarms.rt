@@ -2,6 +2,7 @@
 
 ghost use Rattle.std.specs.Prelude.{◌≡◌, ◌<◌};
 ghost use Rattle.plantrun_core.specs.Alarms as alarms;
+ghost use Rattle.plantrun_core.specs.Roles as roles;
 
 use crate::law::value_of;
 use crate::places::{ALARMS, LISTED};
@@ -16,29 +17,23 @@ pub struct Limits {
     pub dead: u64,
 }
 
-/// The limits of the four sensors.
-pub const LIMITS: [Limits; ALARMS as usize] = [
-    Limits {
-        low: 100_000,
-        high: 900_000,
-        dead: 20_000,
-    },
-    Limits {
-        low: 200_000,
-        high: 700_000,
-        dead: 10_000,
-    },
-    Limits {
-        low: 0,
-        high: 800_000,
-        dead: 30_000,
-    },
-    Limits {
-        low: 50_000,
-        high: 950_000,
-        dead: 5_000,
-    },
-];
+/// The limits of a sensor, 0 to 3.
+pub fn limits_of(sensor: u32) -> Limits
+    ensures { result ≡ roles.limits_of sensor }
+{
+    match sensor {
+        0 => bounds(100_000, 900_000, 20_000),
+        1 => bounds(200_000, 700_000, 10_000),
+        2 => bounds(0, 800_000, 30_000),
+        _ => bounds(50_000, 950_000, 5_000),
+    }
+}
+
+fn bounds(low: u64, high: u64, dead: u64) -> Limits
+    ensures { result ≡ record { low = low; high = high; dead = dead } }
+{
+    Limits { low, high, dead }
+}
 
 /// What is done in the alarm list.
 #[derive(Clone, Copy, Debug, PartialEq, Eq)]

@@ -1,22 +1,30 @@
 //! The table with its four workers: how it is opened, used and closed.
+#![tactic(auto, using(live_tags::proofs::Crews::same_first, live_tags::proofs::Crews::same_then, live_tags::proofs::Crews::of_same))]
 
-ghost use Rattle.std.specs.Prelude.{◌≡◌, ◌≤◌, ◌∷◌, [], length, IfOk};
+ghost use Rattle.std.specs.Prelude.{ℕ, List, Option, ◌≡◌, ◌+◌, ◌≤◌, ◌∷◌, [], length, false, IfSome};
 ghost use Rattle.std.specs.Vec.{vec_capacity};
 ghost use Rattle.live_tags.specs.Live.{AreFresh, AreInOrder, HaveOneTable, IsFresh, IsOf, IsSameWorker, opened_config};
-ghost use Rattle.plantrun_core.specs.Ends.{HasPlant, IsCrew, IsWorker};
+ghost use Rattle.plantrun_core.specs.Crews as ends;
+ghost use Rattle.plantrun_core.specs.Crews.{AreAtWork, AreOfTable, AreTheirs, HasLogs, HaveEnded, HaveGone, IsCrew, IsGone, IsNew, IsPlantOf, IsWorker};
+ghost use Rattle.plantrun_core.specs.Readings.{room};
+ghost use Rattle.plantrun_core.specs.Roles.{IsFine};
+ghost use Rattle.plantrun_core.specs.Works.{CountsInput, HasGone, HasInput, IsAtWork, first_of, most_in};
 
 use crate::calls::Logs;
 use crate::clock::Ticks;
 use crate::hand::Hand;
+use crate::input::reads_or_halts;
+use crate::law::Loop;
 use crate::places::{PLACES, RING};
-use crate::roles::{Role, first_control, reads, rereads, works};
+use crate::roles::Role;
 use crate::stops::Stop;
 use crate::telling::Figures;
+use crate::work::{Work, rereads, works};
 use live_tags::{LiveTags, TagWorker};
 use std::alloc::Global;
 use std::sync::Wait;
 use std::sync::atomic::AtomicU64;
-use std::thread::{Threads, join};
+use std::thread::{Threads, join_mut};
 use std::time::Clock;
 use trace_text::Source;
 
@@ -29,6 +37,29 @@ pub(crate) struct Crew {
     pub(crate) history: Hand,
 }
 
+/// The threads that work at ticks.
+#[derive(Drop)]
+pub(crate) struct Works {
+    pub(crate) control: Work,
+    pub(crate) alarms: Work,
+    pub(crate) history: Work,
+}
+
+/// The threads when each has ended or was halted, and why the input ended, if not at its end.
+#[derive(Drop)]
+pub(crate) struct Ends {
+    pub(crate) input: Hand,
+    pub(crate) stop: Option<Stop>,
+    pub(crate) works: Works,
+}
+
+/// The hands of a plant that has ended, and why it stopped, if it did.
+#[derive(Drop)]
+pub(crate) struct Gone {
+    pub(crate) crew: Crew,
+    pub(crate) stop: Option<Stop>,
+}
+
 /// What is left of a plant: what its threads did, how many cycles of collection were started, and
 /// the figures of each thread.
 #[derive(Drop)]
@@ -39,25 +70,20 @@ pub struct Closed {
 }
 
 /// A worker that has done nothing, with room in its log for so many operations.
-fn hand_of(
-    alloc: Global,
-    _table: &LiveTags,
-    thread: u32,
-    who: TagWorker,
-    room: u64,
-) -> Result<Hand, Stop>
+fn hand_of(alloc: Global, _table: &LiveTags, thread: u32, who: TagWorker, most: u64) -> Option<Hand>
     requires own { IsWorker _table.now thread who }
     requires fresh { IsFresh who }
-    ensures { IfOk result (λ h. IsWorker _table.now thread h.who) }
+    ensures worker { IfSome result (λ h. IsWorker _table.now thread h.who) }
+    ensures none { IfSome result (λ h. h.calls.items ≡ []) }
+    ensures room { IfSome result (λ h. most ≤ vec_capacity h.calls) }
 {
-    let Ok(calls) = Vec::with_capacity(alloc, room as usize) else {
-        return Err(Stop::NoMemory);
+    let Ok(calls) = Vec::with_capacity(alloc, most as usize) else {
+        return None;
     };
-    Ok(Hand {
+    Some(Hand {
         who,
         calls,
         figures: Figures::none(thread),
-        stop: None,
     })
 }
 
@@ -89,57 +115,82 @@ fn workers_of(
     four_of(workers)
 }
 
+/// A new table, its crew, and a vector with room for its workers.
+#[derive(Drop)]
+pub(crate) struct Opened {
+    pub(crate) table: LiveTags,
+    pub(crate) crew: Crew,
+    pub(crate) room: Vec<TagWorker>,
+}
+
 /// Opens a table with its four workers, for so many ticks. All memory of the run is taken here.
-pub(crate) fn opened(alloc: Global, ticks: u64) -> Result<(LiveTags, Crew), Stop>
+/// `None` if there is too little.
+pub(crate) fn new_table(alloc: Global, ticks: u64) -> Option<Opened>
     requires { ticks ≤ 1048576 }
-    ensures config { IfOk result (λ r. r.0.config ≡ opened_config 4 48) }
-    ensures crew { IfOk result (λ r. IsCrew r.0 r.1) }
+    ensures config { IfSome result (λ r. r.table.config ≡ opened_config 4 48) }
+    ensures crew { IfSome result (λ r. IsCrew r.table r.crew) }
+    ensures fresh { IfSome result (λ r. IsNew ticks r.crew) }
+    ensures none { IfSome result (λ r. r.room.items ≡ []) }
+    ensures room { IfSome result (λ r. 4 ≤ vec_capacity r.room) }
 {
     let Ok((table, workers)) = LiveTags::open(alloc, PLACES, 4) else {
-        return Err(Stop::NoMemory);
+        return None;
     };
-    let (input, control, alarms, history) = workers_of(&table, workers);
-    let input = hand_of(alloc, &table, 0, input, 2 * ticks + 64)?;
-    let control = hand_of(alloc, &table, 1, control, 3 * ticks)?;
-    let alarms = hand_of(alloc, &table, 2, alarms, 4 * ticks + 16)?;
-    let history = hand_of(alloc, &table, 3, history, ticks + u64::from(RING) + 2)?;
-    let crew = Crew {
+    let crew = crew_of(alloc, &table, workers, ticks)?;
+    let Ok(room) = Vec::with_capacity(alloc, 4) else {
+        return None;
+    };
+    Some(Opened { table, crew, room })
+}
+
+/// The crew of a new table. `None` if there is no memory for its logs.
+fn crew_of(alloc: Global, table: &LiveTags, workers: Vec<TagWorker>, ticks: u64) -> Option<Crew>
+    requires config { table.now.config ≡ opened_config 4 48 }
+    requires order { AreInOrder table.now workers.items }
+    requires fresh { AreFresh workers.items }
+    requires ticks { ticks ≤ 1048576 }
+    ensures crew { IfSome result (λ c. IsCrew table.now c) }
+    ensures fresh { IfSome result (λ c. IsNew ticks c) }
+{
+    let (input, control, alarms, history) = workers_of(table, workers);
+    let input = hand_of(alloc, table, 0, input, 2 * ticks + 64)?;
+    let control = hand_of(alloc, table, 1, control, 3 * ticks)?;
+    let alarms = hand_of(alloc, table, 2, alarms, 4 * ticks + 16)?;
+    let history = hand_of(alloc, table, 3, history, ticks + u64::from(RING) + 2)?;
+    Some(Crew {
         input,
         control,
         alarms,
         history,
-    };
-    Ok((table, crew))
+    })
 }
 
-/// Runs the three threads that work at ticks.
-fn at_ticks<R: Threads + Wait + Clock + Sync>(
-    rt: &R,
-    table: &LiveTags,
-    ticks: Ticks,
-    halt: &AtomicU64,
-    hands: (Hand, Hand, Hand),
-) -> (Hand, Hand, Hand)
-    requires control { IsOf table.now hands.0.who }
-    requires alarms { IsOf table.now hands.1.who }
-    requires history { IsOf table.now hands.2.who }
-    ensures control { IsSameWorker hands.0.who result.0.who }
-    ensures alarms { IsSameWorker hands.1.who result.1.who }
-    ensures history { IsSameWorker hands.2.who result.2.who }
+/// A hand before its first tick.
+fn before_ticks(hand: Hand, role: Role, _ticks: u64) -> Work
+    requires none { hand.calls.items ≡ [] }
+    requires first { first_of role ≡ role }
+    requires fine { IsFine role }
+    requires room { most_in role _ticks ≤ vec_capacity hand.calls }
+    ensures work { IsAtWork _ticks result }
+    ensures role { result.role ≡ role }
+    ensures hand { result.hand ≡ hand }
 {
-    let (control, alarms, history) = hands;
-    let (control, (alarms, history)) = join(
-        rt,
-        || -> Hand
-            requires { IsOf table.now control.who }
-            ensures { IsSameWorker control.who result.who }
-        { works(rt, table, ticks, halt, first_control(), control) },
-        || -> (Hand, Hand)
-            requires { IsOf table.now alarms.who × IsOf table.now history.who }
-            ensures { IsSameWorker alarms.who result.0.who × IsSameWorker history.who result.1.who }
-        { both(rt, table, ticks, halt, alarms, history) },
-    );
-    (control, alarms, history)
+    Work {
+        hand,
+        role,
+        ticks: 0,
+        spent: false,
+    }
+}
+
+/// Runs a thread until it ends or is halted.
+fn shift<R: Wait + Clock>(rt: &R, table: &LiveTags, ticks: Ticks, halt: &AtomicU64, work: &mut Work)
+    requires own { IsOf table.now work.old.hand.who }
+    requires count { ticks.count ≤ 1048576 }
+    requires work { IsAtWork ticks.count work.old }
+    ensures { HasGone ticks.count work.old work.new }
+{
+    works(rt, table, ticks, Some(halt), work);
 }
 
 /// Runs the alarms and the history.
@@ -148,37 +199,101 @@ fn both<R: Threads + Wait + Clock + Sync>(
     table: &LiveTags,
     ticks: Ticks,
     halt: &AtomicU64,
-    alarms: Hand,
-    history: Hand,
-) -> (Hand, Hand)
-    requires alarms { IsOf table.now alarms.who }
-    requires history { IsOf table.now history.who }
-    ensures alarms { IsSameWorker alarms.who result.0.who }
-    ensures history { IsSameWorker history.who result.1.who }
+    alarms: &mut Work,
+    history: &mut Work,
+)
+    requires own { IsOf table.now alarms.old.hand.who × IsOf table.now history.old.hand.who }
+    requires count { ticks.count ≤ 1048576 }
+    requires at { IsAtWork ticks.count alarms.old × IsAtWork ticks.count history.old }
+    ensures alarms { HasGone ticks.count alarms.old alarms.new }
+    ensures history { HasGone ticks.count history.old history.new }
 {
-    join(
+    join_mut(
         rt,
-        || -> Hand
-            requires { IsOf table.now alarms.who }
-            ensures { IsSameWorker alarms.who result.who }
-        { works(rt, table, ticks, halt, Role::Alarms, alarms) },
-        || -> Hand
-            requires { IsOf table.now history.who }
-            ensures { IsSameWorker history.who result.who }
-        { works(rt, table, ticks, halt, Role::History, history) },
-    )
+        &mut || shift(rt, table, ticks, halt, alarms),
+        &mut || shift(rt, table, ticks, halt, history),
+    );
 }
 
-/// Runs all four threads to their ends, and then reads the ring.
+/// Runs the three threads that work at ticks.
+fn at_ticks<R: Threads + Wait + Clock + Sync>(
+    rt: &R,
+    table: &LiveTags,
+    ticks: Ticks,
+    halt: &AtomicU64,
+    works: &mut Works,
+)
+    requires own { AreOfTable table.now works.old }
+    requires count { ticks.count ≤ 1048576 }
+    requires at { AreAtWork ticks.count works.old }
+    ensures { HaveGone ticks.count works.old works.new }
+{
+    let Works {
+        control,
+        alarms,
+        history,
+    } = works;
+    join_mut(
+        rt,
+        &mut || shift(rt, table, ticks, halt, control),
+        &mut ||
+            requires { (IsOf table.now alarms.now.hand.who × IsOf table.now history.now.hand.who)
+                × (ticks.count ≤ 1048576)
+                × (IsAtWork ticks.count alarms.now × IsAtWork ticks.count history.now) }
+        { both(rt, table, ticks, halt, alarms, history) },
+    );
+}
+
+/// Runs all four threads, until each has ended or was halted. Returns why the input ended, if not
+/// at its end.
+fn together<R: Threads + Wait + Clock + Sync, S: Source>(
+    rt: &R,
+    table: &LiveTags,
+    ticks: Ticks,
+    source: &mut S,
+    works: &mut Works,
+    input: &mut Hand,
+) -> Option<Stop>
+    requires own { AreOfTable table.now works.old }
+    requires input { IsOf table.now input.old.who }
+    requires count { ticks.count ≤ 1048576 }
+    requires at { AreAtWork ticks.count works.old }
+    requires fresh { input.old.calls.items ≡ [] }
+    requires room { room ticks.count ≤ vec_capacity input.old.calls }
+    ensures works { HaveGone ticks.count works.old works.new }
+    ensures same { IsSameWorker input.old.who input.new.who }
+    ensures input { HasInput ticks.count (S.left source.old) (S.left source.new) input.new result }
+    ensures counted { CountsInput (S.faults source.old) (S.faults source.new) result }
+{
+    let halt = AtomicU64::new(0);
+    let halt = &halt;
+    let ((), stop) = join_mut(
+        rt,
+        &mut ||
+            requires { AreOfTable table.now works.now × (ticks.count ≤ 1048576)
+                × AreAtWork ticks.count works.now }
+        { at_ticks(rt, table, ticks, halt, works) },
+        &mut || reads_or_halts(rt, table, ticks, halt, source, input),
+    );
+    stop
+}
+
+/// Runs all four threads, until each has ended or was halted.
 pub(crate) fn ran<R: Threads + Wait + Clock + Sync, S: Source>(
     rt: &R,
     table: &LiveTags,
     ticks: Ticks,
     source: &mut S,
     crew: Crew,
-) -> Crew
-    requires { IsCrew table.now crew }
-    ensures { IsCrew table.now result }
+) -> Ends
+    requires crew { IsCrew table.now crew }
+    requires fresh { IsNew ticks.count crew }
+    requires count { ticks.count ≤ 1048576 }
+    ensures crew { AreTheirs table.now result }
+    ensures ends { HaveEnded ticks.count result.works }
+    ensures input { HasInput ticks.count (S.left source.old) (S.left source.new)
+        result.input result.stop }
+    ensures counted { CountsInput (S.faults source.old) (S.faults source.new) result.stop }
 {
     let Crew {
         input,
@@ -186,44 +301,81 @@ pub(crate) fn ran<R: Threads + Wait + Clock + Sync, S: Source>(
         alarms,
         history,
     } = crew;
-    let halt = AtomicU64::new(0);
-    let halt = &halt;
-    let hands = (control, alarms, history);
-    let ((control, alarms, history), input) = join(
-        rt,
-        || -> (Hand, Hand, Hand)
-            requires { IsOf table.now hands.0.who × IsOf table.now hands.1.who
-                × IsOf table.now hands.2.who }
-            ensures { IsSameWorker hands.0.who result.0.who
-                × IsSameWorker hands.1.who result.1.who × IsSameWorker hands.2.who result.2.who }
-        { at_ticks(rt, table, ticks, halt, hands) },
-        || -> Hand
-            requires { IsOf table.now input.who }
-            ensures { IsSameWorker input.who result.who }
-        { reads(rt, table, ticks, halt, source, input) },
-    );
-    Crew {
-        input,
-        control,
-        alarms,
-        history: rereads(rt, table, history),
+    let mut input = input;
+    let mut works = Works {
+        control: before_ticks(control, Role::Control(Loop::first()), ticks.count),
+        alarms: before_ticks(alarms, Role::Alarms, ticks.count),
+        history: before_ticks(history, Role::History, ticks.count),
+    };
+    let stop = together(rt, table, ticks, source, &mut works, &mut input);
+    Ends { input, stop, works }
+}
+
+/// Why a plant stops, if one of the threads at ticks was refused an operation.
+fn stop_by(control: bool, alarms: bool, history: bool) -> Option<Stop>
+    ensures { result ≡ ends.stop_by control alarms history }
+{
+    match (control, alarms, history) {
+        (false, false, false) => None,
+        _ => Some(Stop::Refused),
     }
 }
 
-impl Crew {
-    /// Why one of the threads stopped before its end, if one did.
-    pub(crate) fn stop(&self) -> Option<Stop> {
-        if self.input.stop.is_some() {
-            return self.input.stop;
-        }
-        if self.control.stop.is_some() {
-            return self.control.stop;
-        }
-        if self.alarms.stop.is_some() {
-            return self.alarms.stop;
-        }
-        self.history.stop
+/// Lets each thread do what is left of its ticks, if the input was taken to its end, and then reads
+/// the ring. Nothing is left unless the plant was halted, which the input does only where it stops.
+pub(crate) fn finished<R: Wait + Clock>(rt: &R, table: &LiveTags, ticks: Ticks, ends: Ends) -> Gone
+    requires crew { AreTheirs table.now ends }
+    requires count { ticks.count ≤ 1048576 }
+    requires ends { HaveEnded ticks.count ends.works }
+    ensures crew { IsCrew table.now result.crew }
+    ensures gone { (all left : Option (List ℕ)) → HasInput ticks.count all left ends.input ends.stop
+        → IsGone ticks.count all left result.crew result.stop }
+    ensures counted { (old new : ℕ) → CountsInput old new ends.stop
+        → CountsInput old new result.stop }
+{
+    let Ends { input, stop, works } = ends;
+    let Works {
+        control,
+        alarms,
+        history,
+    } = works;
+    if stop.is_some() {
+        return Gone {
+            crew: Crew {
+                input,
+                control: control.hand,
+                alarms: alarms.hand,
+                history: history.hand,
+            },
+            stop,
+        };
     }
+    let control = finishes(rt, table, ticks, control);
+    let alarms = finishes(rt, table, ticks, alarms);
+    let history = rereads(rt, table, ticks.count, finishes(rt, table, ticks, history));
+    let stop = stop_by(control.spent, alarms.spent, history.spent);
+    Gone {
+        crew: Crew {
+            input,
+            control: control.hand,
+            alarms: alarms.hand,
+            history: history.hand,
+        },
+        stop,
+    }
+}
+
+/// Lets a thread do what is left of its ticks.
+fn finishes<R: Wait + Clock>(rt: &R, table: &LiveTags, ticks: Ticks, work: Work) -> Work
+    requires own { IsOf table.now work.hand.who }
+    requires count { ticks.count ≤ 1048576 }
+    requires work { IsAtWork ticks.count work }
+    ensures gone { HasGone ticks.count work result }
+    ensures whole { result.spent ≡ false → result.ticks ≡ ticks.count }
+{
+    let mut work = work;
+    works(rt, table, ticks, None, &mut work);
+    work
 }
 
 /// Closes a table with its four workers. The vector has room for them.
@@ -251,15 +403,15 @@ fn close_all(
     table.close(workers)
 }
 
-/// Takes the workers and the logs apart, and closes the table.
-pub(crate) fn taken_apart(alloc: Global, table: LiveTags, crew: Crew) -> Result<Closed, Stop>
+/// Takes the workers and the logs apart, and closes the table. The vector has room for the workers.
+pub(crate) fn taken_apart(table: LiveTags, room: Vec<TagWorker>, crew: Crew) -> Closed
     requires config { table.config ≡ opened_config 4 48 }
+    requires room { (room.items ≡ []) × (4 ≤ vec_capacity room) }
     requires crew { IsCrew table crew }
-    ensures { IfOk result (λ r. HasPlant r.logs r.cycles) }
+    ensures plant { IsPlantOf crew.input.who crew.control.who crew.alarms.who crew.history.who
+        result.logs result.cycles }
+    ensures logs { HasLogs crew result.logs }
 {
-    let Ok(room) = Vec::with_capacity(alloc, 4) else {
-        return Err(Stop::NoMemory);
-    };
     let Crew {
         input,
         control,
@@ -273,7 +425,7 @@ pub(crate) fn taken_apart(alloc: Global, table: LiveTags, crew: Crew) -> Result<
         history.figures,
     ];
     let cycles = close_all(table, room, input.who, control.who, alarms.who, history.who);
-    Ok(Closed {
+    Closed {
         logs: Logs {
             input: input.calls,
             control: control.calls,
@@ -282,5 +434,5 @@ pub(crate) fn taken_apart(alloc: Global, table: LiveTags, crew: Crew) -> Result<
         },
         cycles,
         figures,
-    })
+    }
 }

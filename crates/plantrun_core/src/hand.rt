@@ -1,12 +1,14 @@
 //! A worker of the table with a log of what it did.
 
-ghost use Rattle.std.specs.Prelude.{◌≡◌, ◌∷◌, ◌++◌, [], IfOk, OnErr};
-ghost use Rattle.live_tags.specs.Live.{HasDone, IsOf, IsSameWorker};
+ghost use Rattle.std.specs.Prelude.{◌≡◌, ◌<◌, ◌∷◌, ◌++◌, [], length, IfErr, IfOk, OnErr, OnOk};
+ghost use Rattle.std.specs.Vec.{vec_capacity};
+ghost use Rattle.tag_table.specs.Tables.{IsOperationInRange};
+ghost use Rattle.live_tags.specs.Live.{CanDo, HasDone, IsOf, IsRefused, IsSameWorker, places_of};
 ghost use Rattle.plantrun_core.specs.Logs.{IsLog};
+ghost use Rattle.plantrun_core.specs.Refusals.{AreFitting, AreInRange, IsRefusedAfter};
 
 use crate::calls::Done;
 use crate::clock::nanoseconds;
-use crate::stops::Stop;
 use crate::telling::Figures;
 use live_tags::{LiveTags, Refused, TagWorker};
 use std::sync::Wait;
@@ -19,10 +21,13 @@ pub(crate) struct Hand {
     pub(crate) who: TagWorker,
     pub(crate) calls: Vec<Done>,
     pub(crate) figures: Figures,
-    /// Why it ended before the last tick.
-    pub(crate) stop: Option<Stop>,
     pub(crate) ghost told: { IsLog who calls.items },
+    pub(crate) ghost ranges: { places_of who ≡ 48 → AreInRange calls.items },
 }
+
+/// Why a thread ends before its last tick: the table refused it an operation.
+#[derive(Clone, Copy)]
+pub(crate) struct Spent;
 
 /// Does an operation.
 fn ask<R: Wait>(
@@ -33,7 +38,9 @@ fn ask<R: Wait>(
 ) -> Result<Option<(u64, u64)>, Refused>
     requires { IsOf table.now who.old }
     ensures same { IsSameWorker who.old who.new }
+    ensures can { OnOk result (CanDo who.old op) }
     ensures did { IfOk result (λ tag. HasDone who.old op tag who.new) }
+    ensures refused { IfErr result (IsRefused who.old op) }
     ensures unchanged { OnErr result (who.new ≡ who.old) }
 {
     match op {
@@ -48,25 +55,27 @@ fn ask<R: Wait>(
 }
 
 impl Hand {
-    /// Does an operation, and logs it. The log does not grow: at its end the operation is not done.
+    /// Does an operation, and logs it. The log has room for it.
     pub(crate) fn does<R: Wait + Clock>(
         &mut self,
         rt: &R,
         table: &LiveTags,
         op: Operation,
-    ) -> Result<Option<(u64, u64)>, Stop>
-        requires { IsOf table.now self.old.who }
+    ) -> Result<Option<(u64, u64)>, Spent>
+        requires own { IsOf table.now self.old.who }
+        requires room { length self.old.calls.items < vec_capacity self.old.calls }
+        requires fits { AreFitting self.old.calls.items → IsOperationInRange 48 op }
         ensures same { IsSameWorker self.old.who self.new.who }
+        ensures capacity { vec_capacity self.new.calls ≡ vec_capacity self.old.calls }
         ensures did { IfOk result (λ tag. self.new.calls.items
             ≡ self.old.calls.items ++ record { operation = op; answer = tag } ∷ []) }
+        ensures refused { OnErr result (IsRefusedAfter self.new.who self.new.calls.items) }
         ensures unchanged { OnErr result (self.new.calls.items ≡ self.old.calls.items) }
     {
-        if self.calls.len() >= self.calls.capacity() {
-            return Err(Stop::TooMany);
-        }
         let began = nanoseconds(rt);
-        let Ok(answer) = ask(rt, table, &mut self.who, op) else {
-            return Err(Stop::Refused);
+        let answer = match ask(rt, table, &mut self.who, op) {
+            Ok(answer) => answer,
+            Err(_) => return Err(Spent),
         };
         let took = nanoseconds(rt).saturating_sub(began);
         self.figures.longest = self.figures.longest.max(took);
@@ -77,16 +86,10 @@ impl Hand {
         Ok(answer)
     }
 
-    /// Notes why it ends before the last tick.
-    pub(crate) fn ends_by(&mut self, stop: Stop)
-        ensures { self.new.who ≡ self.old.who }
-    {
-        self.stop = Some(stop);
-    }
-
     /// Counts a tick that ended now, or a reading that was written.
     pub(crate) fn counts(&mut self, now: u64, next: u64)
-        ensures { self.new.who ≡ self.old.who }
+        ensures who { self.new.who ≡ self.old.who }
+        ensures calls { self.new.calls ≡ self.old.calls }
     {
         self.figures.end(now, next);
     }

@@ -42,6 +42,16 @@ pub fn value_of(tag: Option<(u64, u64)>) -> Option<u64>
 }
 
 impl Loop {
+    /// The state before the first tick: the output is closed.
+    pub fn first() -> Loop
+        ensures { result ≡ record { integral = 0; output = 0 } }
+    {
+        Loop {
+            integral: 0,
+            output: 0,
+        }
+    }
+
     /// The state after a tick at which the measured tag and the set point were these. Where one of
     /// them is missing or bad, nothing changes.
     pub fn after(self, measured: Option<u64>, set: Option<u64>) -> Loop
@@ -50,6 +60,7 @@ impl Loop {
         requires integral { self.integral ≤ MOST }
         ensures law { result ≡ laws.loop_after self measured set }
         ensures integral { result.integral ≤ MOST }
+        ensures output { self.output ≤ FULL → result.output ≤ FULL }
     {
         match (measured, set) {
             (Some(measured), Some(set)) => self.driven(measured, set),
@@ -64,6 +75,7 @@ impl Loop {
         requires integral { self.integral ≤ MOST }
         ensures law { result ≡ laws.driven self measured set }
         ensures integral { result.integral ≤ MOST }
+        ensures output { result.output ≤ FULL }
     {
         let output = output_of(set, measured, self.integral);
         Loop {

@@ -6,22 +6,25 @@ mod calls;
 mod clock;
 mod crew;
 mod hand;
+mod input;
 mod law;
 mod order;
 mod places;
+mod plans;
 mod readings;
 mod roles;
-mod search;
 mod stops;
 mod telling;
 #[cfg(test)]
 mod tests;
 mod top;
+mod work;
 
 pub use alarms::{Limits, Move, move_of};
 pub use calls::{Done, Logs, Step};
 pub use law::{Loop, output_of};
+pub use plans::{Plan, plan_of};
 pub use readings::{Reading, reading_of};
 pub use stops::Stop;
 pub use telling::Figures;
-pub use top::{Ended, Plan, PlantExit, plan_of, plant, plant_with_status};
+pub use top::{Ended, PlantExit, plant, plant_with_status};

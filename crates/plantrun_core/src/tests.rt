@@ -1,10 +1,11 @@
 //! What no clause says.
 
-use crate::alarms::{LIMITS, Move, move_of};
+use crate::alarms::{Move, limits_of, move_of};
 use crate::clock::nanoseconds;
 use crate::law::Loop;
+use crate::plans::Plan;
 use crate::readings::{Reading, reading_of};
-use crate::top::{Plan, plant};
+use crate::top::plant;
 use std::test::Fail;
 use trace_text::MemSource;
 
@@ -51,7 +52,7 @@ fn the_output_is_clamped_and_does_not_wind_up(rt: HostRuntime) {
 
 #[test]
 fn an_alarm_goes_its_way(rt: HostRuntime) {
-    let limits = &LIMITS[0];
+    let limits = &limits_of(0);
     let high = Some((950_000, 3));
     let low = Some((500_000, 5));
     assert_eq!(rt; move_of(limits, None, low, None), Move::Stay);

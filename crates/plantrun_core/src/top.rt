@@ -1,31 +1,28 @@
 //! The top call: it alone starts threads and waits.
 
-ghost use Rattle.std.specs.Prelude.{◌≡◌, ◌≢◌, ◌≤◌, IfOk, IfSome, IsNone, OnOk, OnErr};
+ghost use Rattle.std.specs.Prelude.{ℕ, ◌≡◌, ◌≢◌, ◌≤◌, None, IfErr, IfOk, IfSome, IsNone, OnOk, OnErr, map, string_bytes};
+ghost use Rattle.tag_table.specs.Tables.{empty_table};
 ghost use Rattle.trace_text.specs.Streams.{Appends, AppendsPrefix};
-ghost use Rattle.plantrun_core.specs.Ends.{HasPlant};
+ghost use Rattle.plantrun_core.specs.declared.stops.Stop.TheVariants.{NoMemory};
+ghost use Rattle.plantrun_core.specs.Crews.{HasPlant, HaveWorked, IsStop};
+ghost use Rattle.plantrun_core.specs.Exits.{IsExit};
 ghost use Rattle.plantrun_core.specs.Logs.{IsOrder};
+ghost use Rattle.plantrun_core.specs.Orders.{AreAtHome, HasOrder, logs_of};
+ghost use Rattle.plantrun_core.specs.Readings.{CountsRead};
 ghost use Rattle.plantrun_core.specs.Texts.{parts_text, plant_text, IsTold};
 
 use crate::calls::{Logs, Step};
 use crate::clock::{Ticks, nanoseconds};
-use crate::crew::{opened, ran, taken_apart};
+use crate::crew::{Closed, Gone, Opened, finished, new_table, ran, taken_apart};
 use crate::order::order_of;
+use crate::plans::{Plan, plan_of};
 use crate::stops::Stop;
 use crate::telling::{Cycles, Figures, write_all};
 use std::alloc::Global;
 use std::sync::Wait;
 use std::thread::Threads;
 use std::time::Clock;
-use trace_text::{Failed, LineBuffer, Sink, Source, WRITE_FAULT, number_of, put_line};
-
-/// How long a plant runs.
-#[derive(Clone, Copy)]
-pub struct Plan {
-    /// How many ticks, at most 2^20.
-    pub ticks: u64,
-    /// How many microseconds lie between two ticks, at most 1,000,000.
-    pub period: u64,
-}
+use trace_text::{Failed, Sink, Source, WRITE_FAULT, put_line};
 
 /// What became of a plant.
 #[derive(Drop)]
@@ -40,30 +37,15 @@ pub struct Ended {
     pub figures: [Figures; 4],
 }
 
-/// The plan that two words spell.
-pub fn plan_of(words: &[String]) -> Option<Plan>
-    ensures { IfSome result (λ plan. plan.ticks ≤ 1048576) }
-{
-    let [ticks, period] = words else {
-        return None;
-    };
-    let ticks = number_of(ticks.as_bytes())?;
-    let period = number_of(period.as_bytes())?;
-    if ticks <= 1 << 20 && period <= 1_000_000 {
-        Some(Plan { ticks, period })
-    } else {
-        None
-    }
-}
-
 /// Runs a plant: a thread that writes the readings of the source into tags, each at its tick; a
-/// controller; a thread that keeps the alarm list; and one that keeps the last 32 readings. All tags
-/// lie in one table on one heap. Returns what the threads did, in one order.
+/// controller; a thread that keeps the alarm list; and one that keeps the last 32 readings. All
+/// tags lie in one table on one heap. Returns what the threads did, in one order.
 ///
 /// # Errors
 ///
-/// `BadLine`, `TooMany` or `ReadFault` by the source, `NoMemory`, `Refused` where the table refuses
-/// an operation, and `NoOrder` where the search finds no order.
+/// `BadLine` at the first line that spells no reading, `TooMany` at one reading more than 2 for
+/// each tick and 64, and `ReadFault` where the source fails; these halt the plant. `Refused` where
+/// the table refuses a worker an operation, and `NoMemory`.
 pub fn plant<R: Threads + Wait + Clock + Sync, S: Source>(
     rt: &R,
     alloc: Global,
@@ -72,24 +54,40 @@ pub fn plant<R: Threads + Wait + Clock + Sync, S: Source>(
 ) -> Result<Ended, Stop>
     requires { plan.ticks ≤ 1048576 }
     ensures table { IfOk result (λ e. HasPlant e.logs e.cycles) }
+    ensures worked { IfOk result (λ e. HaveWorked plan.ticks (S.left source.old) e.logs) }
     ensures order { IfOk result (λ e. IsOrder e.logs e.order.items) }
+    ensures stopped { IfErr result (λ stop.
+        IsStop plan.ticks (S.left source.old) (S.left source.new) stop) }
+    ensures counted { CountsRead (S.faults source.old) (S.faults source.new) result }
 {
-    let (table, crew) = opened(alloc, plan.ticks)?;
+    let Some(Opened { table, crew, room }) = new_table(alloc, plan.ticks) else {
+        return Err(Stop::NoMemory);
+    };
     let ticks = Ticks {
         start: nanoseconds(rt).saturating_add(1_000_000),
         period: plan.period.saturating_mul(1_000),
         count: plan.ticks,
     };
-    let crew = ran(rt, &table, ticks, source, crew);
-    if let Some(stop) = crew.stop() {
-        return Err(stop);
+    let ends = ran(rt, &table, ticks, source, crew);
+    let Gone { crew, stop } = finished(rt, &table, ticks, ends);
+    let closed = taken_apart(table, room, crew);
+    match stop {
+        Some(stop) => Err(stop),
+        None => put_in_order(alloc, closed),
     }
-    let closed = taken_apart(alloc, table, crew)?;
-    let Ok(found) = order_of(alloc, &closed.logs) else {
+}
+
+/// What became of a plant that ran to its end.
+fn put_in_order(alloc: Global, closed: Closed) -> Result<Ended, Stop>
+    requires homes { (t : ℕ) → AreAtHome t (logs_of closed.logs t) }
+    requires order { HasOrder (empty_table 48) (logs_of closed.logs) }
+    ensures order { IfOk result (λ e. IsOrder e.logs e.order.items) }
+    ensures logs { IfOk result (λ e. e.logs ≡ closed.logs) }
+    ensures cycles { IfOk result (λ e. e.cycles ≡ closed.cycles) }
+    ensures memory { IfErr result (λ stop. stop ≡ NoMemory) }
+{
+    let Ok(order) = order_of(alloc, &closed.logs) else {
         return Err(Stop::NoMemory);
-    };
-    let Some(order) = found else {
-        return Err(Stop::NoOrder);
     };
     Ok(Ended {
         logs: closed.logs,
@@ -142,7 +140,7 @@ pub struct PlantExit {
 ///
 /// The status is 0 where all was written, 2 where the words are no plan, 6 where the sink failed,
 /// and else that of the `Stop`: 3 for a wrong line, 4 for too many readings or a refused operation,
-/// 5 where the source failed, 7 where memory ran out, and 9 where no order was found.
+/// 5 where the source failed, and 7 where memory ran out.
 pub fn plant_with_status<R: Threads + Wait + Clock + Sync, S: Source, K: Sink>(
     rt: &R,
     alloc: Global,
@@ -155,6 +153,9 @@ pub fn plant_with_status<R: Threads + Wait + Clock + Sync, S: Source, K: Sink>(
     ensures told { IfSome result.ended (λ e. IsTold (K.held sink.old) (K.held sink.new)
         (plant_text e.order.items e.figures e.cycles) result.status) }
     ensures stopped { IsNone result.ended → result.status ≢ 0 }
+    ensures exit { IsExit (map (λ w. string_bytes w) words.now) (S.left source.old)
+        (S.left source.new) (K.held sink.old) (K.held sink.new) (S.faults source.old)
+        (S.faults source.new) result.status result.ended }
 {
     let Some(plan) = plan_of(words) else {
         return stopped(put_line(b"plantrun: usage\n", 2, sink));
@@ -164,14 +165,13 @@ pub fn plant_with_status<R: Threads + Wait + Clock + Sync, S: Source, K: Sink>(
             status: told(&ended, sink),
             ended: Some(ended),
         },
-        Err(stop) => stopped(say(stop, sink)),
+        Err(stop) => stopped(put_line(stop.line().bytes(), stop.status(), sink)),
     }
 }
 
 fn stopped(status: u8) -> PlantExit
-    requires { status ≢ 0 }
-    ensures ended { IsNone result.ended }
-    ensures status { result.status ≢ 0 }
+    ensures ended { result.ended ≡ None }
+    ensures status { result.status ≡ status }
 {
     PlantExit {
         status,
@@ -186,26 +186,6 @@ fn told<K: Sink>(ended: &Ended, sink: &mut K) -> u8
 {
     match write_ended(ended, sink) {
         Ok(()) => 0,
-        Err(_) => WRITE_FAULT,
-    }
-}
-
-/// Writes why a plant stopped, and returns the status.
-fn say<K: Sink>(stop: Stop, sink: &mut K) -> u8
-    ensures { result ≢ 0 }
-{
-    let mut line = LineBuffer::new();
-    line.prepend(b"\n");
-    if let Stop::BadLine { line: number } = stop {
-        line.prepend(b": no reading");
-        line.prepend_number(number);
-        line.prepend(b"line ");
-    } else {
-        line.prepend(stop.text().as_bytes());
-    }
-    line.prepend(b"plantrun: ");
-    match sink.put(line.bytes()) {
-        Ok(()) => stop.status(),
         Err(_) => WRITE_FAULT,
     }
 }

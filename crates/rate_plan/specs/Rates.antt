@@ -2,7 +2,7 @@
 -- for.
 use Rattle.std.specs.Prelude.{ℕ, List, codes, ◌+◌, ◌-◌, ◌*◌, ◌/◌, ◌<◌, ◌≤◌}
 use Rattle.block_store.specs.declared.Config.{Config}
-use Rattle.array_trees.specs.Openings.{opening_blocks}
+use Rattle.array_trees.specs.InitialHeaps.{opening_blocks}
 use Rattle.rate_plan.specs.declared.PlanFault.{PlanFault}
 use Rattle.rate_plan.specs.declared.PlanFault.TheVariants.{NoRate, LiveTooSmall}
 

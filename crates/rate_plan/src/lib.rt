@@ -4,7 +4,7 @@
 ghost use Rattle.std.specs.Prelude.{◌≡◌, ℕ, ◌*◌, ◌≤◌, MatchResult};
 ghost use Rattle.block_store.specs.Configs.{IsInBounds};
 ghost use Rattle.block_store.specs.declared.Config.{Config};
-ghost use Rattle.array_trees.specs.Openings.{opening_blocks};
+ghost use Rattle.array_trees.specs.InitialHeaps.{opening_blocks};
 ghost use Rattle.rate_plan.specs.Rates.{IsRate, IsAdmitted, IsRefusal, plan_fault_text};
 
 use array_trees::blocks_of_array;

@@ -1,10 +1,10 @@
 -- A call that accepted an order, or was refused, did what it is to do.
 use Rattle.std.proofs.Common.{◌≡◌, ◌≢◌, ℕ, List, [], ◌∷◌, codes, sym, ◌∙◌}
-use Rattle.call_exits.specs.declared.refusal.Refusal.{Refusal}
-use Rattle.call_exits.specs.Exits.{IsWritten, IsToldBy}
-use Rattle.call_exits.specs.Refusals.{AreNone, status_of, refusal_line, HasRead}
-use Rattle.call_exits.specs.Sides.{Sides}
-use Rattle.call_exits.proofs.CallEnds.{never_done, done_is_ended, refusal_is_ended}
+use Rattle.exit_statuses.specs.declared.refusal.Refusal.{Refusal}
+use Rattle.exit_statuses.specs.Exits.{IsWritten, IsToldBy}
+use Rattle.exit_statuses.specs.Refusals.{AreNone, status_of, refusal_line, HasRead}
+use Rattle.exit_statuses.specs.Sides.{Sides}
+use Rattle.exit_statuses.proofs.ExitStatuses.{never_done, done_is_ended, refusal_is_ended}
 use Rattle.trace_text.specs.Streams.{Appends, AppendsPrefix}
 use Rattle.rt_check.specs.declared.top.CheckExit.{CheckExit}
 use Rattle.rt_check.specs.Answers.{Causes, IsAccepted, IsCause, IsCarriedOut, exit_of, ok_line}

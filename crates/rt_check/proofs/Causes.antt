@@ -1,13 +1,13 @@
 -- What was read causes the answer.
 use Rattle.std.proofs.Common.{ℕ, inl, inr, List, [], ◌∷◌, Some, None, sym, refl, ap, subst}
 use Rattle.std.proofs.lemmas.Option.{same_Some}
-use Rattle.call_exits.specs.declared.refusal.Refusal.{Refusal}
-use Rattle.call_exits.specs.declared.refusal.Refusal.TheVariants.{Usage, BadLine, TooLong, LiveTooSmall, NoRate, ReadFault, OutOfMemory, BadOrder}
-use Rattle.call_exits.specs.Exits.{IsDue}
-use Rattle.call_exits.specs.Refusals.{AreNone, status_of, IsReadWhole, IsReadRefusal, HasRead}
-use Rattle.call_exits.specs.Sides.{Sides, IsUnfailed}
-use Rattle.call_exits.proofs.CallEnds.{AreApart}
-use Rattle.call_exits.proofs.WholeTexts.{few_taken, refused_unread}
+use Rattle.exit_statuses.specs.declared.refusal.Refusal.{Refusal}
+use Rattle.exit_statuses.specs.declared.refusal.Refusal.TheVariants.{Usage, BadLine, TooLong, LiveTooSmall, NoRate, ReadFault, OutOfMemory, BadOrder}
+use Rattle.exit_statuses.specs.Exits.{IsDue}
+use Rattle.exit_statuses.specs.Refusals.{AreNone, status_of, IsReadWhole, IsReadRefusal, HasRead}
+use Rattle.exit_statuses.specs.Sides.{Sides, IsUnfailed}
+use Rattle.exit_statuses.proofs.ExitStatuses.{AreApart}
+use Rattle.exit_statuses.proofs.WholeTexts.{few_taken, refused_unread}
 use Rattle.rt_check.specs.Answers.{Causes, IsAccepted, IsCause, IsJudged}
 use Rattle.rt_check.specs.Inputs.{check_limit}
 use Rattle.rt_check.proofs.OneAnswer.{one_answer}

@@ -7,8 +7,8 @@ use Rattle.trace_text.specs.Jobs.{Job}
 use Rattle.trace_text.specs.Lines.{lines_of}
 use Rattle.trace_text.proofs.OneJob.{one_job}
 use Rattle.trace_text.proofs.WholeLaws.{apart, one_first}
-use Rattle.call_exits.specs.declared.refusal.Refusal.{Refusal}
-use Rattle.call_exits.specs.declared.refusal.Refusal.TheVariants.{BadLine, TooLong, LiveTooSmall, NoRate, BadOrder}
+use Rattle.exit_statuses.specs.declared.refusal.Refusal.{Refusal}
+use Rattle.exit_statuses.specs.declared.refusal.Refusal.TheVariants.{BadLine, TooLong, LiveTooSmall, NoRate, BadOrder}
 use Rattle.rt_check.specs.Answers.{IsAnswerOf, IsAnswerTo}
 use Rattle.rt_check.specs.Good.{AreGood, FirstBad}
 use Rattle.rt_check.specs.Inputs.{job_part, order_part, IsTooLong, IsShort, HasBadLine, HasJob, IsOrderOf, IsBadAt}

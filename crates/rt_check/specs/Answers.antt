@@ -1,11 +1,11 @@
 -- What a check answers, and why.
 use Rattle.std.specs.Prelude.{ℕ, ◌≡◌, ◌⊎◌, List, [], ◌∷◌, codes, Option, Some, None, Result, Ok, Err}
-use Rattle.call_exits.specs.declared.refusal.Refusal.{Refusal}
-use Rattle.call_exits.specs.declared.refusal.Refusal.TheVariants.{BadLine, TooLong, LiveTooSmall, NoRate, OutOfMemory, BadOrder}
-use Rattle.call_exits.specs.Exits.{Exit, IsWritten, IsEnded}
-use Rattle.call_exits.specs.Refusals as calls
-use Rattle.call_exits.specs.Refusals.{AreNone}
-use Rattle.call_exits.specs.Sides.{Sides}
+use Rattle.exit_statuses.specs.declared.refusal.Refusal.{Refusal}
+use Rattle.exit_statuses.specs.declared.refusal.Refusal.TheVariants.{BadLine, TooLong, LiveTooSmall, NoRate, OutOfMemory, BadOrder}
+use Rattle.exit_statuses.specs.Exits.{Exit, IsWritten, IsEnded}
+use Rattle.exit_statuses.specs.Refusals as calls
+use Rattle.exit_statuses.specs.Refusals.{AreNone}
+use Rattle.exit_statuses.specs.Sides.{Sides}
 use Rattle.rate_plan.specs.declared.PlanFault.TheVariants as plans
 use Rattle.rate_plan.specs.Rates.{IsRefusal}
 use Rattle.trace_text.specs.Jobs.{Job}
@@ -13,8 +13,8 @@ use Rattle.trace_text.specs.Lines.{ended}
 use Rattle.rt_check.specs.declared.top.CheckExit.{CheckExit}
 use Rattle.rt_check.specs.Inputs.{check_limit, IsTooLong, HasBadLine, HasJob, IsOrderOf, IsBadAt}
 
--- An answer is a refusal or none: then the order is accepted. The answer that an order has whose job
--- this is.
+-- An answer is a refusal or none: then the order is accepted. The answer that an order has whose
+-- job this is.
 abbrev pub IsAnswerOf : List ℕ → Job → Option Refusal → Type 0
 IsAnswerOf bytes job None = IsOrderOf bytes job
 IsAnswerOf bytes job (Some LiveTooSmall) = IsRefusal job.config plans.LiveTooSmall

@@ -6,8 +6,8 @@ use Rattle.never_heap.specs.Coming.{left_of, IsNoFull}
 use Rattle.never_heap.specs.Histories.{HistoryItem}
 use Rattle.trace_text.specs.Texts.{totals_text}
 use Rattle.rt_check.specs.declared.moves.Move.{Move}
-use Rattle.call_exits.specs.declared.refusal.Refusal.{Refusal}
-use Rattle.call_exits.specs.declared.refusal.Refusal.TheVariants as refusals
+use Rattle.exit_statuses.specs.declared.refusal.Refusal.{Refusal}
+use Rattle.exit_statuses.specs.declared.refusal.Refusal.TheVariants as refusals
 use Rattle.rt_check.specs.Good.{IsGood}
 use Rattle.rt_check.specs.Moves.{moves_in}
 

@@ -4,7 +4,7 @@ ghost use Rattle.std.specs.Prelude.{◌≡◌, ◌≢◌, ◌*◌, ◌+◌, ◌^
 ghost use Rattle.never_heap.specs.Histories.{HistoryItem};
 ghost use Rattle.trace_text.specs.Jobs.{IsJobInBounds};
 ghost use Rattle.trace_text.specs.Lines.{lines_of, tokens_of};
-ghost use Rattle.call_exits.specs.declared.refusal.Refusal.TheVariants as refusals;
+ghost use Rattle.exit_statuses.specs.declared.refusal.Refusal.TheVariants as refusals;
 ghost use Rattle.rt_check.specs.Standing.{Stands, HasFollowed, HasNext, Begins};
 ghost use Rattle.rt_check.specs.Taken.{AreMoves, IsLeftAt, TellsTotals};
 ghost use Rattle.rt_check.specs.Taking.{SaysTaken, number_behind};
@@ -12,7 +12,7 @@ ghost use Rattle.rt_check.specs.Taking.{SaysTaken, number_behind};
 use crate::follower::{Follower, is_line};
 use crate::moves::Move;
 use block_store::OutOfMemory;
-use call_exits::Refusal;
+use exit_statuses::Refusal;
 use never_heap::Command;
 use std::alloc::Global;
 use trace_text::{Job, LineBuffer, fill_totals, first_line, first_token, number_of};

@@ -1,9 +1,9 @@
 //! The top call.
 
 ghost use Rattle.std.specs.Prelude.{◌≡◌, ◌≢◌, ◌≤◌, ◌⊎◌, [], length, map, string_bytes, IfErr, OnOk};
-ghost use Rattle.call_exits.specs.Exits.{IsWritten};
-ghost use Rattle.call_exits.specs.Refusals.{HasRead};
-ghost use Rattle.call_exits.specs.Sides.{sides};
+ghost use Rattle.exit_statuses.specs.Exits.{IsWritten};
+ghost use Rattle.exit_statuses.specs.Refusals.{HasRead};
+ghost use Rattle.exit_statuses.specs.Sides.{sides};
 ghost use Rattle.trace_text.specs.Faults.{Rose};
 ghost use Rattle.rt_check.specs.Answers.{IsAccepted, IsCarriedOut, IsCause, IsJudged};
 ghost use Rattle.rt_check.specs.Answers.{ok_line, refused_by};
@@ -11,7 +11,7 @@ ghost use Rattle.rt_check.specs.Inputs.{check_limit};
 
 use crate::input::parted;
 use crate::lines::first_bad;
-use call_exits::{Refusal, refused, text_of};
+use exit_statuses::{Refusal, refused, text_of};
 use rate_plan::{one_rate, plan};
 use std::alloc::Global;
 use trace_text::{INPUT_LIMIT, Sink, Source, job_of, put_line};

@@ -1,5 +1,4 @@
 pub mod Slots
 pub mod LineLaws
-pub mod Ranges
-pub mod AnswersByLogs
-pub mod HeapRate
+pub mod HandleScripts
+pub mod SlotRuns

@@ -1,9 +1,9 @@
 -- What a line of a script of handles says is what is spelled so, and what is spelled is read again.
-use Rattle.std.proofs.Common.{◌≡◌, ℕ, ◌<◌, ◌≤◌, ◌^◌, true, cond, Option, Some, None, List, [], ◌∷◌, codes, decimal, eq-eqb, refl, ap, ◌∙◌, subst, arith}
+use Rattle.std.proofs.Common.{◌≡◌, ℕ, ◌<◌, ◌≤◌, ◌^◌, true, cond, Option, Some, None, List, [], ◌∷◌, codes, decimal, eq-eqb, refl, sym, ap, ◌∙◌, subst, arith}
 use Rattle.std.proofs.lemmas.Bool.{eqb-true}
 use Rattle.array_scripts.specs.declared.header.Header.{Header}
 use Rattle.array_scripts.specs.Kinds.{Tokens, IsHeader, Fits, below, line_at, told_at, language}
-use Rattle.array_scripts.proofs.TokenLaws.{bind_then, then_some, some_is, chosen, below_sound, below_again, one_of, two_of, three_of}
+use Rattle.array_scripts.proofs.TokenLaws.{bind_then, then_some, some_is, chosen, below_sound, below_again, two_of, three_of, place_sound}
 use Rattle.array_scripts.proofs.LineLaws.{kind_reads}
 use Rattle.scripts.specs.Scripts.{Reads}
 use Rattle.handle_table.specs.declared.operation.Operation.{Operation}
@@ -61,59 +61,37 @@ handle_sound slots before tokens q e =
       at_true i (slot_of g before) kept.0,
     ))))
 
-see_sound : (slots : ℕ) (before : List Operation) (first : List ℕ) (tokens : Tokens)
-    (op : Operation) → first ≡ codes "see" → see_at slots before tokens ≡ Some op
+-- a word with these two
+held_sound : (slots : ℕ) (before : List Operation) (word : List ℕ) (make : ℕ → ℕ → Operation)
+    → ((g i : ℕ) → g < 8 → i < slots → slot_of g before ≡ Some i
+    → SoundOp slots before (word ∷ decimal g ∷ decimal i ∷ []) (make g i))
+    → (first : List ℕ) (tokens : Tokens) (op : Operation) → first ≡ word
+    → (handle_at slots before tokens >>= λ q. Some (make q.0 q.1)) ≡ Some op
     → SoundOp slots before (first ∷ tokens) op
-unfolding see_at
-see_sound slots before first tokens op is e =
+held_sound slots before word make each first tokens op is e =
     bind_then (handle_at slots before tokens) _ op e (λ q is1 e1.
     let s = handle_sound slots before tokens q is1 in
-    subst (λ (y : Operation). SoundOp slots before (first ∷ tokens) y) (some_is e1)
-    ((λ k. is k ∷ s.0 k), (s.1, s.2, s.3)))
-
-drop_sound : (slots : ℕ) (before : List Operation) (first : List ℕ) (tokens : Tokens)
-    (op : Operation) → first ≡ codes "drop" → drop_at slots before tokens ≡ Some op
-    → SoundOp slots before (first ∷ tokens) op
-unfolding drop_at
-drop_sound slots before first tokens op is e =
-    bind_then (handle_at slots before tokens) _ op e (λ q is1 e1.
-    let s = handle_sound slots before tokens q is1 in
-    subst (λ (y : Operation). SoundOp slots before (first ∷ tokens) y) (some_is e1)
-    ((λ k. is k ∷ s.0 k), (s.1, s.2, s.3)))
-
-take_sound : (slots : ℕ) (before : List Operation) (first : List ℕ) (tokens : Tokens)
-    (op : Operation) → first ≡ codes "take" → take_at slots tokens ≡ Some op
-    → SoundOp slots before (first ∷ tokens) op
-unfolding take_at
-take_sound slots before first tokens op is e =
-    bind_then (one_token_of tokens) _ op e (λ token is1 e1.
-    bind_then (below slots token) _ op e1 (λ i is2 e2.
-    let a = below_sound slots token i is2 in
-    subst (λ (y : Operation). SoundOp slots before (first ∷ tokens) y) (some_is e2)
-    ((λ k. is k ∷ (one_of tokens token is1 ∙ (λ j. a.0 j ∷ [])) k), a.1)))
-
-evict_sound : (slots : ℕ) (before : List Operation) (first : List ℕ) (tokens : Tokens)
-    (op : Operation) → first ≡ codes "evict" → evict_at slots tokens ≡ Some op
-    → SoundOp slots before (first ∷ tokens) op
-unfolding evict_at
-evict_sound slots before first tokens op is e =
-    bind_then (one_token_of tokens) _ op e (λ token is1 e1.
-    bind_then (below slots token) _ op e1 (λ i is2 e2.
-    let a = below_sound slots token i is2 in
-    subst (λ (y : Operation). SoundOp slots before (first ∷ tokens) y) (some_is e2)
-    ((λ k. is k ∷ (one_of tokens token is1 ∙ (λ j. a.0 j ∷ [])) k), a.1)))
+    let spelled : first ∷ tokens ≡ word ∷ decimal q.0 ∷ decimal q.1 ∷ [] = λ k. is k ∷ s.0 k in
+    subst (λ (l : Tokens). SoundOp slots before l op) (sym spelled)
+    (subst (λ (y : Operation). SoundOp slots before (word ∷ decimal q.0 ∷ decimal q.1 ∷ []) y)
+    (some_is e1) (each q.0 q.1 s.1 s.2 s.3)))
 
 op_sound : (slots : ℕ) (before : List Operation) (line : Tokens) (op : Operation)
     → op_at slots before line ≡ Some op → SoundOp slots before line op
-unfolding op_at
+unfolding op_at see_at drop_at take_at evict_at
 op_sound slots before [] op e = absurd cc
 op_sound slots before (first ∷ tokens) op e =
     chosen first (codes "make") _ _ op e (make_sound slots before first tokens op) (λ e1.
-    chosen first (codes "see") _ _ op e1 (see_sound slots before first tokens op) (λ e2.
-    chosen first (codes "drop") _ _ op e2 (drop_sound slots before first tokens op) (λ e3.
-    chosen first (codes "take") _ _ op e3 (take_sound slots before first tokens op) (λ e4.
-    chosen first (codes "evict") _ None op e4 (evict_sound slots before first tokens op)
-    (λ bad. absurd cc)))))
+    chosen first (codes "see") _ _ op e1
+    (held_sound slots before (codes "see") See (λ g i a b c. (refl, (a, b, c))) first tokens op) (λ e2.
+    chosen first (codes "drop") _ _ op e2
+    (held_sound slots before (codes "drop") Drop (λ g i a b c. (refl, (a, b, c))) first tokens op) (λ e3.
+    chosen first (codes "take") _ _ op e3
+    (place_sound (SoundOp slots before) slots (codes "take") Take (λ i low. (refl, low)) first
+    tokens op) (λ e4.
+    chosen first (codes "evict") _ None op e4
+    (place_sound (SoundOp slots before) slots (codes "evict") Evict (λ i low. (refl, low)) first
+    tokens op) (λ bad. absurd cc)))))
 
 -- ---- and what is spelled is read
 
@@ -151,10 +129,7 @@ apart : (h : Header) (t : ℕ) (before : List Operation) (op : Operation)
     → line_at handle_kind h t before (op_line op) ≡ told_at handle_kind h t before (op_line op)
 unfolding line_at
 apart h t before (Make g i x) = refl
-apart h t before (See g i) = refl
-apart h t before (Drop g i) = refl
-apart h t before (Take i) = refl
-apart h t before (Evict i) = refl
+apart h t before _ = refl
 
 pub handle_reads : Reads (language handle_kind) (IsHeader handle_kind) (Fits handle_kind)
 handle_reads = kind_reads handle_kind (record {

@@ -3,7 +3,7 @@ use Rattle.std.proofs.Common.{◌≡◌, ℕ, ◌<◌, ◌≤◌, ◌==◌, cond
 use Rattle.std.specs.Prelude.{slice_set}
 use Rattle.never_heap.proofs.GraphMoves.{get_or_set}
 use Rattle.handle_table.specs.declared.operation.Operation.{Operation}
-use Rattle.handle_table.specs.declared.operation.Operation.TheVariants.{Make, See, Drop, Take, Evict}
+use Rattle.handle_table.specs.declared.operation.Operation.TheVariants.{Make}
 use Rattle.handle_table.specs.Handles.{slot_of, slot_by}
 use Rattle.handle_table.proofs.NumberedDeeds.{slot_more}
 use Rattle.rt_handles.specs.Slots.{AreSlotsOf, make_in}
@@ -15,10 +15,7 @@ slot_after h slot (Some m) = cond (m.0 == h) (Some m.1) slot
 
 by_make : (h : ℕ) (slot : Option ℕ) (op : Operation) → slot_by h slot op ≡ slot_after h slot (make_in op)
 by_make h slot (Make g i x) = refl
-by_make h slot (See g i) = refl
-by_make h slot (Drop g i) = refl
-by_make h slot (Take i) = refl
-by_make h slot (Evict i) = refl
+by_make h slot _ = refl
 
 module _ (slots : List (Option ℕ)) (ops new : List Operation) (op : Operation)
     (are : AreSlotsOf slots ops) (pushed : new ≡ ops ++ op ∷ []) where

@@ -5,15 +5,14 @@ use Rattle.array_scripts.specs.Calls as calls
 use Rattle.array_scripts.specs.Scripts.{HasRoom, IsReadAs}
 use Rattle.array_scripts.specs.Tellings.{lines_from}
 use Rattle.atom_board.specs.Mutators.{ClosedState}
-use Rattle.call_exits.specs.Exits.{IsWritten}
-use Rattle.call_exits.specs.Sides.{Sides}
+use Rattle.exit_statuses.specs.Exits.{IsWritten}
+use Rattle.exit_statuses.specs.Sides.{Sides}
 use Rattle.never_heap.specs.Licensed.{NoFulls}
 use Rattle.operations.specs.Linearizations.{Call, IsLinearization}
 use Rattle.handle_table.specs.declared.operation.Operation.{Operation}
-use Rattle.handle_table.specs.declared.told.Outcome.{Outcome}
 use Rattle.handle_table.specs.Fates.{ShowMakes, TellFates}
 use Rattle.handle_table.specs.Handles.{Deed, Answer, all_deeds, answer, slots_after, empty_slots, rows_of, decides, ends}
-use Rattle.threaded_runs.specs.Ends.{HasHistory, job_of}
+use Rattle.threaded_runs.specs.EndedRuns.{HasHistory, job_of}
 use Rattle.rt_handles.specs.declared.exit.HandleExit.{HandleExit}
 use Rattle.rt_handles.specs.Lines.{handle_kind}
 use Rattle.rt_handles.specs.Scripts.{job_of_script}
@@ -42,11 +41,6 @@ pub record Headline (source sink : Sides) (status : ℕ) (run : ClosedState) : T
       (lines_from outcome_text 0 (outcomes_from slots.header.threads slots.order))
   pub shown : ShowMakes slots.order
   pub stale : TellFates slots.order
-
--- slots were kept, and this is what the operations on them came to
-abbrev pub HasOutcomes : Sides → ClosedState → List (List Outcome) → Type 0
-HasOutcomes source run told =
-    (slots : HasSlots source run) × (told ≡ outcomes_from slots.header.threads slots.order)
 
 -- a call did what it is to do, whatever it was given: a run that is shown kept the script's slots
 abbrev pub IsCarriedOut : List (List ℕ) → Sides → Sides → HandleExit → Type 0

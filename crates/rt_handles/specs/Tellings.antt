@@ -1,11 +1,11 @@
 -- The lines in which operations on handles are answered.
 use Rattle.std.specs.Prelude.{ℕ, List, ◌++◌, codes, decimal}
-use Rattle.array_scripts.specs.Answers.{answers_in, answers_from}
+use Rattle.array_scripts.specs.Answers.{answers_from}
 use Rattle.handle_table.specs.declared.operation.Operation.{Operation}
 use Rattle.handle_table.specs.declared.told.Outcome.{Outcome}
 use Rattle.handle_table.specs.declared.told.Outcome.TheVariants.{Made, Taken, Live, Stale, Dropped, Empty, Shown}
 use Rattle.handle_table.specs.Handles.{Deed, Answer, outcome_of, outcomes_told}
-use Rattle.never_heap.specs.declared.Entry.{Entry}
+use Rattle.never_heap.specs.declared.Reply.{Reply}
 use Rattle.operations.specs.Linearizations.{Call}
 
 -- the handle of make k of thread t
@@ -21,9 +21,9 @@ outcome_text Dropped = codes "dropped"
 outcome_text Empty = codes "none"
 outcome_text (Shown t k x) = handle_text t k ++ codes " " ++ decimal x
 
--- what the operations of scripts came to, each by the log of its thread
-abbrev pub outcomes_in : List (List Operation) → List (List Entry) → List (List Outcome)
-outcomes_in scripts logs = answers_in (λ t. outcomes_told t 0) 0 scripts logs
+-- what replies to thread t's operations tell
+abbrev pub told : ℕ → List Operation → List Reply → List Outcome
+told t ops replies = outcomes_told t 0 ops replies
 
 -- what a call came to, and what the calls of n threads did, thread by thread
 abbrev pub outcome_in : Call Deed Answer → Outcome

@@ -12,7 +12,6 @@ mod before;
 mod exit;
 mod kind;
 mod line;
-mod planning;
 mod running;
 mod script;
 mod top;

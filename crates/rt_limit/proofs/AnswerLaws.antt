@@ -1,13 +1,13 @@
 -- What was read causes the answer, and bytes have one status.
 use Rattle.std.proofs.Common.{◌≡◌, ℕ, inl, inr, Bool, true, false, List, [], ◌∷◌, Result, Ok, Err, sym, refl, subst}
 use Rattle.std.specs.Prelude.{IfOk}
-use Rattle.call_exits.specs.declared.refusal.Refusal.{Refusal}
-use Rattle.call_exits.specs.declared.refusal.Refusal.TheVariants.{Usage, BadLine, TooLong, ReadFault, OutOfMemory, BadOrder}
-use Rattle.call_exits.specs.Exits.{IsDue}
-use Rattle.call_exits.specs.Refusals.{AreNone, status_of, IsReadWhole, IsReadRefusal, HasRead}
-use Rattle.call_exits.specs.Sides.{Sides, IsUnfailed}
-use Rattle.call_exits.proofs.CallEnds.{AreApart}
-use Rattle.call_exits.proofs.WholeTexts.{few_taken, refused_unread}
+use Rattle.exit_statuses.specs.declared.refusal.Refusal.{Refusal}
+use Rattle.exit_statuses.specs.declared.refusal.Refusal.TheVariants.{Usage, BadLine, TooLong, ReadFault, OutOfMemory, BadOrder}
+use Rattle.exit_statuses.specs.Exits.{IsDue}
+use Rattle.exit_statuses.specs.Refusals.{AreNone, status_of, IsReadWhole, IsReadRefusal, HasRead}
+use Rattle.exit_statuses.specs.Sides.{Sides, IsUnfailed}
+use Rattle.exit_statuses.proofs.ExitStatuses.{AreApart}
+use Rattle.exit_statuses.proofs.WholeTexts.{few_taken, refused_unread}
 use Rattle.trace_text.specs.declared.trace_faults.Why.{Why}
 use Rattle.trace_text.specs.Jobs.{Job, IsJobInBounds}
 use Rattle.trace_text.specs.Lines.{lines_of}

@@ -1,11 +1,11 @@
 -- What a call answers, and why.
 use Rattle.std.specs.Prelude.{ℕ, ◌≡◌, ◌≢◌, ◌⊎◌, Bool, true, false, List, [], ◌∷◌, codes}
-use Rattle.call_exits.specs.declared.refusal.Refusal.{Refusal}
-use Rattle.call_exits.specs.declared.refusal.Refusal.TheVariants.{BadLine, TooLong, OutOfMemory, BadOrder}
-use Rattle.call_exits.specs.Exits.{Exit, IsWritten, IsEnded}
-use Rattle.call_exits.specs.Refusals as calls
-use Rattle.call_exits.specs.Refusals.{AreNone, HasRead}
-use Rattle.call_exits.specs.Sides.{Sides}
+use Rattle.exit_statuses.specs.declared.refusal.Refusal.{Refusal}
+use Rattle.exit_statuses.specs.declared.refusal.Refusal.TheVariants.{BadLine, TooLong, OutOfMemory, BadOrder}
+use Rattle.exit_statuses.specs.Exits.{Exit, IsWritten, IsEnded}
+use Rattle.exit_statuses.specs.Refusals as calls
+use Rattle.exit_statuses.specs.Refusals.{AreNone, HasRead}
+use Rattle.exit_statuses.specs.Sides.{Sides}
 use Rattle.never_heap.specs.Graphs.{start_graph}
 use Rattle.trace_text.specs.Jobs.{Job}
 use Rattle.trace_text.specs.Lines.{lines_of}

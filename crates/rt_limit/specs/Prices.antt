@@ -3,7 +3,7 @@ use Rattle.std.specs.Prelude.{ℕ, ◌+◌, ◌-◌, ◌*◌, ◌/◌, ◌<◌, 
 use Rattle.block_store.specs.declared.Config.{Config}
 use Rattle.block_store.specs.Places.{extent, words_count}
 use Rattle.block_store.specs.Widths.{payloads}
-use Rattle.lone_bound.specs.Near.{changes_cost, near_bound, near_unit}
+use Rattle.solo_bound.specs.Near.{changes_cost, near_bound, near_unit}
 
 -- the bytes of its words
 abbrev pub bytes : Config → ℕ

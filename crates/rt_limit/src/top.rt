@@ -1,9 +1,9 @@
 //! The top call.
 
 ghost use Rattle.std.specs.Prelude.{◌≡◌, ◌≢◌, ◌≤◌, ◌⊎◌, [], true, false, length, map, string_bytes, IfOk, IfErr, OnOk, MatchResult};
-ghost use Rattle.call_exits.specs.Exits.{IsWritten};
-ghost use Rattle.call_exits.specs.Refusals.{HasRead};
-ghost use Rattle.call_exits.specs.Sides.{sides};
+ghost use Rattle.exit_statuses.specs.Exits.{IsWritten};
+ghost use Rattle.exit_statuses.specs.Refusals.{HasRead};
+ghost use Rattle.exit_statuses.specs.Sides.{sides};
 ghost use Rattle.trace_text.specs.Faults.{Rose};
 ghost use Rattle.trace_text.specs.Jobs.{IsJobInBounds};
 ghost use Rattle.trace_text.specs.Lines.{lines_of};
@@ -20,7 +20,7 @@ use crate::counts::figures_of;
 use crate::orders::thread_by_thread;
 use crate::texts::text_of;
 use block_store::OutOfMemory;
-use call_exits::{Refusal, refused};
+use exit_statuses::{Refusal, refused};
 use rt_check::{CHECK_LIMIT, Move, moves_of, parted};
 use std::alloc::Global;
 use trace_text::{INPUT_LIMIT, Job, Sink, Source, first_line, job_of, put_line};
@@ -76,7 +76,7 @@ fn judged<S: Source>(alloc: Global, source: &mut S) -> Result<Vec<u8>, Refusal>
         (sides S.left S.faults source.old source.new)) }
     ensures refused { IfErr result (IsCause [] (sides S.left S.faults source.old source.new)) }
 {
-    let input = call_exits::text_of(alloc, source, CHECK_LIMIT)?;
+    let input = exit_statuses::text_of(alloc, source, CHECK_LIMIT)?;
     judged_bytes(alloc, &input)
 }
 

@@ -1,13 +1,13 @@
 -- No text has two answers, and what a text that was read says of its source.
 use Rattle.std.proofs.Common.{◌≡◌, ℕ, ◌⊎◌, inl, inr, List, [], ◌∷◌, refl, sym, ◌∙◌, subst, arith}
-use Rattle.call_exits.specs.declared.refusal.Refusal.{Refusal}
-use Rattle.call_exits.specs.declared.refusal.Refusal.TheVariants as refusals
-use Rattle.call_exits.specs.declared.refusal.Refusal.TheVariants.{BadLine, TooManyThreads, TooManySays, LiveTooSmall, NoRate}
-use Rattle.call_exits.specs.Exits.{IsDue}
-use Rattle.call_exits.specs.Refusals.{AreNone, status_of, refusal_of, IsReadWhole, IsReadRefusal, HasRead}
-use Rattle.call_exits.specs.Sides.{Sides, IsUnfailed}
-use Rattle.call_exits.proofs.CallEnds.{AreApart}
-use Rattle.call_exits.proofs.WholeTexts.{few_taken, refused_unread}
+use Rattle.exit_statuses.specs.declared.refusal.Refusal.{Refusal}
+use Rattle.exit_statuses.specs.declared.refusal.Refusal.TheVariants as refusals
+use Rattle.exit_statuses.specs.declared.refusal.Refusal.TheVariants.{BadLine, TooManyThreads, TooManySays, LiveTooSmall, NoRate}
+use Rattle.exit_statuses.specs.Exits.{IsDue}
+use Rattle.exit_statuses.specs.Refusals.{AreNone, status_of, refusal_of, IsReadWhole, IsReadRefusal, HasRead}
+use Rattle.exit_statuses.specs.Sides.{Sides, IsUnfailed}
+use Rattle.exit_statuses.proofs.ExitStatuses.{AreApart}
+use Rattle.exit_statuses.proofs.WholeTexts.{few_taken, refused_unread}
 use Rattle.rate_plan.specs.Rates.{IsAdmitted}
 use Rattle.trace_text.specs.declared.trace_faults.TraceFault.{TraceFault}
 use Rattle.trace_text.specs.declared.trace_faults.TraceFault.TheVariants as faults

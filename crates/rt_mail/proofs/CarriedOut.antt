@@ -1,12 +1,13 @@
 -- A call whose mail came, or that was refused, did what it is to do.
-use Rattle.std.proofs.Common.{◌≡◌, ◌≢◌, ℕ, ◌↔◌, List, [], ◌∷◌, Option, Some, None, IfSome, IsSome, codes, refl, sym, ◌∙◌, subst}
+use Rattle.std.proofs.Common.{◌≡◌, ◌≢◌, ℕ, List, [], ◌∷◌, Option, Some, None, IfSome, codes, subst}
+use Rattle.array_scripts.proofs.CarriedOut.{there, absent, of_none}
 use Rattle.atom_board.specs.Mutators.{ClosedState}
-use Rattle.call_exits.specs.declared.refusal.Refusal.{Refusal}
-use Rattle.call_exits.specs.Exits.{IsWritten, IsToldBy}
-use Rattle.call_exits.specs.Refusals.{AreNone, status_of, refusal_line}
-use Rattle.call_exits.specs.Sides.{Sides}
-use Rattle.call_exits.proofs.CallEnds.{never_done, done_is_ended, refusal_is_ended}
-use Rattle.mail_post.specs.Ends.{TakenState}
+use Rattle.exit_statuses.specs.declared.refusal.Refusal.{Refusal}
+use Rattle.exit_statuses.specs.Exits.{IsWritten, IsToldBy}
+use Rattle.exit_statuses.specs.Refusals.{AreNone, status_of, refusal_line}
+use Rattle.exit_statuses.specs.Sides.{Sides}
+use Rattle.exit_statuses.proofs.ExitStatuses.{done_is_ended, refusal_is_ended}
+use Rattle.mail_post.specs.PostStates.{TakenState}
 use Rattle.trace_text.specs.Jobs.{input_limit}
 use Rattle.trace_text.specs.Streams.{Appends, AppendsPrefix}
 use Rattle.rt_mail.specs.declared.exit.MailExit.{MailExit}
@@ -15,25 +16,6 @@ use Rattle.rt_mail.specs.Recalled.{recalled_in}
 use Rattle.rt_mail.specs.Tellings.{lines_from}
 use Rattle.rt_mail.specs.Texts.{Causes, IsFine, IsCause}
 use Rattle.rt_mail.proofs.Apart.{are_apart, fine_read}
-
-module _ {X : Type 0} (o : Option X) where
-  not_some : o ≡ None → IsSome o → ⊥
-  not_some e s =
-      let none : IsSome {T = X} None = subst (λ (x : Option X). IsSome x) e s in
-      cc
-
-  -- it is there exactly where nothing is refused
-  there : (x : X) (due : ℕ) → o ≡ Some x → due ≡ 0 → IsSome o ↔ (due ≡ 0)
-  there x due is zero = (λ _. zero, λ _. subst (λ (p : Option X). IsSome p) (sym is) refl)
-
-  absent : (r : Refusal) (due : ℕ) → o ≡ None → due ≡ status_of r → IsSome o ↔ (due ≡ 0)
-  absent r due is e = (
-    λ some. absurd (not_some is some),
-    λ zero. absurd (never_done r (sym e ∙ zero)),
-  )
-
-  of_none : (P : X → Type 0) → o ≡ None → IfSome o P
-  of_none P is = subst (λ (x : Option X). IfSome x P) (sym is) tt
 
 -- what holds of all three that are there
 of_three : {A B C : Type 0} (P : A → B → C → Type 0) (o : Option A) (p : Option B) (q : Option C)

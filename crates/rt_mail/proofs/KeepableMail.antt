@@ -4,16 +4,16 @@ use Rattle.std.specs.List.{AllByRecursion}
 use Rattle.std.proofs.lemmas.List.{length-map}
 use Rattle.std.proofs.Math.ListN.{get_or-map}
 use Rattle.atom_board.specs.Mutators.{ClosedState}
-use Rattle.call_exits.specs.Sides.{Sides}
+use Rattle.exit_statuses.specs.Sides.{Sides}
 use Rattle.never_heap.specs.declared.Entry.{Entry}
 use Rattle.never_heap.specs.Histories.{parts}
 use Rattle.number_rings.specs.Rings.{IsKeepable, last_numbers}
 use Rattle.operations.proofs.PartLogs.{logged}
 use Rattle.rate_plan.specs.Rates.{IsAdmitted}
 use Rattle.said_numbers.specs.Said.{numbers_said, says_in, AreNumbers}
-use Rattle.said_numbers.proofs.Few.{few_said}
-use Rattle.said_numbers.proofs.Small.{said_numbers_small}
-use Rattle.threaded_runs.specs.Ends.{HasHistory, commands_of, job_of}
+use Rattle.said_numbers.proofs.NumbersPerThread.{few_said}
+use Rattle.said_numbers.proofs.NumberBounds.{said_numbers_small}
+use Rattle.threaded_runs.specs.EndedRuns.{HasHistory, commands_of, job_of}
 use Rattle.trace_text.specs.Jobs.{Job, IsJobInBounds}
 use Rattle.rt_mail.specs.Calls.{HasFirst, HasMail}
 use Rattle.rt_mail.specs.Recalled.{HasRings, recalled_in}

@@ -1,4 +1,3 @@
-pub mod Items
 pub mod RingJob
 pub mod WrittenLines
 pub mod Apart

@@ -8,7 +8,7 @@ use Rattle.atom_board.specs.Mutators.{ClosedState}
 use Rattle.block_store.specs.declared.Config.{Config}
 use Rattle.never_heap.specs.declared.Command.{Command}
 use Rattle.never_heap.specs.declared.Entry.{Entry}
-use Rattle.never_heap.specs.Histories.{HistoryItem, parts}
+use Rattle.never_heap.specs.Histories.{parts}
 use Rattle.never_heap.specs.Runs.{IsRun}
 use Rattle.operations.specs.Linearizations.{traces_of}
 use Rattle.operations.proofs.PartLogs.{logged}
@@ -17,7 +17,8 @@ use Rattle.number_rings.proofs.Chunks.{rows_long}
 use Rattle.number_rings.proofs.Jobs.{rings_fit, rings_admitted}
 use Rattle.number_rings.proofs.RingRuns.{rings_show, own_script, scripts_long}
 use Rattle.rate_plan.specs.Rates.{IsAdmitted}
-use Rattle.threaded_runs.specs.Ends.{HasHistory, commands_of, job_of}
+use Rattle.threaded_runs.specs.EndedRuns.{HasHistory, commands_of, job_of}
+use Rattle.threaded_runs.proofs.OfJob.{run_of, parts_of}
 use Rattle.trace_text.specs.Jobs.{Job}
 use Rattle.trace_text.specs.Jobs as jobs
 use Rattle.rt_mail.specs.Recalled.{ring_job, HasRings, replies_of, recalled_in}
@@ -69,22 +70,16 @@ module _ (lists : List (List ℕ)) (some : 1 ≤ length lists) (few : length lis
 
 -- ---- its run
 
-moved_run : (j k : Job) (rate : ℕ) (h : List HistoryItem) → j ≡ k → IsRun j.config rate j.traces h
-    → IsRun k.config rate k.traces h
-moved_run j k rate h same run =
-    subst (λ (x : Job). IsRun x.config rate x.traces h) same run
-
 module _ (lists : List (List ℕ)) (run : ClosedState) (job : job_of run ≡ ring_job lists)
     (ran : HasHistory run) where
   abbrev n : ℕ
   n = length lists
 
   is_run : IsRun (ring_config n) ran.rate (ring_traces lists) ran.history
-  is_run = moved_run (job_of run) (ring_job lists) ran.rate ran.history job ran.is_run
+  is_run = run_of run (ring_job lists) job ran
 
   parts_are : parts n ran.history ≡ run.logs
-  parts_are =
-      ap (λ (j : Job). parts j.config.threads ran.history) (sym job) ∙ ran.parts_logged
+  parts_are = parts_of run (ring_job lists) job ran
 
   pub has_rings : HasRings lists run
   has_rings = record {

@@ -1,10 +1,10 @@
 -- Which texts are refused, and why.
 use Rattle.std.specs.Prelude.{ℕ, List}
-use Rattle.call_exits.specs.declared.refusal.Refusal.{Refusal}
-use Rattle.call_exits.specs.declared.refusal.Refusal.TheVariants.{BadLine, TooManyThreads, TooManySays, LiveTooSmall, NoRate}
-use Rattle.call_exits.specs.Refusals as calls
-use Rattle.call_exits.specs.Refusals.{AreNone, HasRead}
-use Rattle.call_exits.specs.Sides.{Sides}
+use Rattle.exit_statuses.specs.declared.refusal.Refusal.{Refusal}
+use Rattle.exit_statuses.specs.declared.refusal.Refusal.TheVariants.{BadLine, TooManyThreads, TooManySays, LiveTooSmall, NoRate}
+use Rattle.exit_statuses.specs.Refusals as calls
+use Rattle.exit_statuses.specs.Refusals.{AreNone, HasRead}
+use Rattle.exit_statuses.specs.Sides.{Sides}
 use Rattle.rate_plan.specs.declared.PlanFault.TheVariants as plans
 use Rattle.rate_plan.specs.Rates.{IsAdmitted, IsRefusal}
 use Rattle.trace_text.specs.Jobs.{Job, IsJob, input_limit}

@@ -3,7 +3,7 @@
 ghost use Rattle.std.specs.Prelude.{◌≡◌, ◌≤◌, map, length, IfOk};
 ghost use Rattle.std.specs.List.{AllByRecursion};
 ghost use Rattle.number_rings.specs.Rings.{IsKeepable, ring_traces};
-ghost use Rattle.threaded_runs.specs.Ends.{commands_of};
+ghost use Rattle.threaded_runs.specs.EndedRuns.{commands_of};
 ghost use Rattle.rt_mail.specs.Recalled.{HasRings, ring_job, recalled_in};
 
 use atom_board::Closed;

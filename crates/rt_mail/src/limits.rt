@@ -4,7 +4,7 @@ ghost use Rattle.std.specs.Prelude.{◌≡◌, length, MatchResult};
 ghost use Rattle.rt_mail.specs.Says.{IsWithin};
 ghost use Rattle.rt_mail.specs.Texts.{IsRefusedJob};
 
-use call_exits::Refusal;
+use exit_statuses::Refusal;
 use said_numbers::says_of;
 use trace_text::Job;
 

@@ -1,14 +1,14 @@
 //! Reading a job that a post can serve, and whose heap has a rate.
 
 ghost use Rattle.std.specs.Prelude.{◌≡◌, [], IfOk, IfErr, MatchResult};
-ghost use Rattle.call_exits.specs.Sides.{sides};
+ghost use Rattle.exit_statuses.specs.Sides.{sides};
 ghost use Rattle.rate_plan.specs.Rates.{IsAdmitted};
 ghost use Rattle.trace_text.specs.Jobs.{IsJobInBounds};
 ghost use Rattle.rt_mail.specs.Says.{IsWithin};
 ghost use Rattle.rt_mail.specs.Texts.{IsRefusedJob, IsReadAs, IsCause};
 
 use crate::limits::within_limits;
-use call_exits::{Refusal, text_of};
+use exit_statuses::{Refusal, text_of};
 use rate_plan::plan;
 use std::alloc::Global;
 use trace_text::{INPUT_LIMIT, Job, Source, job_of};

@@ -1,7 +1,7 @@
 //! Running a job, sending its numbers, and keeping them on a second heap.
 
 ghost use Rattle.std.specs.Prelude.{◌≡◌, map, [], IfOk, IfErr, OnOk};
-ghost use Rattle.call_exits.specs.Sides.{sides};
+ghost use Rattle.exit_statuses.specs.Sides.{sides};
 ghost use Rattle.rt_mail.specs.Calls.{HasMail};
 ghost use Rattle.rt_mail.specs.Recalled.{recalled_in};
 ghost use Rattle.rt_mail.specs.Texts.{IsCause};
@@ -9,7 +9,7 @@ ghost use Rattle.rt_mail.specs.Texts.{IsCause};
 use crate::keeping::kept;
 use crate::reading::read_job;
 use atom_board::Closed;
-use call_exits::Refusal;
+use exit_statuses::Refusal;
 use mail_post::Taken;
 use mail_runs::deliver;
 use never_heap::{Logs, Pace};

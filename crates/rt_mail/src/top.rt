@@ -1,8 +1,8 @@
 //! The top call.
 
 ghost use Rattle.std.specs.Prelude.{◌≡◌, ◌≢◌, ◌≤◌, ◌⊎◌, map, string_bytes, [], Some, length, IfOk, IfErr, OnOk};
-ghost use Rattle.call_exits.specs.Exits.{IsWritten};
-ghost use Rattle.call_exits.specs.Sides.{sides};
+ghost use Rattle.exit_statuses.specs.Exits.{IsWritten};
+ghost use Rattle.exit_statuses.specs.Sides.{sides};
 ghost use Rattle.trace_text.specs.Faults.{Rose};
 ghost use Rattle.rt_mail.specs.Calls.{IsCarriedOut, HasMail};
 ghost use Rattle.rt_mail.specs.Recalled.{recalled_in};
@@ -12,7 +12,7 @@ ghost use Rattle.rt_mail.specs.Texts.{IsCause};
 use crate::exit::MailExit;
 use crate::printing::write_lines;
 use crate::running::{Delivered, mailed};
-use call_exits::{Refusal, refused};
+use exit_statuses::{Refusal, refused};
 use never_heap::Pace;
 use std::alloc::Global;
 use std::sync::Wait;

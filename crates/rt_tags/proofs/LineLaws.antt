@@ -2,7 +2,7 @@
 use Rattle.std.proofs.Common.{◌≡◌, ℕ, ◌≤◌, ◌^◌, Some, None, List, [], ◌∷◌, codes, decimal, refl, ◌∙◌, subst, arith}
 use Rattle.array_scripts.specs.declared.header.Header.{Header}
 use Rattle.array_scripts.specs.Kinds.{Tokens, IsHeader, Fits, below, line_at, told_at, language}
-use Rattle.array_scripts.proofs.TokenLaws.{bind_then, some_is, chosen, below_sound, below_again, one_of, three_of}
+use Rattle.array_scripts.proofs.TokenLaws.{bind_then, some_is, chosen, below_sound, below_again, three_of, place_sound}
 use Rattle.array_scripts.proofs.LineLaws.{kind_reads}
 use Rattle.scripts.specs.Scripts.{Reads}
 use Rattle.tag_table.specs.declared.operation.Operation.{Operation}
@@ -31,34 +31,18 @@ write_sound tags first tokens op is e =
       (a.1, b.1, c.1),
     )))))
 
-clear_sound : (tags : ℕ) (first : List ℕ) (tokens : Tokens) (op : Operation)
-    → first ≡ codes "clear" → clear_at tags tokens ≡ Some op → SoundOp tags (first ∷ tokens) op
-unfolding clear_at
-clear_sound tags first tokens op is e =
-    bind_then (one_token_of tokens) _ op e (λ token is1 e1.
-    bind_then (below tags token) _ op e1 (λ i is2 e2.
-    let a = below_sound tags token i is2 in
-    subst (λ (y : Operation). SoundOp tags (first ∷ tokens) y) (some_is e2)
-    ((λ k. is k ∷ (one_of tokens token is1 ∙ (λ j. a.0 j ∷ [])) k), a.1)))
-
-read_sound : (tags : ℕ) (first : List ℕ) (tokens : Tokens) (op : Operation)
-    → first ≡ codes "read" → read_at tags tokens ≡ Some op → SoundOp tags (first ∷ tokens) op
-unfolding read_at
-read_sound tags first tokens op is e =
-    bind_then (one_token_of tokens) _ op e (λ token is1 e1.
-    bind_then (below tags token) _ op e1 (λ i is2 e2.
-    let a = below_sound tags token i is2 in
-    subst (λ (y : Operation). SoundOp tags (first ∷ tokens) y) (some_is e2)
-    ((λ k. is k ∷ (one_of tokens token is1 ∙ (λ j. a.0 j ∷ [])) k), a.1)))
-
 op_sound : (tags : ℕ) (line : Tokens) (op : Operation) → op_at tags line ≡ Some op
     → SoundOp tags line op
-unfolding op_at
+unfolding op_at clear_at read_at
 op_sound tags [] op e = absurd cc
 op_sound tags (first ∷ tokens) op e =
     chosen first (codes "write") _ _ op e (write_sound tags first tokens op) (λ e1.
-    chosen first (codes "clear") _ _ op e1 (clear_sound tags first tokens op) (λ e2.
-    chosen first (codes "read") _ None op e2 (read_sound tags first tokens op) (λ bad. absurd cc)))
+    chosen first (codes "clear") _ _ op e1
+    (place_sound (SoundOp tags) tags (codes "clear") Clear (λ i low. (refl, low)) first tokens op)
+    (λ e2.
+    chosen first (codes "read") _ None op e2
+    (place_sound (SoundOp tags) tags (codes "read") Read (λ i low. (refl, low)) first tokens op)
+    (λ bad. absurd cc)))
 
 -- and what is spelled is read
 op_again : (tags : ℕ) (op : Operation) → tags ≤ 1024 → IsOperationInRange tags op
@@ -80,8 +64,7 @@ apart : (h : Header) (t : ℕ) (before : List Operation) (op : Operation)
     → line_at tag_kind h t before (op_line op) ≡ told_at tag_kind h t before (op_line op)
 unfolding line_at
 apart h t before (Write i v q) = refl
-apart h t before (Clear i) = refl
-apart h t before (Read i) = refl
+apart h t before _ = refl
 
 pub tag_reads : Reads (language tag_kind) (IsHeader tag_kind) (Fits tag_kind)
 tag_reads = kind_reads tag_kind (record {

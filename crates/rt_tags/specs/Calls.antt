@@ -5,13 +5,13 @@ use Rattle.array_scripts.specs.Calls as calls
 use Rattle.array_scripts.specs.Scripts.{HasRoom, IsReadAs}
 use Rattle.array_scripts.specs.Tellings.{lines_from}
 use Rattle.atom_board.specs.Mutators.{ClosedState}
-use Rattle.call_exits.specs.Exits.{IsWritten}
-use Rattle.call_exits.specs.Sides.{Sides}
+use Rattle.exit_statuses.specs.Exits.{IsWritten}
+use Rattle.exit_statuses.specs.Sides.{Sides}
 use Rattle.never_heap.specs.Licensed.{NoFulls}
 use Rattle.operations.specs.Linearizations.{Call, IsLinearization}
 use Rattle.tag_table.specs.declared.operation.Operation.{Operation}
 use Rattle.tag_table.specs.Tables.{Tag, answer, table_after, empty_table, rows_of, decides, ends}
-use Rattle.threaded_runs.specs.Ends.{HasHistory, job_of}
+use Rattle.threaded_runs.specs.EndedRuns.{HasHistory, job_of}
 use Rattle.rt_tags.specs.declared.exit.TagExit.{TagExit}
 use Rattle.rt_tags.specs.Lines.{tag_kind}
 use Rattle.rt_tags.specs.Scripts.{job_of_script}
@@ -36,11 +36,6 @@ pub record Headline (source sink : Sides) (status : ℕ) (run : ClosedState) : T
   pub table : HasTable source run
   pub text : IsWritten sink status
       (lines_from tag_text 0 (answers_from table.header.threads table.order))
-
--- a table was kept, and this is what its operations answered
-abbrev pub HasAnswers : Sides → ClosedState → List (List Tag) → Type 0
-HasAnswers source run told =
-    (table : HasTable source run) × (told ≡ answers_from table.header.threads table.order)
 
 -- a call did what it is to do, whatever it was given: a run that is shown kept the script's table
 abbrev pub IsCarriedOut : List (List ℕ) → Sides → Sides → TagExit → Type 0

@@ -1,11 +1,16 @@
--- The job that a script of tags asks for.
-use Rattle.std.specs.Prelude.{List}
+-- The commands of a script of tags, and the job that it asks for.
+use Rattle.std.specs.Prelude.{ℕ, List, map, flat_map}
 use Rattle.array_scripts.specs.declared.header.Header.{Header}
+use Rattle.never_heap.specs.declared.Command.{Command}
 use Rattle.operations.specs.Linearizations.{traces_of}
 use Rattle.tag_table.specs.declared.operation.Operation.{Operation}
 use Rattle.tag_table.specs.Tables.{rows_of, command_at}
 use Rattle.trace_text.specs.Jobs.{Job}
 use Rattle.rt_tags.specs.Lines.{tag_kind}
+
+-- those of a thread's operations
+abbrev pub commands : ℕ → List Operation → List Command
+commands t ops = map command_at (flat_map rows_of ops)
 
 abbrev pub job_of_script : Header → List (List Operation) → Job
 job_of_script h scripts =

@@ -1,7 +1,7 @@
 -- The lines in which a table's answers are told.
 use Rattle.std.specs.Prelude.{ℕ, Some, None, List, ◌++◌, codes, decimal}
 use Rattle.array_scripts.specs.Answers as answers
-use Rattle.never_heap.specs.declared.Entry.{Entry}
+use Rattle.never_heap.specs.declared.Reply.{Reply}
 use Rattle.operations.specs.Linearizations.{Call}
 use Rattle.tag_table.specs.declared.operation.Operation.{Operation}
 use Rattle.tag_table.specs.Tables.{Tag, answers_of}
@@ -10,9 +10,9 @@ abbrev pub tag_text : Tag → List ℕ
 tag_text None = codes "none"
 tag_text (Some p) = decimal p.0 ++ codes " " ++ decimal p.1
 
--- the answers of scripts, each by the log of its thread
-abbrev pub answers_in : List (List Operation) → List (List Entry) → List (List Tag)
-answers_in scripts logs = answers.answers_in (λ t. answers_of) 0 scripts logs
+-- what replies to a thread's operations tell
+abbrev pub told : ℕ → List Operation → List Reply → List Tag
+told t ops replies = answers_of ops replies
 
 -- what the calls of n threads answered, thread by thread
 abbrev pub answers_from : ℕ → List (Call Operation Tag) → List (List Tag)

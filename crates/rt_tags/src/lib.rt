@@ -11,7 +11,6 @@ ghost use Rattle.rt_tags.specs.Lines.{tag_kind, IsTagScript};
 mod exit;
 mod kind;
 mod line;
-mod planning;
 mod running;
 mod script;
 mod top;

@@ -1,18 +1,13 @@
 //! The top call.
 
-ghost use Rattle.std.specs.Prelude.{◌≡◌, [], map, string_bytes, IfOk, IfErr, OnOk};
-ghost use Rattle.call_exits.specs.Sides.{sides};
-ghost use Rattle.rt_tags.specs.Calls.{IsCarriedOut, HasAnswers};
-ghost use Rattle.array_scripts.specs.Scripts.{IsCause};
-ghost use Rattle.rt_tags.specs.Lines.{tag_kind};
+ghost use Rattle.std.specs.Prelude.{map, string_bytes};
+ghost use Rattle.exit_statuses.specs.Sides.{sides};
+ghost use Rattle.rt_tags.specs.Calls.{IsCarriedOut};
 
 use crate::exit::TagExit;
 use crate::kind::Tags;
-use crate::running::{Answers, kept};
-use array_scripts::tell_answers;
-use atom_board::Closed;
-use call_exits::{Refusal, refused};
 use never_heap::Pace;
+use script_runs::{ScriptExit, run_script};
 use std::alloc::Global;
 use std::sync::Wait;
 use std::thread::Threads;
@@ -40,37 +35,8 @@ pub fn tags<R: Threads + Wait + Sync, S: Source, K: Sink, Q: Pace>(
         (sides S.left S.faults source.old source.new)
         (sides K.held K.faults sink.old sink.new) result }
 {
-    match asked(rt, alloc, words, source, pace) {
-        Ok((run, told)) => TagExit {
-            status: tell_answers::<Tags, K>(&told, sink),
-            due: 0,
-            run: Some(run),
-        },
-        Err(refusal) => TagExit {
-            status: refused(refusal, b"rt_tags", sink),
-            due: refusal.status(),
-            run: None,
-        },
-    }
-}
-
-/// The run of a script and its answers, where there are no words.
-fn asked<R: Threads + Wait + Sync, S: Source, Q: Pace>(
-    rt: &R,
-    alloc: Global,
-    words: &[String],
-    source: &mut S,
-    pace: &Q,
-) -> Result<(Closed, Answers), Refusal>
-    ensures none { OnOk result (map (λ w. string_bytes w) words.now ≡ []) }
-    ensures kept { IfOk result (λ x. HasAnswers (sides S.left S.faults source.old source.new)
-        x.0 (map (λ v. v.items) x.1.items)) }
-    ensures still { OnOk result (S.faults source.new ≡ S.faults source.old) }
-    ensures refused { IfErr result (IsCause tag_kind (map (λ w. string_bytes w) words.now)
-        (sides S.left S.faults source.old source.new)) }
-{
-    if !words.is_empty() {
-        return Err(Refusal::Usage);
-    }
-    kept(rt, alloc, source, pace)
+    let ScriptExit { status, due, run } = run_script::<Tags, R, S, K, Q>(
+        rt, alloc, b"rt_tags", words, source, sink, pace,
+    );
+    TagExit { status, due, run }
 }

@@ -1,10 +1,10 @@
 -- A text has one answer, whatever the words ask for.
 use Rattle.std.proofs.Common.{ℕ, ◌≡◌, inl, inr, List, [], ◌∷◌, true, false, refl, sym, ◌∙◌, subst, arith}
-use Rattle.call_exits.specs.declared.refusal.Refusal.{Refusal}
-use Rattle.call_exits.specs.declared.refusal.Refusal.TheVariants.{BadLine, LiveTooSmall, NoRate, TurnsUsed}
-use Rattle.call_exits.specs.Exits.{IsDue}
-use Rattle.call_exits.specs.Refusals.{status_of}
-use Rattle.call_exits.proofs.CallEnds.{AreApart}
+use Rattle.exit_statuses.specs.declared.refusal.Refusal.{Refusal}
+use Rattle.exit_statuses.specs.declared.refusal.Refusal.TheVariants.{BadLine, LiveTooSmall, NoRate, TurnsUsed}
+use Rattle.exit_statuses.specs.Exits.{IsDue}
+use Rattle.exit_statuses.specs.Refusals.{status_of}
+use Rattle.exit_statuses.proofs.ExitStatuses.{AreApart}
 use Rattle.heap_system.specs.Locals.{is_done}
 use Rattle.heap_system.specs.Machines as machines
 use Rattle.heap_system.proofs.Rooms.{done_agree}
@@ -20,7 +20,7 @@ use Rattle.trace_text.proofs.WholeLaws.{apart}
 use Rattle.rtheap_core.specs.declared.task.Task.{Task}
 use Rattle.rtheap_core.specs.declared.task.Task.TheVariants.{Replay}
 use Rattle.rtheap_core.specs.Calls.{IsDoneBy, IsFine}
-use Rattle.rtheap_core.specs.Ends.{EndsIn}
+use Rattle.rtheap_core.specs.EndedRuns.{EndsIn}
 use Rattle.rtheap_core.specs.Refusals.{LeavesUndone, UsesTurns, Causes}
 use Rattle.rtheap_core.specs.Tasks.{Ask, AskForJob}
 use Rattle.rtheap_core.proofs.OneTask.{one_task}

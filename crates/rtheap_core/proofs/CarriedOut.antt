@@ -1,11 +1,11 @@
 -- What a call did, put together from what it found and what it wrote.
 use Rattle.std.proofs.Common.{ℕ, ◌≡◌, ◌≢◌, ◌↔◌, List, [], ◌∷◌, codes, Option, Some, None, IfSome, IsSome, refl, sym, ◌∙◌, subst}
 use Rattle.atom_board.specs.Mutators.{ClosedState}
-use Rattle.call_exits.specs.declared.refusal.Refusal.{Refusal}
-use Rattle.call_exits.specs.Exits.{IsWritten, IsToldBy}
-use Rattle.call_exits.specs.Refusals.{status_of, refusal_line, HasRead}
-use Rattle.call_exits.specs.Sides.{IsUnfailed, IsUntouched}
-use Rattle.call_exits.proofs.CallEnds.{never_done, done_is_ended, refusal_is_ended}
+use Rattle.exit_statuses.specs.declared.refusal.Refusal.{Refusal}
+use Rattle.exit_statuses.specs.Exits.{IsWritten, IsToldBy}
+use Rattle.exit_statuses.specs.Refusals.{status_of, refusal_line, HasRead}
+use Rattle.exit_statuses.specs.Sides.{IsUnfailed, IsUntouched}
+use Rattle.exit_statuses.proofs.ExitStatuses.{never_done, done_is_ended, refusal_is_ended}
 use Rattle.heap_system.specs.Systems.{Finish}
 use Rattle.heap_system.specs.Systems.{units_of as units_in}
 use Rattle.schedules.specs.declared.Schedule.{Schedule}
@@ -19,7 +19,7 @@ use Rattle.rtheap_core.specs.declared.exit.RunEnd.TheVariants.{Replayed, Ran}
 use Rattle.rtheap_core.specs.declared.task.Task.{Task}
 use Rattle.rtheap_core.specs.declared.task.Task.TheVariants.{Run, Replay, Plan, Make, Trial}
 use Rattle.rtheap_core.specs.Calls.{Call, IsFine, IsCarriedOut, exit_of}
-use Rattle.rtheap_core.specs.Ends.{job_of}
+use Rattle.rtheap_core.specs.EndedRuns.{job_of}
 use Rattle.rtheap_core.specs.Exits.{Headline, IsReplay, IsOfThreads, Planned, Tried, rate_text}
 use Rattle.rtheap_core.specs.Generated.{generated_job}
 use Rattle.rtheap_core.specs.Outcomes.{HasRun, HasReplay, HasRate}

@@ -1,15 +1,15 @@
 -- What came of a replay of the job that was read.
 use Rattle.std.proofs.Common.{ℕ, ◌≡◌, List, Result, Ok, Err, IfOk, IfErr, sym, subst}
-use Rattle.call_exits.specs.Sides.{Sides, IsUnfailed}
+use Rattle.exit_statuses.specs.Sides.{Sides, IsUnfailed}
 use Rattle.rate_plan.specs.Rates.{IsAdmitted}
 use Rattle.heap_system.specs.Systems.{Finish}
 use Rattle.schedules.specs.declared.Schedule.{Schedule}
 use Rattle.trace_text.specs.Jobs.{Job}
 use Rattle.rtheap_core.specs.declared.exit.RunEnd.TheVariants.{Replayed}
-use Rattle.call_exits.specs.declared.refusal.Refusal.{Refusal}
-use Rattle.call_exits.specs.declared.refusal.Refusal.TheVariants.{OutOfMemory, TurnsUsed}
+use Rattle.exit_statuses.specs.declared.refusal.Refusal.{Refusal}
+use Rattle.exit_statuses.specs.declared.refusal.Refusal.TheVariants.{OutOfMemory, TurnsUsed}
 use Rattle.rtheap_core.specs.declared.task.Task.TheVariants.{Replay}
-use Rattle.rtheap_core.specs.Ends.{job_of}
+use Rattle.rtheap_core.specs.EndedRuns.{job_of}
 use Rattle.rtheap_core.specs.Exits.{IsReadAs}
 use Rattle.rtheap_core.specs.Outcomes.{IsReplayShown, HasReplay, IsReplayFault}
 use Rattle.rtheap_core.specs.Refusals.{IsCause}

@@ -1,11 +1,11 @@
 -- What came of a generated job.
 use Rattle.std.proofs.Common.{ℕ, ◌≡◌, List, Option, Some, None, ap, ◌∙◌, subst, arith}
-use Rattle.call_exits.specs.Exits.{IsWritten}
-use Rattle.call_exits.specs.Sides.{Sides, IsUntouched}
+use Rattle.exit_statuses.specs.Exits.{IsWritten}
+use Rattle.exit_statuses.specs.Sides.{Sides, IsUntouched}
 use Rattle.never_heap.specs.Histories.{starts_in}
 use Rattle.trace_text.specs.Streams.{TookAtMost}
 use Rattle.trace_text.specs.Texts.{totals_line}
-use Rattle.call_exits.specs.declared.refusal.Refusal.TheVariants.{OutOfMemory}
+use Rattle.exit_statuses.specs.declared.refusal.Refusal.TheVariants.{OutOfMemory}
 use Rattle.rtheap_core.specs.declared.task.Task.{Task}
 use Rattle.rtheap_core.specs.declared.trial.Totals.{Totals}
 use Rattle.rtheap_core.specs.Exits.{Tried}

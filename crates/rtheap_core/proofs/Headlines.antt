@@ -1,7 +1,7 @@
 -- The headline of an ended run.
 use Rattle.std.proofs.Common.{ℕ, ◌≡◌, sym, ap, ◌∙◌, subst}
-use Rattle.call_exits.specs.Exits.{IsWritten}
-use Rattle.call_exits.specs.Sides.{Sides}
+use Rattle.exit_statuses.specs.Exits.{IsWritten}
+use Rattle.exit_statuses.specs.Sides.{Sides}
 use Rattle.never_heap.specs.Histories.{parts, starts_in}
 use Rattle.atom_board.specs.Mutators.{ClosedState}
 use Rattle.trace_text.specs.Texts.{run_text, text_by_threads}
@@ -10,7 +10,7 @@ use Rattle.heap_system.specs.Systems.{units_of as units_in}
 use Rattle.schedules.specs.declared.Schedule.{Schedule}
 use Rattle.trace_text.specs.Orders.{text_in_order}
 use Rattle.rtheap_core.specs.declared.exit.RunEnd.TheVariants.{Replayed, Ran}
-use Rattle.rtheap_core.specs.Ends.{HasHistory}
+use Rattle.rtheap_core.specs.EndedRuns.{HasHistory}
 use Rattle.rtheap_core.specs.Exits.{Headline, IsReplay, IsOfThreads}
 use Rattle.rtheap_core.specs.Outcomes.{HasRun, HasReplay}
 

@@ -5,9 +5,9 @@ use Rattle.never_heap.specs.declared.Entry.{Entry}
 use Rattle.never_heap.specs.Histories.{HistoryItem, Started, Did, is_full, part, parts_from}
 use Rattle.never_heap.specs.Licensed.{NoFulls}
 use Rattle.rtheap_core.specs.declared.exit.RunEnd.{RunEnd}
-use Rattle.rtheap_core.specs.Ends.{job_of}
+use Rattle.rtheap_core.specs.EndedRuns.{job_of}
 use Rattle.rtheap_core.specs.Exits.{Headline, NoneFull, NeverFull}
-use Rattle.call_exits.specs.Sides.{Sides}
+use Rattle.exit_statuses.specs.Sides.{Sides}
 
 abbrev NotFull : Entry → Type 0
 NotFull e = is_full e.reply ≡ false

@@ -7,9 +7,9 @@ use Rattle.never_heap.specs.Orders.{item_of, IsHistoryOf}
 use Rattle.heap_system.specs.Systems.{Finish, units_of}
 use Rattle.schedules.specs.declared.Schedule.{Schedule}
 use Rattle.trace_text.specs.Orders.{IsOrderOf, order_text, text_in_order}
-use Rattle.call_exits.specs.Exits.{IsWritten}
+use Rattle.exit_statuses.specs.Exits.{IsWritten}
 use Rattle.rtheap_core.specs.Outcomes.{IsReplayShown, HasOrder}
-use Rattle.call_exits.specs.Sides.{Sides}
+use Rattle.exit_statuses.specs.Sides.{Sides}
 
 pub has_order : (schedule : Schedule) (turns : ℕ) (f : Finish)
     → ((order : List Item) (logs : List (List Entry)) (h : List HistoryItem)

@@ -22,7 +22,7 @@ use Rattle.never_heap.proofs.StepChanges.{change_of, count_of_other, step_count,
 use Rattle.heap_machine.specs.declared.pass.Pass.{Pass}
 use Rattle.heap_system.specs.Locals.{LocalState, PartFits, command_of, entries_of}
 use Rattle.heap_system.specs.Machines.{Run, IsRunOf, IsJob, IsAfterTurns, local_in}
-use Rattle.heap_system.specs.Parts.{Part, Rest, Enter, Serve, Mark, Sweep, Build, Again, Idle, TurnOver, Leave}
+use Rattle.heap_system.specs.Parts.{Part, Rest, Enter, Serve, Mark, Sweep, Build, Retry, ToChange, PhaseChange, Leave}
 use Rattle.heap_system.specs.Pictures.{waiting, entries_waiting}
 use Rattle.heap_system.proofs.Always.{run_kept}
 use Rattle.heap_system.proofs.Kept.{Kept}
@@ -123,9 +123,9 @@ waiting_fits g c done all t work pass k (Serve f) low fits = one (waiting g (Ser
 waiting_fits g c done all t work pass k (Mark x) low fits = omega arith
 waiting_fits g c done all t work pass k (Sweep x) low fits = omega arith
 waiting_fits g c done all t work pass k (Build x) low fits = omega arith
-waiting_fits g c done all t work pass k Again low fits = omega arith
-waiting_fits g c done all t work pass k Idle low fits = omega arith
-waiting_fits g c done all t work pass k (TurnOver x) low fits = omega arith
+waiting_fits g c done all t work pass k Retry low fits = omega arith
+waiting_fits g c done all t work pass k ToChange low fits = omega arith
+waiting_fits g c done all t work pass k (PhaseChange x) low fits = omega arith
 waiting_fits g c done all t work pass k Leave low fits = omega arith
 
 few_at : (c : Config) (traces : List (List Command)) (t : ℕ)

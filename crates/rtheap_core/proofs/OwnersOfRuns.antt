@@ -1,11 +1,11 @@
 -- The owner words of a call that may have run.
 use Rattle.std.proofs.Common.{ℕ, List, Option, Some, None, IfSome, take}
-use Rattle.call_exits.specs.Sides.{Sides}
+use Rattle.exit_statuses.specs.Sides.{Sides}
 use Rattle.heap_system.specs.Machines.{Run, IsRunOf}
 use Rattle.rate_plan.specs.Rates.{IsAdmitted}
 use Rattle.trace_text.specs.Jobs.{Job, IsJobInBounds}
 use Rattle.rtheap_core.specs.declared.exit.RunEnd.{RunEnd}
-use Rattle.rtheap_core.specs.Ends.{job_of}
+use Rattle.rtheap_core.specs.EndedRuns.{job_of}
 use Rattle.rtheap_core.specs.Exits.{Headline}
 use Rattle.rtheap_core.specs.Owners.{HasOwners, OwnersStand}
 

@@ -23,11 +23,11 @@ use Rattle.schedules.specs.Schedules.{turns_of}
 use Rattle.trace_text.specs.Jobs.{Job}
 use Rattle.rtheap_core.specs.declared.exit.RunEnd.TheVariants.{Replayed}
 use Rattle.rtheap_core.specs.declared.trial.Totals.{Totals}
-use Rattle.rtheap_core.specs.Ends.{EndsIn, EndsBy, job_of, run_of}
+use Rattle.rtheap_core.specs.EndedRuns.{EndsIn, EndsBy, job_of, run_of}
 use Rattle.rtheap_core.specs.Outcomes.{HasTotals}
 use Rattle.rtheap_core.specs.Refusals.{LeavesUndone}
 use Rattle.rtheap_core.specs.Outcomes as outcomes
-use Rattle.threaded_runs.specs.Ends.{commands_of}
+use Rattle.threaded_runs.specs.EndedRuns.{commands_of}
 use Rattle.threaded_runs.proofs.Shown.{TurnLaws, has_history, history_is, turned_is, traces_logged}
 
 after_traces : (c : Config) (r : Run) (ts : List ℕ)

@@ -1,10 +1,10 @@
 -- What was read of a source, and why it is no job with a rate.
 use Rattle.std.proofs.Common.{ℕ, List}
-use Rattle.call_exits.specs.declared.refusal.Refusal.{Refusal}
-use Rattle.call_exits.specs.declared.refusal.Refusal.TheVariants.{OutOfMemory}
-use Rattle.call_exits.specs.Refusals.{refusal_of, refusal_of_plan, IsReadWhole, IsReadRefusal, HasRead}
-use Rattle.call_exits.specs.Sides.{Sides, IsUnfailed}
-use Rattle.call_exits.proofs.WholeTexts.{few_taken, refused_unread}
+use Rattle.exit_statuses.specs.declared.refusal.Refusal.{Refusal}
+use Rattle.exit_statuses.specs.declared.refusal.Refusal.TheVariants.{OutOfMemory}
+use Rattle.exit_statuses.specs.Refusals.{refusal_of, refusal_of_plan, IsReadWhole, IsReadRefusal, HasRead}
+use Rattle.exit_statuses.specs.Sides.{Sides, IsUnfailed}
+use Rattle.exit_statuses.proofs.WholeTexts.{few_taken, refused_unread}
 use Rattle.rate_plan.specs.declared.PlanFault.{PlanFault}
 use Rattle.rate_plan.specs.declared.PlanFault.TheVariants as plans
 use Rattle.rate_plan.specs.Rates.{IsAdmitted, IsRefusal}

@@ -1,8 +1,8 @@
 -- A whole call, and what is promised of it.
 use Rattle.std.specs.Prelude.{ℕ, ◌≡◌, ◌≤◌, ◌⊎◌, ◌↔◌, List, [], ◌∷◌, codes, IfSome, IsSome}
-use Rattle.call_exits.specs.Exits as calls
-use Rattle.call_exits.specs.Exits.{IsWritten, IsDueOrFails, IsDueFor, IsEnded}
-use Rattle.call_exits.specs.Sides.{Sides, IsUntouched}
+use Rattle.exit_statuses.specs.Exits as calls
+use Rattle.exit_statuses.specs.Exits.{IsWritten, IsDueOrFails, IsDueFor, IsEnded}
+use Rattle.exit_statuses.specs.Sides.{Sides, IsUntouched}
 use Rattle.heap_system.specs.Machines as machines
 use Rattle.rate_plan.specs.declared.PlanFault.{PlanFault}
 use Rattle.heap_system.specs.Serials.{job_bound}
@@ -14,7 +14,7 @@ use Rattle.trace_text.specs.Jobs.{Job, IsJob, IsInput, input_limit}
 use Rattle.rtheap_core.specs.declared.exit.Exit.{Exit}
 use Rattle.rtheap_core.specs.declared.task.Task.{Task}
 use Rattle.rtheap_core.specs.declared.task.Task.TheVariants.{Run, Replay, Plan, Make, Trial}
-use Rattle.rtheap_core.specs.Ends.{EndsIn}
+use Rattle.rtheap_core.specs.EndedRuns.{EndsIn}
 use Rattle.rtheap_core.specs.Exits.{Headline, IsReplay, IsOfThreads, Planned, Tried}
 use Rattle.rtheap_core.specs.Generated.{generated_job}
 use Rattle.rtheap_core.specs.Refusals.{LeavesUndone, Causes}

@@ -1,8 +1,8 @@
 -- What the top call answers.
 use Rattle.std.specs.Prelude.{ℕ, ◌≡◌, ◌≤◌, false, List, [], ◌∷◌, ◌++◌, codes, decimal, All}
-use Rattle.call_exits.specs.Exits.{IsWritten}
-use Rattle.call_exits.specs.Refusals.{IsReadWhole}
-use Rattle.call_exits.specs.Sides.{Sides}
+use Rattle.exit_statuses.specs.Exits.{IsWritten}
+use Rattle.exit_statuses.specs.Refusals.{IsReadWhole}
+use Rattle.exit_statuses.specs.Sides.{Sides}
 use Rattle.never_heap.specs.declared.Entry.{Entry}
 use Rattle.never_heap.specs.Histories.{is_full, starts_in, work_in}
 use Rattle.never_heap.specs.Licensed.{StartsSmall}
@@ -11,13 +11,13 @@ use Rattle.heap_system.specs.Serials.{job_bound}
 use Rattle.rate_plan.specs.Rates.{IsAdmitted, IsRate}
 use Rattle.schedules.specs.declared.Schedule.{Schedule}
 use Rattle.schedules.specs.declared.Schedule.TheVariants.{Serial}
-use Rattle.threaded_runs.specs.Ends.{HasOwnTurns}
+use Rattle.threaded_runs.specs.EndedRuns.{HasOwnTurns}
 use Rattle.trace_text.specs.Jobs.{Job, IsJob, input_limit}
 use Rattle.trace_text.specs.Lines.{line_feed}
 use Rattle.trace_text.specs.Texts.{totals_line}
 use Rattle.rtheap_core.specs.declared.exit.RunEnd.{RunEnd}
 use Rattle.rtheap_core.specs.declared.exit.RunEnd.TheVariants.{Replayed, Ran}
-use Rattle.rtheap_core.specs.Ends.{HasHistory, EndsIn, IsReplayOf, run_of, job_of, logs_of, text_of}
+use Rattle.rtheap_core.specs.EndedRuns.{HasHistory, EndsIn, IsReplayOf, run_of, job_of, logs_of, text_of}
 use Rattle.rtheap_core.specs.Generated.{generated_job}
 
 -- a text was read that is this job

@@ -1,6 +1,6 @@
 pub mod Tasks
 pub mod Generated
-pub mod Ends
+pub mod EndedRuns
 pub mod Exits
 pub mod Owners
 pub mod Refusals

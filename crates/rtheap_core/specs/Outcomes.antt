@@ -1,6 +1,6 @@
 -- What became of a task before anything was written.
 use Rattle.std.specs.Prelude.{ℕ, ◌≡◌, ◌≤◌, Some, List, map}
-use Rattle.call_exits.specs.Sides.{Sides}
+use Rattle.exit_statuses.specs.Sides.{Sides}
 use Rattle.never_heap.specs.declared.Item.{Item}
 use Rattle.never_heap.specs.Histories.{starts_in, work_in}
 use Rattle.never_heap.specs.Orders.{item_of, IsHistoryOf}
@@ -10,15 +10,15 @@ use Rattle.heap_system.specs.Systems.{Finish}
 use Rattle.rate_plan.specs.Rates.{IsAdmitted, IsRate}
 use Rattle.schedules.specs.declared.Schedule.{Schedule}
 use Rattle.schedules.specs.declared.Schedule.TheVariants.{Serial}
-use Rattle.threaded_runs.specs.Ends.{HasOwnTurns}
+use Rattle.threaded_runs.specs.EndedRuns.{HasOwnTurns}
 use Rattle.trace_text.specs.Jobs.{Job}
 use Rattle.trace_text.specs.Orders.{IsOrderOf}
 use Rattle.rtheap_core.specs.declared.exit.RunEnd.{RunEnd}
 use Rattle.rtheap_core.specs.declared.exit.RunEnd.TheVariants.{Replayed}
-use Rattle.call_exits.specs.declared.refusal.Refusal.{Refusal}
-use Rattle.call_exits.specs.declared.refusal.Refusal.TheVariants.{OutOfMemory, TurnsUsed}
+use Rattle.exit_statuses.specs.declared.refusal.Refusal.{Refusal}
+use Rattle.exit_statuses.specs.declared.refusal.Refusal.TheVariants.{OutOfMemory, TurnsUsed}
 use Rattle.rtheap_core.specs.declared.trial.Totals.{Totals}
-use Rattle.rtheap_core.specs.Ends.{HasHistory, EndsIn, IsReplayOf, run_of, job_of}
+use Rattle.rtheap_core.specs.EndedRuns.{HasHistory, EndsIn, IsReplayOf, run_of, job_of}
 use Rattle.rtheap_core.specs.Exits.{IsReadAs}
 use Rattle.rtheap_core.specs.Refusals.{LeavesUndone}
 

@@ -6,12 +6,12 @@ use Rattle.block_store.specs.Owners.{owner_of}
 use Rattle.block_store.specs.Places.{OwnerOf}
 use Rattle.never_heap.specs.Graphs.{has_name}
 use Rattle.never_heap.specs.Histories.{replay}
-use Rattle.kept_names.specs.States.{sizes}
+use Rattle.name_invariant.specs.States.{sizes}
 use Rattle.heap_system.specs.Machines.{Run, IsRunOf, heap_in}
 use Rattle.heap_system.specs.Pictures.{kept_state}
-use Rattle.call_exits.specs.Sides.{Sides}
+use Rattle.exit_statuses.specs.Sides.{Sides}
 use Rattle.rtheap_core.specs.declared.exit.RunEnd.{RunEnd}
-use Rattle.rtheap_core.specs.Ends.{job_of}
+use Rattle.rtheap_core.specs.EndedRuns.{job_of}
 use Rattle.rtheap_core.specs.Exits.{Headline}
 
 -- No name has a serial above 131,072, and each block of a kept object has the owner word of its

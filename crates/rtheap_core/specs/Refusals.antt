@@ -1,9 +1,9 @@
 -- Why a call was refused: which text causes which refusal.
 use Rattle.std.specs.Prelude.{ℕ, List}
-use Rattle.call_exits.specs.declared.refusal.Refusal.{Refusal}
-use Rattle.call_exits.specs.declared.refusal.Refusal.TheVariants.{BadLine, LiveTooSmall, NoRate, TurnsUsed}
-use Rattle.call_exits.specs.Refusals as calls
-use Rattle.call_exits.specs.Sides.{Sides}
+use Rattle.exit_statuses.specs.declared.refusal.Refusal.{Refusal}
+use Rattle.exit_statuses.specs.declared.refusal.Refusal.TheVariants.{BadLine, LiveTooSmall, NoRate, TurnsUsed}
+use Rattle.exit_statuses.specs.Refusals as calls
+use Rattle.exit_statuses.specs.Sides.{Sides}
 use Rattle.rate_plan.specs.declared.PlanFault.TheVariants as plans
 use Rattle.rate_plan.specs.Rates.{IsAdmitted, IsRefusal}
 use Rattle.heap_system.specs.Machines.{Run}

@@ -14,7 +14,7 @@ pub enum RunEnd {
 }
 
 impl Logs for RunEnd {
-    ghost use Rattle.rtheap_core.specs.Ends.{logs_of, cycles_of, units_of};
+    ghost use Rattle.rtheap_core.specs.EndedRuns.{logs_of, cycles_of, units_of};
 
     ghost logs = { logs_of };
 

@@ -7,10 +7,10 @@ ghost use Rattle.trace_text.specs.JobTexts.{job_text};
 ghost use Rattle.trace_text.specs.Texts.{totals_line};
 ghost use Rattle.rtheap_core.specs.declared.task.Task.TheVariants.{Make, Trial};
 ghost use Rattle.rtheap_core.specs.Calls.{IsCarriedOut};
-ghost use Rattle.call_exits.specs.Exits.{IsWritten};
+ghost use Rattle.exit_statuses.specs.Exits.{IsWritten};
 ghost use Rattle.rtheap_core.specs.Generated.{generated_job};
 ghost use Rattle.rtheap_core.specs.Outcomes.{HasTotals};
-ghost use Rattle.call_exits.specs.Sides.{Sides, sides, IsUntouched};
+ghost use Rattle.exit_statuses.specs.Sides.{Sides, sides, IsUntouched};
 ghost use Rattle.rtheap_core.specs.Tasks.{AsksFor, most_lines};
 
 use crate::exit::Exit;
@@ -18,7 +18,7 @@ use crate::generated::generate;
 use crate::telling::{refused, told};
 use crate::trial::{Totals, trial};
 use block_store::OutOfMemory;
-use call_exits::Refusal;
+use exit_statuses::Refusal;
 use std::alloc::Global;
 use trace_text::{Job, LineBuffer, Sink, WRITE_FAULT, fill_totals, write_job};
 

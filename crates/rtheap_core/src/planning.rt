@@ -4,17 +4,17 @@ ghost use Rattle.std.specs.Prelude.{◌≡◌, ◌≢◌, ◌⊎◌, List, ℕ, 
 ghost use Rattle.trace_text.specs.Faults.{Rose};
 ghost use Rattle.rtheap_core.specs.declared.task.Task.TheVariants.{Plan};
 ghost use Rattle.rtheap_core.specs.Calls.{IsCarriedOut};
-ghost use Rattle.call_exits.specs.Exits.{IsWritten};
+ghost use Rattle.exit_statuses.specs.Exits.{IsWritten};
 ghost use Rattle.rtheap_core.specs.Exits.{rate_text};
 ghost use Rattle.rtheap_core.specs.Outcomes.{HasRate};
-ghost use Rattle.call_exits.specs.Sides.{sides};
+ghost use Rattle.exit_statuses.specs.Sides.{sides};
 ghost use Rattle.rtheap_core.specs.Tasks.{AsksFor, AskForJob};
 ghost use Rattle.rtheap_core.specs.Refusals.{IsCause};
 
 use crate::exit::Exit;
 use crate::reading::planned_job;
 use crate::telling::{refused, told};
-use call_exits::Refusal;
+use exit_statuses::Refusal;
 use std::alloc::Global;
 use trace_text::{LineBuffer, Sink, Source};
 

@@ -3,11 +3,11 @@
 ghost use Rattle.std.specs.Prelude.{◌≡◌, List, ℕ, IfOk, IfErr, OnOk};
 ghost use Rattle.rate_plan.specs.Rates.{IsAdmitted, IsRate};
 ghost use Rattle.rtheap_core.specs.Exits.{IsReadAs};
-ghost use Rattle.call_exits.specs.Sides.{sides};
+ghost use Rattle.exit_statuses.specs.Sides.{sides};
 ghost use Rattle.rtheap_core.specs.Tasks.{AskForJob};
 ghost use Rattle.rtheap_core.specs.Refusals.{IsCause};
 
-use call_exits::{Refusal, text_of};
+use exit_statuses::{Refusal, text_of};
 use rate_plan::plan;
 use std::alloc::Global;
 use trace_text::{INPUT_LIMIT, Job, Source, job_of};

@@ -8,11 +8,11 @@ ghost use Rattle.heap_system.specs.Systems.{AllDone, items_kept, logs_of};
 ghost use Rattle.rate_plan.specs.Rates.{IsAdmitted};
 ghost use Rattle.trace_text.specs.Jobs.{IsJobInBounds};
 ghost use Rattle.rtheap_core.specs.declared.exit.RunEnd.TheVariants as ends;
-ghost use Rattle.rtheap_core.specs.Ends.{job_of};
+ghost use Rattle.rtheap_core.specs.EndedRuns.{job_of};
 ghost use Rattle.rtheap_core.specs.Outcomes.{IsReplayShown, IsReplayFault};
 ghost use Rattle.rtheap_core.specs.Tasks.{most_turns};
 
-use call_exits::Refusal;
+use exit_statuses::Refusal;
 use heap_system::{
     Finished, System, cycles_cost_few_units, cycles_give_few_blocks, fulls_are_licensed,
 };

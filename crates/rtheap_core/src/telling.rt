@@ -1,14 +1,14 @@
 //! What is written of a task that runs nothing, and of a refusal.
 
 ghost use Rattle.std.specs.Prelude.{◌≡◌, ◌≢◌, ◌⊎◌, None, codes};
-ghost use Rattle.call_exits.specs.Exits.{IsWritten};
-ghost use Rattle.call_exits.specs.Refusals.{status_of, refusal_line};
-ghost use Rattle.call_exits.specs.Sides.{sides};
+ghost use Rattle.exit_statuses.specs.Exits.{IsWritten};
+ghost use Rattle.exit_statuses.specs.Refusals.{status_of, refusal_line};
+ghost use Rattle.exit_statuses.specs.Sides.{sides};
 ghost use Rattle.trace_text.specs.Faults.{Rose};
 ghost use Rattle.trace_text.specs.Streams.{Appends, AppendsPrefix};
 
 use crate::exit::Exit;
-use call_exits::Refusal;
+use exit_statuses::Refusal;
 use trace_text::{LineBuffer, Sink, put_line};
 
 /// Writes the line of a refusal.
@@ -25,7 +25,7 @@ pub fn refused<K: Sink>(refusal: Refusal, sink: &mut K) -> Exit
     ensures rose { result.status ≡ 6 → Rose (K.faults sink.old) (K.faults sink.new) }
 {
     Exit {
-        status: call_exits::refused(refusal, b"rtheap", sink),
+        status: exit_statuses::refused(refusal, b"rtheap", sink),
         due: refusal.status(),
         run: None,
     }

@@ -3,10 +3,10 @@
 ghost use Rattle.std.specs.Prelude.{◌≡◌, map, string_bytes, IfSome};
 ghost use Rattle.rtheap_core.specs.declared.exit.RunEnd.{RunEnd};
 ghost use Rattle.rtheap_core.specs.Calls.{IsCarriedOut, IsComplete};
-ghost use Rattle.rtheap_core.specs.Ends.{logs_of, cycles_of, units_of};
+ghost use Rattle.rtheap_core.specs.EndedRuns.{logs_of, cycles_of, units_of};
 ghost use Rattle.rtheap_core.specs.Exits.{NeverFull};
 ghost use Rattle.rtheap_core.specs.Owners.{OwnersStand};
-ghost use Rattle.call_exits.specs.Sides.{sides};
+ghost use Rattle.exit_statuses.specs.Sides.{sides};
 
 use crate::exit::{Exit, RunEnd};
 use crate::laws::texts_are_lives;
@@ -16,7 +16,7 @@ use crate::replaying::replay_told;
 use crate::running::run_told;
 use crate::task::Task;
 use crate::telling::refused;
-use call_exits::Refusal;
+use exit_statuses::Refusal;
 use never_heap::{Logs, Pace};
 use schedules::replays_end;
 use std::alloc::Global;

@@ -1,2 +1,2 @@
-pub mod Small
-pub mod Few
+pub mod NumberBounds
+pub mod NumbersPerThread

@@ -1,11 +1,11 @@
-//! Runs that are judged by the definitions alone, as `plain_runs` answers them: 400 drawn jobs of
-//! one to four threads on small heaps, 200 of either width, by serial and by drawn turns, each to
-//! its end; and a chain of records that grows beyond the live limit.
+//! Runs that are judged by the definitions alone, as `reference_runs` answers them: 400 drawn jobs
+//! of one to four threads on small heaps, 200 of either width, by serial and by drawn turns, each
+//! to its end; and a chain of records that grows beyond the live limit.
 
 ghost use Rattle.std.specs.Prelude.{◌<◌, map};
 ghost use Rattle.never_heap.specs.Jobs.{IsJobInBounds};
-ghost use Rattle.plain_runs.specs.Happenings.{history};
-ghost use Rattle.plain_runs.specs.Ranges.{IsHistoryInBounds};
+ghost use Rattle.reference_runs.specs.Happenings.{history};
+ghost use Rattle.reference_runs.specs.HistoryBounds.{IsHistoryInBounds};
 ghost use Rattle.rate_plan.specs.Rates.{IsAdmitted};
 
 use crate::drawing::{chain_traces, drawn_heap, drawn_traces};
@@ -13,12 +13,12 @@ use crate::{Schedule, replay};
 use block_store::{Config, OutOfMemory, Width};
 use heap_system::System;
 use never_heap::{Command, Entry, Reply};
-use plain_runs::{
+use rand_pcg::Lcg64Xsh32;
+use rate_plan::plan;
+use reference_runs::{
     Happened, given_in, history_of, in_bounds, is_legal, is_licensed, is_right_work, live_at,
     starts, work,
 };
-use rand_pcg::Lcg64Xsh32;
-use rate_plan::plan;
 use std::alloc::Global;
 use std::process::Abort;
 

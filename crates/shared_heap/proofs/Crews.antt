@@ -13,7 +13,7 @@ use Rattle.shared_heap.specs.declared.rules.Moment.{Moment}
 use Rattle.shared_heap.specs.declared.rules.View.{View}
 use Rattle.shared_heap.specs.Shared.{joined, one_view}
 use Rattle.shared_heap.specs.Workers.{AreOnes, HeapState, WorkerState, AreInOrder, AreFresh, AreOfWorkers, IsOfWorker, IsSame, KnowsAll, start_worker, worker_of}
-use Rattle.shared_heap.proofs.Openings.{config_at, many, thread_at}
+use Rattle.shared_heap.proofs.InitialHeaps.{config_at, many, thread_at}
 
 pub get_or_map : {A B : Type 0} (f : A → B) (l : List A) (i : ℕ) (d : B) (e : A) → i < length l → get_or (map f l) i d ≡ f (get_or l i e)
 get_or_map f [] i d e low = absurd (omega arith)

@@ -2,7 +2,7 @@
 use Rattle.std.proofs.Common.{◌≡◌, ℕ, ◌+◌, ◌<◌, ◌≤◌, true, false, List, [], ◌∷◌, ◌++◌, length, length-append, refl, subst, sym, ap, ◌∙◌, arith}
 use Rattle.heap_machine.specs.declared.op.Op.{Op}
 use Rattle.heap_machine.specs.Memories.{Acts, ActsOnce}
-use Rattle.heap_system.specs.Courses.{HasRunIn, IsGoing, Leads, Ran, TellsLast, has_waited}
+use Rattle.heap_system.specs.ThreadMemories.{HasRunIn, IsGoing, MakesTheNextEvent, Ran, TellsLast, has_waited}
 use Rattle.heap_system.specs.declared.Turn.{Turn}
 use Rattle.heap_system.specs.declared.Turn.TheVariants.{Went, Waited, Done}
 use Rattle.heap_system.specs.Locals.{HasGot, LocalState, is_done, local_got, op_wanted, part_step, turn_of}
@@ -10,7 +10,7 @@ use Rattle.shared_heap.specs.Turns.{HasDrivenIn, LastWaited}
 
 -- one event of a memory that stands for the thread
 module _ {M S : Type 0} {may : M → S → Op → Type 0} {acts : Acts M S} (stands : M → S → LocalState → Type 0)
-    (m : M) (s : S) (l : LocalState) (n : M) (k : LocalState) {turn : Turn} (leads : Leads may acts stands m s l)
+    (m : M) (s : S) (l : LocalState) (n : M) (k : LocalState) {turn : Turn} (leads : MakesTheNextEvent may acts stands m s l)
   where
     pub stands_then : ActsOnce acts m s (op_wanted l) n (λ w. HasGot l w k turn) → stands n s k
     stands_then by = subst (λ x. stands n s x) (sym by.2.0) (leads.on by.0 n by.1)

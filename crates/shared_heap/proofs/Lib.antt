@@ -5,7 +5,7 @@ pub mod Rests
 pub mod Timed
 pub mod Steps
 pub mod Gifts
-pub mod Openings
+pub mod InitialHeaps
 pub mod Crews
 pub mod Runs
 pub mod Asking

@@ -20,7 +20,7 @@ use Rattle.heap_system.proofs.LawsOf.{laws_of}
 use Rattle.heap_system.proofs.RunBounds.{licensed}
 use Rattle.heap_system.proofs.SeenAndKept.{IsSettled}
 use Rattle.heap_system.proofs.TalliesOf.{tallies_of}
-use Rattle.heap_system.proofs.Told.{entries_right}
+use Rattle.heap_system.proofs.RunLaws.{entries_right}
 use Rattle.heap_system.proofs.TurnFacts.{rest_is, right_work}
 use Rattle.control_heap.proofs.GrownJobs.{HasRoomFor, owed_works}
 use Rattle.shared_heap.specs.declared.rules.Past.{Past}

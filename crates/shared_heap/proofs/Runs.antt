@@ -6,7 +6,7 @@ use Rattle.never_heap.specs.declared.Command.{Command}
 use Rattle.never_heap.specs.declared.Entry.{Entry}
 use Rattle.heap_machine.specs.declared.op.Op.{Op}
 use Rattle.heap_machine.specs.Memories.{Acts}
-use Rattle.heap_system.specs.Courses.{Ran}
+use Rattle.heap_system.specs.ThreadMemories.{Ran}
 use Rattle.heap_system.specs.Locals.{LocalState, local_got, op_wanted}
 use Rattle.control_heap.proofs.Behind.{behind_done, behind_got}
 use Rattle.shared_heap.specs.declared.rules.Past.{Past}

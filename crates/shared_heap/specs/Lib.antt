@@ -2,7 +2,7 @@ pub mod Shared
 pub mod Turns
 pub mod Spans
 pub mod Ports
-pub mod Courses
+pub mod ThreadMemories
 pub mod Workers
 pub mod Pending
 pub mod Refusals

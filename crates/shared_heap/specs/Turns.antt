@@ -1,7 +1,7 @@
 -- The events that a worker's code makes for a command, and when they end.
 use Rattle.std.specs.Prelude.{ℕ, ◌<◌, ◌≤◌, ◌≡◌, false, List, [], ◌∷◌, length}
 use Rattle.heap_machine.specs.Memories.{Acts}
-use Rattle.heap_system.specs.Courses.{Ran}
+use Rattle.heap_system.specs.ThreadMemories.{Ran}
 use Rattle.heap_system.specs.Locals.{LocalState, LocalReads, is_done, local_got, part_step, turn_of}
 use Rattle.heap_system.specs.declared.Turn.TheVariants.{Waited}
 

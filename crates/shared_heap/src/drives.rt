@@ -1,11 +1,11 @@
 //! A few events of a thread, made by whatever memory it has.
 
 ghost use Rattle.std.specs.Prelude.{◌≡◌, false};
-ghost use Rattle.heap_system.specs.Courses.{HasRunIn, has_waited};
+ghost use Rattle.heap_system.specs.ThreadMemories.{HasRunIn, has_waited};
 ghost use Rattle.heap_system.specs.Locals.{is_done};
 ghost use Rattle.shared_heap.specs.Turns.{HasDrivenIn};
 
-use heap_system::{Course, Local, Turn};
+use heap_system::{Local, ThreadMemory, Turn};
 
 // Whether the event waited.
 #[inline(always)]
@@ -17,7 +17,7 @@ fn has_waited(turn: Turn) -> bool
 
 // Makes one event of a thread that is not done.
 #[inline(always)]
-fn one_event<C: Course>(memory: &mut C, shared: &C::Shared, local: &mut Local) -> Turn
+fn one_event<C: ThreadMemory>(memory: &mut C, shared: &C::Shared, local: &mut Local) -> Turn
     requires stands { C.stands memory.old shared.now local.old }
     requires going { is_done local.old ≡ false }
     ensures stands { C.stands memory.new shared.now local.new }
@@ -28,7 +28,7 @@ fn one_event<C: Course>(memory: &mut C, shared: &C::Shared, local: &mut Local) -
 }
 
 // Makes at most so many events of a thread, up to the end of its command or the first that waits.
-pub(crate) fn drives_some<C: Course>(
+pub(crate) fn drives_some<C: ThreadMemory>(
     memory: &mut C,
     shared: &C::Shared,
     local: &mut Local,

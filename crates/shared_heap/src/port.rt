@@ -3,7 +3,7 @@
 use crate::rules::{Law, Turned, View};
 use atomic_table::{Seat, Shared};
 use heap_machine::{Memory, Op};
-use heap_system::{Course, System};
+use heap_system::{System, ThreadMemory};
 use never_heap::Command;
 
 /// The shared words, as a memory for the seat's one thread.
@@ -37,9 +37,9 @@ impl Memory for Port {
     }
 }
 
-impl Course for Port {
+impl ThreadMemory for Port {
     ghost use Rattle.shared_heap.specs.Ports.{HasThread};
-    ghost use Rattle.shared_heap.specs.Courses.{may_turn, reads_well, still_has};
+    ghost use Rattle.shared_heap.specs.ThreadMemories.{may_turn, reads_well, still_has};
 
     ghost stands = { λ p s l. HasThread p.seat.me p.seat.table_id s.table_id l };
 

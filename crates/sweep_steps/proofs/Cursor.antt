@@ -9,7 +9,7 @@ use Rattle.block_store.specs.Places.{Cursor}
 use Rattle.heap_machine.specs.Operations.{place_of, heap_after}
 use Rattle.sweep_steps.specs.declared.rows.SweepRow.{SweepRow}
 use Rattle.sweep_steps.specs.declared.rows.SweepRow.TheVariants.{ReadCursor, ClaimRange, PassBlock, TakeFree, FreeBlock, PutFree, Credit, Swept, NothingLeft}
-use Rattle.sweep_steps.specs.Ends.{row_passes, row_claims, blocks_from, is_reading, unpassed}
+use Rattle.sweep_steps.specs.SweepUnits.{row_passes, row_claims, blocks_from, is_reading, unpassed}
 use Rattle.sweep_steps.specs.Fits.{RowFits, SweepFits}
 use Rattle.sweep_steps.proofs.PassedBlocks.{nothing_read}
 use Rattle.sweep_steps.specs.Rows.{SweepState, row_want, row_got, after_read, after_range, next_block, before_free, sweep_want, sweep_got, sweep_holding, sweep_nothing}

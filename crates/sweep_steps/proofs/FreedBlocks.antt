@@ -25,7 +25,7 @@ use Rattle.heap_machine.proofs.PhaseRules.{from_sweep}
 use Rattle.sweep_steps.specs.declared.rows.SweepRow.{SweepRow}
 use Rattle.sweep_steps.specs.declared.rows.SweepRow.TheVariants.{ReadCursor, ClaimRange, PassBlock, TakeFree, FreeBlock, PutFree, Credit, Swept, NothingLeft}
 use Rattle.sweep_steps.specs.Rows.{SweepState, row_want, sweep_want, sweep_got, sweep_holding}
-use Rattle.sweep_steps.specs.Ends.{is_freeing, is_unswept}
+use Rattle.sweep_steps.specs.SweepUnits.{is_freeing, is_unswept}
 use Rattle.sweep_steps.specs.Fits.{RowFits, SweepFits, IsSweeping}
 use Rattle.sweep_steps.proofs.ReuseRulesKept.{doomed_white, keeps_reuse}
 

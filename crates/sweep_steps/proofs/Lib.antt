@@ -1,4 +1,4 @@
-pub mod Ranges
+pub mod RowsFit
 pub mod ReuseRulesKept
 pub mod FreedBlocks
 pub mod PassedBlocks

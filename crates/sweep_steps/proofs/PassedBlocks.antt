@@ -8,7 +8,7 @@ use Rattle.block_store.specs.Phases.{bit}
 use Rattle.sweep_steps.specs.declared.rows.SweepRow.{SweepRow}
 use Rattle.sweep_steps.specs.declared.rows.SweepRow.TheVariants.{ReadCursor, ClaimRange, PassBlock, TakeFree, FreeBlock, PutFree, Credit, Swept, NothingLeft}
 use Rattle.sweep_steps.specs.Rows.{SweepState, row_got, after_range, next_block, before_free, range_end, sweep_got, sweep_over, sweep_unit, sweep_passed, sweep_nothing, sweeping, sweep_holding}
-use Rattle.sweep_steps.specs.Ends.{row_passes, row_claims, is_reading, blocks_from, blocks_left, sweep_after, with_first, blocks_passed, blocks_claimed}
+use Rattle.sweep_steps.specs.SweepUnits.{row_passes, row_claims, is_reading, blocks_from, blocks_left, sweep_after, with_first, blocks_passed, blocks_claimed}
 use Rattle.sweep_steps.specs.Fits.{IsLeft, RowFits, SweepFits}
 
 -- what is so of both rows of a choice

@@ -19,7 +19,7 @@ use Rattle.heap_machine.proofs.SweepRule.{sweep_other, sweep_stays, sweep_claims
 use Rattle.sweep_steps.specs.declared.rows.SweepRow.{SweepRow}
 use Rattle.sweep_steps.specs.declared.rows.SweepRow.TheVariants.{ReadCursor, ClaimRange, PassBlock, TakeFree, FreeBlock, PutFree, Credit, Swept, NothingLeft}
 use Rattle.sweep_steps.specs.Rows.{SweepState, row_want, row_got, after_read, after_claim, after_range, next_block, before_free, sweep_want, sweep_got, sweep_over, sweep_holding}
-use Rattle.sweep_steps.specs.Ends.{is_putting}
+use Rattle.sweep_steps.specs.SweepUnits.{is_putting}
 use Rattle.sweep_steps.specs.Fits.{IsLeft, IsFreed, RowFits, SweepFits, IsSweeping}
 
 -- what a thread holds that has freed so many blocks, which are in its hand

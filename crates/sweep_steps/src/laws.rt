@@ -14,7 +14,7 @@ ghost use Rattle.heap_machine.specs.Readings.{IsHeld};
 ghost use Rattle.heap_machine.specs.PhaseKept.{PhaseKept};
 ghost use Rattle.heap_machine.specs.ReuseKept.{ReuseKept};
 ghost use Rattle.sweep_steps.specs.Rows.{SweepState, sweep_want, sweep_got, sweep_over, sweep_unit, sweep_passed, sweep_nothing, sweeping, sweep_holding};
-ghost use Rattle.sweep_steps.specs.Ends.{is_reading, is_freeing, is_putting, is_unswept, row_passes, row_claims, unpassed, blocks_from, blocks_left, blocks_passed, blocks_claimed, sweep_after};
+ghost use Rattle.sweep_steps.specs.SweepUnits.{is_reading, is_freeing, is_putting, is_unswept, row_passes, row_claims, unpassed, blocks_from, blocks_left, blocks_passed, blocks_claimed, sweep_after};
 ghost use Rattle.sweep_steps.specs.Fits.{SweepFits, SweepReads, IsSweeping};
 ghost use Rattle.sweep_steps.specs.declared.rows.SweepRow.{SweepRow};
 

@@ -6,7 +6,7 @@ ghost use Rattle.heap_machine.specs.Operations.{op_at, FetchAdd};
 ghost use Rattle.heap_machine.specs.Memories.{ReadsOnly, ActsOnce};
 ghost use Rattle.sweep_steps.specs.Rows;
 ghost use Rattle.sweep_steps.specs.Rows.{SweepState, sweep_want, sweep_got, sweep_unit, sweep_passed, sweep_nothing, sweeping};
-ghost use Rattle.sweep_steps.specs.Ends.{sweep_outcome};
+ghost use Rattle.sweep_steps.specs.SweepUnits.{sweep_outcome};
 ghost use Rattle.sweep_steps.specs.Fits.{SweepFits, SweepReads};
 
 use crate::SweepRow;
@@ -257,7 +257,7 @@ impl SweepPass {
 
     // One event at this row, which is the part's.
     #[inline(always)]
-    #[tactic(auto, using(crate::proofs::Ranges::fits_next))]
+    #[tactic(auto, using(crate::proofs::RowsFit::fits_next))]
     fn makes<M: Memory>(
         &mut self,
         row: SweepRow,

@@ -7,7 +7,7 @@ use Rattle.block_store.specs.declared.Width.TheVariants.{Eight}
 use Rattle.array_trees.proofs.Counts.{few_shared}
 use Rattle.never_heap.specs.Bounds.{IsCommandInBounds}
 use Rattle.never_heap.specs.Jobs.{IsTraceInBounds, IsJobInBounds}
-use Rattle.never_heap.proofs.Ranges.{plain_fits}
+use Rattle.never_heap.proofs.CommandBounds.{plain_fits}
 use Rattle.operations.specs.Linearizations.{traces_of}
 use Rattle.operations.proofs.Pairs.{◌▸◌}
 use Rattle.tag_table.specs.declared.operation.Operation.{Operation}
@@ -44,8 +44,7 @@ module _ (n tags blocks : ℕ) (few_tags : tags ≤ 1024) where
   few_rows : (ops : List Operation) → length (flat_map rows_of ops) ≤ 8 * length ops
   few_rows [] = omega arith
   few_rows (Write i v q ∷ ops) = omega (arith, few_rows ops)
-  few_rows (Clear i ∷ ops) = omega (arith, few_rows ops)
-  few_rows (Read i ∷ ops) = omega (arith, few_rows ops)
+  few_rows (op ∷ ops) = omega (arith, few_rows ops)
 
   trace_fits : (ops : List Operation) → IsScriptInRange tags ops
       → IsTraceInBounds (tag_config n tags blocks) (map command_at (flat_map rows_of ops))
@@ -75,6 +74,6 @@ jobs_fit n tags blocks scripts some few few_tags some_block few_blocks count all
     object = omega arith;
     shared = few_tags;
   };
-  threads = length-map scripts (λ (ops : List Operation). map command_at (flat_map rows_of ops)) ∙ count;
+  threads = length-map scripts (λ ops. map command_at (flat_map rows_of ops)) ∙ count;
   each = all_fit n tags blocks few_tags scripts all;
 }

@@ -5,7 +5,8 @@ use Rattle.never_heap.specs.Licensed.{NoFulls}
 use Rattle.never_heap.specs.Runs.{IsRun}
 use Rattle.operations.specs.Linearizations.{Call, calls_of, replies_in, traces_of, IsLinearization}
 use Rattle.operations.specs.SoFar.{IsRunSoFar, IsLinearizationSoFar}
-use Rattle.operations.proofs.Applied.{ordered, ordered_so_far, as_many_replies}
+use Rattle.operations.proofs.Applied.{applied, as_many_replies}
+use Rattle.operations.proofs.LinearizedRuns.{linearized, linearized_so_far}
 use Rattle.tag_table.specs.declared.operation.Operation.{Operation}
 use Rattle.tag_table.specs.Tables.{Tag, answer, table_after, empty_table, rows_of, command_at, decides, ends, AreInTable, answers_of, tag_config}
 use Rattle.tag_table.proofs.Chunks.{by_chunks}
@@ -21,13 +22,14 @@ pub tables_are_kept : (n tags blocks rate : ℕ) (scripts : List (List Operation
     ≡ answers_of (slice_index_or scripts t []) (replies_in t h))
     × NoFulls h
 tables_are_kept n tags blocks rate scripts h count inside run =
-    let all = ordered (tagged tags) (tag_config n tags blocks) rows_of scripts
-    (tags_owe n tags blocks scripts count inside) rate h run in (
+    let c = tag_config n tags blocks in
+    let all = linearized (applied (tagged tags) c rows_of scripts
+    (tags_owe n tags blocks scripts count inside)) rate h run in (
       all.0,
       all.1,
       λ t. all.1.told t
           ∙ by_chunks (slice_index_or scripts t []) (replies_in t h)
-          (omega (arith, as_many_replies (tag_config n tags blocks) rate rows_of command_at scripts h run t)),
+          (omega (arith, as_many_replies c rate rows_of command_at scripts h run t)),
       all.2,
     )
 
@@ -37,8 +39,9 @@ pub tables_so_far : (n tags blocks rate : ℕ) (scripts : List (List Operation))
     → ((t : ℕ) → AreInTable tags (slice_index_or scripts t []))
     → IsRunSoFar (tag_config n tags blocks) rate (traces_of rows_of command_at scripts) h
     → (order : List (Call Operation Tag))
-    × IsLinearizationSoFar rows_of decides ends answer table_after (empty_table tags) scripts h order
+    × IsLinearizationSoFar rows_of decides ends answer table_after (empty_table tags) scripts h
+    order
     × NoFulls h
 tables_so_far n tags blocks rate scripts h count inside begun =
-    ordered_so_far (tagged tags) (tag_config n tags blocks) rows_of scripts
-    (tags_owe n tags blocks scripts count inside) rate h begun
+    linearized_so_far (applied (tagged tags) (tag_config n tags blocks) rows_of scripts
+    (tags_owe n tags blocks scripts count inside)) rate h begun

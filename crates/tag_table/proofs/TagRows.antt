@@ -1,8 +1,8 @@
 -- The table of tags, row by row: what is known before each row, and that each row keeps it.
-use Rattle.std.proofs.Common.{◌≡◌, ℕ, zero, suc, ◌+◌, ◌<◌, true, Option, Some, None, List, [], ◌∷◌, ◌++◌, length, get_or, append_assoc, refl, ap, ◌∙◌, arith}
+use Rattle.std.proofs.Common.{◌≡◌, ℕ, ◌+◌, ◌<◌, true, Option, Some, None, List, [], ◌∷◌, ◌++◌, length, append_assoc, refl, ap, ◌∙◌, arith}
 use Rattle.std.specs.Prelude.{flat_map, slice_index_or}
 use Rattle.block_store.specs.declared.Value.{Value}
-use Rattle.block_store.specs.declared.Value.TheVariants.{Nil, Int}
+use Rattle.block_store.specs.declared.Value.TheVariants.{Int}
 use Rattle.never_heap.specs.declared.Reply.{Reply}
 use Rattle.never_heap.specs.Steps.{step}
 use Rattle.tag_table.specs.declared.operation.Operation.{Operation}
@@ -10,10 +10,9 @@ use Rattle.tag_table.specs.declared.operation.Operation.TheVariants.{Write, Clea
 use Rattle.tag_table.specs.Tables.{Tag, answer, table_after, Row, Make, SetValue, PutValue, SetQuality, PutQuality, Publish, Blank, Withdraw, Fetch, TellValue, TellQuality, rows_of, command_at, decides, ends, pair_of, pair_behind, pair_told, AreInTable, tag_config}
 use Rattle.operations.specs.Applications.{ops_in}
 use Rattle.operations.proofs.Applied.{Owes}
-use Rattle.operations.proofs.LiveBound.{IsPlain}
 use Rattle.operations.proofs.Pairs.{◌▸◌}
 use Rattle.operations.proofs.RecordRows.{RecordRows, recorded, limit, weights, nil_shown, nil_rests, finish_own, finish_nil, field_told, field_on, field_last}
-use Rattle.operations.proofs.Records.{IsSlim, HasField, reply_by}
+use Rattle.operations.proofs.Records.{IsSlim, HasField, plain_numbers, reply_by}
 use Rattle.operations.proofs.RowRules.{Says, news, sets, puts_in, fetches, swaps_in, tells_what}
 use Rattle.operations.proofs.Turns.{Before, Goes, place}
 use Rattle.operations.proofs.Tables.{Empty, Number, Own, Shown, Hold, Is, Has, Spot, nowhere, making, telling, Table, spot_of, IsProper}
@@ -26,20 +25,15 @@ shape (Some p) = Some (Int p.0 ∷ Int p.1 ∷ [])
 
 pub slim : (c : Tag) → IsSlim (shape c)
 slim None = tt
-slim (Some p) = (omega arith, plain)
-  where
-    plain : (i : ℕ) → IsPlain (get_or (Int p.0 ∷ Int p.1 ∷ []) i Nil)
-    plain zero = tt
-    plain (suc zero) = tt
-    plain (suc (suc i)) = tt
-
-has_value : (c : Tag) → HasField (shape c) 0
-has_value None = tt
-has_value (Some p) = omega arith
+slim (Some p) = (omega arith, plain_numbers (p.0 ∷ p.1 ∷ []))
 
 has_quality : (c : Tag) → HasField (shape c) 1
 has_quality None = tt
 has_quality (Some p) = omega arith
+
+has_value : (c : Tag) → HasField (shape c) 0
+has_value None = tt
+has_value (Some p) = omega arith
 
 -- ---- the table
 
@@ -131,50 +125,41 @@ pair_again None = refl
 pair_again (Some p) = refl
 
 module _ (tags : ℕ) where
-  goes : (row : Row) (b : Before (tagged tags) row) → Goes (tagged tags) b
-  goes (Make i v q) b =
-      news (tagged tags) b 1 2 (omega arith, omega arith) refl (λ c. refl) (refl, refl, λ l. refl)
+  goes : (row : Row) (b : Before (tagged tags) row) → Goes b
+  goes (Make i v q) b = news b 1 2 refl refl (λ c. refl) (refl, refl, λ l. refl)
   goes (SetValue i v q) b =
-      sets (tagged tags) b 2 (Number v) (omega arith, omega arith) (λ g t o. refl) (λ c. refl)
-      (refl, refl, λ l. refl)
+      sets b 2 (Number v) refl (λ g t o. refl) (λ c. refl) (refl, refl, λ l. refl)
   goes (PutValue i v q) b =
-      puts_in (tagged tags) b 1 0 2 0 (Number v) (omega arith) (omega arith) refl (λ r c. refl)
-      (λ r c. refl) (λ c. (omega arith, omega arith)) (λ c. refl) (refl, refl, λ l. refl)
+      puts_in b 1 0 2 0 (Number v) (omega arith) (omega arith) refl (λ r c. refl)
+      (λ r c. refl) (λ c. refl) (λ c. refl) (refl, refl, λ l. refl)
   goes (SetQuality i v q) b =
-      sets (tagged tags) b 2 (Number q) (omega arith, omega arith) (λ g t o. refl) (λ c. refl)
-      (refl, refl, λ l. refl)
+      sets b 2 (Number q) refl (λ g t o. refl) (λ c. refl) (refl, refl, λ l. refl)
   goes (PutQuality i v q) b =
-      puts_in (tagged tags) b 1 1 2 0 (Number q) (omega arith) (omega arith) refl (λ r c. refl)
-      (λ r c. refl) (λ c. (omega arith, omega arith)) (λ c. refl) (refl, refl, λ l. refl)
+      puts_in b 1 1 2 0 (Number q) (omega arith) (omega arith) refl (λ r c. refl)
+      (λ r c. refl) (λ c. refl) (λ c. refl) (refl, refl, λ l. refl)
   goes (Publish i v q) b =
-      swaps_in (tagged tags) b i 1 (Some (v, q)) (omega arith, omega arith)
-      (place (tagged tags) b).proper.0.0 refl refl refl (λ c. refl) (λ l c. refl)
+      swaps_in b i 1 (Some (v, q)) refl
+      (place b).proper.0.0 refl refl refl (λ c. refl) (λ l c. refl)
       (finish_own (table tags) b (Some (v, q)) (Number v ∷ Number q ∷ []) (λ c. refl) (λ c. refl)
       (λ r c. refl) (λ t o. refl))
-  goes (Blank i) b =
-      sets (tagged tags) b 1 Empty (omega arith, omega arith) (λ g t o. refl) (λ c. refl)
-      (refl, refl, λ l. refl)
+  goes (Blank i) b = sets b 1 Empty refl (λ g t o. refl) (λ c. refl) (refl, refl, λ l. refl)
   goes (Withdraw i) b =
-      swaps_in (tagged tags) b i 1 None (omega arith, omega arith) (place (tagged tags) b).proper.0.0
-      refl refl refl (λ c. refl) (λ l c. omega arith)
+      swaps_in b i 1 None refl (place b).proper.0.0 refl refl refl (λ c. refl) (λ l c. omega arith)
       (finish_nil (table tags) b None (λ c. refl) (λ r c. refl) refl)
-  goes (Fetch i) b =
-      fetches (tagged tags) b 1 i (omega arith, omega arith) (place (tagged tags) b).proper.0.0 refl
-      refl refl (λ l. refl) (λ c. refl)
+  goes (Fetch i) b = fetches b 1 i refl (place b).proper.0.0 refl refl refl (λ l. refl) (λ c. refl)
   goes TellValue b =
-      field_on (table tags) b 2 0 (omega arith, omega arith) refl has_value (λ r c. refl) (λ c. refl)
+      field_on (table tags) b 2 0 refl refl has_value (λ r c. refl) (λ c. refl)
       (refl, refl, λ l. refl) (λ c. refl)
   goes TellQuality b =
-      field_last (table tags) b 3 1 (omega arith, omega arith) refl has_quality (λ r c. refl)
+      field_last (table tags) b 3 1 refl refl has_quality (λ r c. refl)
       (λ c. refl) refl pair_told refl refl (λ l. refl) (λ c. refl) refl (λ c. refl)
 
   -- the last row of an operation answers what was decided
-  tells : (row : Row) (b : Before (tagged tags) row) → Says (tagged tags) b
+  tells : (row : Row) (b : Before (tagged tags) row) → Says b
   tells TellQuality b =
-      let p = place (tagged tags) b in
-      let heard = field_told (table tags) b 3 1 (omega arith, omega arith) refl has_quality
-      (λ r c. refl) (λ c. refl) in
-      tells_what (tagged tags) b pair_told p.cell refl refl
+      let p = place b in
+      let heard = field_told (table tags) b 3 1 refl refl has_quality (λ r c. refl) (λ c. refl) in
+      tells_what b pair_told p.cell refl refl
       (last_two p.replies (reply_by (shape p.cell) 0) (step b.g b.t (command_at TellQuality)).1
       ∙ ap (λ z. pair_of (reply_by (shape p.cell) 0) z.1) heard.stepped ∙ pair_again p.cell)
   tells _ b = tt
@@ -184,22 +169,21 @@ module _ (tags : ℕ) where
 whole : (op : Operation) (more : List Row)
     → ops_in decides (rows_of op ++ more) ≡ op ∷ ops_in decides more
 whole (Write i v q) more = refl
-whole (Clear i) more = refl
-whole (Read i) more = refl
+whole _ more = refl
 
 at_first : (tags : ℕ) (ops : List Operation) (c : Tag)
     → spot_of (tagged tags) (flat_map rows_of ops) c ≡ nowhere
 at_first tags [] c = refl
 at_first tags (Write i v q ∷ ops) c = refl
-at_first tags (Clear i ∷ ops) c = refl
-at_first tags (Read i ∷ ops) c = refl
+at_first tags (op ∷ ops) c = refl
 
 proper : (tags l : ℕ) (ops : List Operation) → AreInTable tags ops → (t : ℕ)
     → IsProper (tagged tags) t l (flat_map rows_of ops)
 proper tags l [] low t = tt
 proper tags l (Write i v q ∷ ops) low t =
     (tt, λ c. refl) ▸ (tt, λ c. refl) ▸ (tt, λ c. refl) ▸ (tt, λ c. refl) ▸ (tt, λ c. refl)
-    ▸ (low.0, λ c. refl) ▸ (tt, λ c. refl) ▸ (tt, at_first tags ops) ▸ proper tags (l + 1) ops low.1 t
+    ▸ (low.0, λ c. refl) ▸ (tt, λ c. refl) ▸ (tt, at_first tags ops)
+    ▸ proper tags (l + 1) ops low.1 t
 proper tags l (Clear i ∷ ops) low t =
     (tt, λ c. refl) ▸ (low.0, λ c. refl) ▸ (tt, λ c. refl) ▸ (tt, at_first tags ops)
     ▸ proper tags l ops low.1 t

@@ -6,7 +6,7 @@ ghost use Rattle.rate_plan.specs.Rates.{IsAdmitted};
 ghost use Rattle.trace_text.specs.Jobs.{IsJobInBounds};
 ghost use Rattle.heap_system.specs.Locals.{is_done};
 ghost use Rattle.atom_board.specs.Mutators.{AreInOrder, AllAreDone, IsLater};
-ghost use Rattle.threaded_runs.specs.Ends.{HasHistory, HasTurns, job_of};
+ghost use Rattle.threaded_runs.specs.EndedRuns.{HasHistory, HasTurns, job_of};
 
 use atom_board::{AtomBoard, Closed, Mutator};
 use block_store::OutOfMemory;

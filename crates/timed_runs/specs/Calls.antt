@@ -1,8 +1,8 @@
 -- What the call of a timed run is, and how it ends.
 use Rattle.std.specs.Prelude.{ℕ, ◌⊎◌, List, [], ◌∷◌, codes, if◌then◌else◌, Option, None, Some}
 use Rattle.std.specs.Str.{bytes_eq}
-use Rattle.call_exits.specs.Exits.{IsToldBy}
-use Rattle.call_exits.specs.Sides.{Sides}
+use Rattle.exit_statuses.specs.Exits.{IsToldBy}
+use Rattle.exit_statuses.specs.Sides.{Sides}
 use Rattle.timed_runs.specs.declared.telling.Form.{Form}
 use Rattle.timed_runs.specs.declared.telling.Form.TheVariants.{Table, Csv}
 use Rattle.rtheap_core.specs.declared.exit.RunEnd.{RunEnd}

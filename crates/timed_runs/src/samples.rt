@@ -12,7 +12,7 @@ use block_store::{OutOfMemory, Width};
 use never_heap::{Command, Entry, Logs};
 use std::alloc::Global;
 use std::time::{Clock, CpuClock};
-use time_counts::Times;
+use time_histograms::Times;
 
 /// A command, and how long it took.
 #[derive(Clone, Copy, Debug)]

@@ -1,7 +1,7 @@
 //! The report of what was measured.
 
 ghost use Rattle.std.specs.Prelude.{◌≡◌, ◌<◌, ◌^◌, ◌⊎◌, length, IfSome, IfNone};
-ghost use Rattle.time_counts.specs.Counts.{IsPercentile};
+ghost use Rattle.time_histograms.specs.Counts.{IsPercentile};
 
 use crate::bounds::turns_alone;
 use crate::kinds::{KINDS, Kind};
@@ -16,7 +16,7 @@ use rate_plan::plan;
 use std::alloc::Global;
 use std::fmt;
 use std::time::{Clock, CpuClock};
-use time_counts::{CLASSES, Times, bar_of, fullest, power};
+use time_histograms::{CLASSES, Times, bucket_of, fullest, power};
 
 /// How often the clock is read to tell the time of one reading.
 const READINGS: usize = 1_001;
@@ -292,7 +292,7 @@ fn turns_of(told: &Told<'_>, one: &TimedCommand) -> Option<u64> {
 fn add_histogram(alloc: Global, times: &[u64], report: &mut String) -> Result<(), OutOfMemory> {
     let most = fullest(times);
     for class in 0..CLASSES {
-        let bar = bar_of(times, power(class), most);
+        let bar = bucket_of(times, power(class), most);
         if bar.count > 0 {
             report.push_str(format!(in alloc; "{bar}")?.as_str())?;
         }

@@ -3,8 +3,8 @@
 ghost use Rattle.std.specs.Prelude.{◌≡◌, ◌≢◌, ◌∷◌, [], map, string_bytes, IfOk, OnErr, IfSome};
 ghost use Rattle.rtheap_core.specs.Calls.{IsCarriedOut, IsComplete};
 ghost use Rattle.rtheap_core.specs.Exits.{NeverFull};
-ghost use Rattle.call_exits.specs.Exits.{IsToldBy};
-ghost use Rattle.call_exits.specs.Sides.{sides, IsUntouched};
+ghost use Rattle.exit_statuses.specs.Exits.{IsToldBy};
+ghost use Rattle.exit_statuses.specs.Sides.{sides, IsUntouched};
 ghost use Rattle.timed_runs.specs.Calls.{form_asked, run_words, words_for};
 ghost use Rattle.timed_runs.specs.Calls.{silent, IsReported, IsTimed};
 
@@ -12,7 +12,7 @@ use crate::counted::Counted;
 use crate::stamps::Stamps;
 use crate::telling::{Form, reading_time, report_of};
 use block_store::OutOfMemory;
-use call_exits::{Refusal, refused};
+use exit_statuses::{Refusal, refused};
 use rtheap_core::{Exit, RunEnd, rtheap};
 use std::alloc::Global;
 use std::sync::Wait;

@@ -17,5 +17,5 @@ pub mod QuietLaws
 pub mod WholeLaws
 pub mod EachInput
 pub mod OneJob
-pub mod Ends
+pub mod ReadResults
 pub mod InOrder

@@ -16,7 +16,7 @@ use Rattle.never_heap.specs.declared.Command.TheVariants as commands
 use Rattle.never_heap.specs.Bounds.{IsCommandInBounds}
 use Rattle.never_heap.specs.Signatures as signed
 use Rattle.never_heap.specs.Signatures.{numbers}
-use Rattle.never_heap.proofs.Ranges.{operands_in_range}
+use Rattle.never_heap.proofs.CommandBounds.{operands_in_range}
 use Rattle.trace_text.specs.declared.trace_faults.Why.{Why}
 use Rattle.trace_text.specs.declared.trace_faults.Why.TheVariants as whys
 use Rattle.trace_text.specs.declared.reading.lines.Line.{Line}

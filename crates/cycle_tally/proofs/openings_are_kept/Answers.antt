@@ -1,6 +1,6 @@
 use Rattle.never_heap.proofs.OpeningLiveBlocks.{opening_live}
 use Rattle.cycle_tally.proofs.Laws.{opening_kept}
-use Rattle.cycle_tally.proofs.Openings.{opens}
+use Rattle.cycle_tally.proofs.InitialHeaps.{opens}
 use Rattle.cycle_tally.proofs.openings_are_kept.Goals as goal
 
 pub returns-clause-kept : goal.returns-clause-kept

@@ -12,9 +12,9 @@ use Rattle.never_heap.specs.declared.Reply.{Reply}
 use Rattle.heap_machine.specs.Operations.{place_of}
 use Rattle.heap_machine.specs.declared.gate.GateRow.{GateRow}
 use Rattle.heap_machine.specs.declared.gate.GateRow.TheVariants as gates
-use Rattle.lone_bound.specs.Moves.{Lone, Terms, Moves, Turns, Fresh}
-use Rattle.lone_bound.proofs.Fresh as lone_fresh
-use Rattle.heap_system.specs.Parts.{Part, TurnOver, Leave}
+use Rattle.solo_bound.specs.Moves.{Lone, Terms, Moves, Turns, Fresh}
+use Rattle.solo_bound.proofs.Fresh as lone_fresh
+use Rattle.heap_system.specs.Parts.{Part, PhaseChange, Leave}
 use Rattle.heap_system.specs.Alone.{IsQuiet, HasCommand, after_alone, ChangesPhase, UnitBetween}
 use Rattle.heap_system.specs.Locals.{LocalState, command_of, is_rest, is_done, effect, makes_unit, spent_got, part_want}
 use Rattle.heap_system.specs.Machines.{Run, IsJob, local_at, heap_in, next, has_event, word_read}
@@ -41,7 +41,7 @@ row_changes e g s z is move = absurd (let q : false ≡ true = is in cc)
 
 part_changes : (e : Terms) (c : Config) (p : Part) (s z : Lone) → turns_phase p ≡ true
     → Moves e (spot_of c p) s z → Fresh z.spot z
-part_changes e c (TurnOver g) s z is move = row_changes e g s z is move
+part_changes e c (PhaseChange g) s z is move = row_changes e g s z is move
 part_changes e c p s z is move = absurd (let q : false ≡ true = is in cc)
 
 -- and before that unit comes no other
@@ -51,16 +51,16 @@ row_stays (gates.Start p) s is = absurd is
 row_stays g s is = refl
 
 part_stays : (c : Config) (p : Part) (s : Lone) → Fresh (spot_of c p) s → turns_phase p ≡ false
-part_stays c (TurnOver g) s is = row_stays g s is
+part_stays c (PhaseChange g) s is = row_stays g s is
 part_stays c p s is = refl
 
 not_out : (c : Config) (p : Part) (s : Lone) → Fresh (spot_of c p) s → is_out p ≡ false
 not_out c Leave s is = absurd is
 not_out c p s is = refl
 
-turning_stays : (p : Part) → turns_phase p ≡ true → is_out p ≡ false
-turning_stays Leave is = absurd (let q : false ≡ true = is in cc)
-turning_stays p is = refl
+changing_stays : (p : Part) → turns_phase p ≡ true → is_out p ≡ false
+changing_stays Leave is = absurd (let q : false ≡ true = is in cc)
+changing_stays p is = refl
 
 -- what is owed falls by a unit alone
 unit_made : (o : Option Reply) (unit : Bool) (due paid : ℕ)
@@ -125,7 +125,7 @@ module _ (c : Config) (traces : List (List Command)) (job : IsJob c traces) (rat
     changes_fresh is =
         fresh_later (part_changes (Runs.e c traces job rate planned t tl old k) c l.part _ _ is
         (Runs.moves c traces job rate planned t tl old k left_some command r lone
-        (turning_stays l.part is)))
+        (changing_stays l.part is)))
 
     is_unit_here : makes_unit c l.part (heap_in c r.state (place_of (part_want c l.part))) ≡ true
         → is_unit c t r.state ≡ true
@@ -231,7 +231,7 @@ module _ (c : Config) (traces : List (List Command)) (job : IsJob c traces) (rat
       absurd (one (ap (λ s. is_sweep (heap_in c s Phase)) (done_stays c t r.state done)))
   unit_after d r kept (inl work) one other = elim (cases_Bool (turns_phase (local_at c r.state t).part)) [
     | inl turning ↦
-        let on = turning_stays (local_at c r.state t).part turning in
+        let on = changing_stays (local_at c r.state t).part turning in
         waits_for_unit work.0 work.1 work.2 work.3 d (next c t r)
         (Runs.one_turn c traces job rate planned t tl work.0 work.1 work.2 work.3 r work.4 on).1
         (changes_fresh work.0 work.1 work.2 work.3 r work.4 turning) other

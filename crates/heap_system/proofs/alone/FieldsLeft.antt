@@ -27,15 +27,15 @@ use Rattle.never_heap.specs.declared.Command.TheVariants as commands
 use Rattle.heap_machine.specs.declared.pass.Pass.{Pass}
 use Rattle.grey_steps.specs.declared.rows.GreyRow.{GreyRow}
 use Rattle.grey_steps.specs.declared.rows.GreyRow.TheVariants as greys
-use Rattle.grey_steps.specs.Ends.{block_stored}
+use Rattle.grey_steps.specs.MarkUnits.{block_stored}
 use Rattle.grey_steps.specs.Rows as marking
 use Rattle.barrier_steps.specs.declared.rows.FieldRow.{FieldRow}
 use Rattle.barrier_steps.specs.declared.rows.FieldRow.TheVariants.{LoadRegister, LoadShape, LoadLink, LoadField, LoadOwner, Shade, Store, StoreConstant, IdleLook, Answered}
-use Rattle.barrier_steps.specs.declared.rows.Wanted.{Wanted}
-use Rattle.barrier_steps.specs.declared.rows.Wanted.TheVariants as wants
+use Rattle.barrier_steps.specs.declared.rows.Purpose.{Purpose}
+use Rattle.barrier_steps.specs.declared.rows.Purpose.TheVariants as wants
 use Rattle.barrier_steps.specs.declared.rows.FieldStore.{FieldStore}
 use Rattle.barrier_steps.specs.declared.rows.FieldStore.TheVariants.{Moved, Pending, InField, Exchanged, Compared}
-use Rattle.barrier_steps.specs.declared.rows.Way.{Way}
+use Rattle.barrier_steps.specs.declared.rows.TreePath.{TreePath}
 use Rattle.barrier_steps.specs.Fits.{RowFits}
 use Rattle.barrier_steps.specs.Operands.{field_index}
 use Rattle.barrier_steps.specs.Rows.{first_row, row_got, field_reply, shape_in, payload_in, on_way, at_block, after_object, after_shape, after_field, after_said, after_owner, after_register, after_store, object_in, before_store, in_barrier, stored_word, shaded_for, way_from, way_on}
@@ -75,7 +75,7 @@ owned_left (commands.Say s) = 1
 owned_left _ = 5
 
 -- how many events command k has left at most at a row
-abbrev pub register_left : Config → Command → Wanted → ℕ
+abbrev pub register_left : Config → Command → Purpose → ℕ
 register_left c k wants.Copied = 5
 register_left c k wants.Object = 2 + behind_shape c k
 register_left c k (wants.Expected way) =
@@ -119,14 +119,14 @@ module _ (c : Config) (p : Pass) where
     | inr q ↦ rw q (omega arith)
   ]
 
-  block_left : (k : Command) (way : Way) (word : ℕ) → L k (at_block p k way word) ≤ errand_left k
+  block_left : (k : Command) (way : TreePath) (word : ℕ) → L k (at_block p k way word) ≤ errand_left k
   block_left (commands.Put s i v) way word = before_left (commands.Put s i v) (InField way word)
   block_left (commands.Swap s i v) way word = before_left (commands.Swap s i v) (Exchanged way word)
   block_left (commands.Cas s i a v) way word = before_left (commands.Cas s i a v) (Compared way word)
   block_left _ way word = omega arith
 
   -- at any point of a way
-  way_left : (k : Command) (way : Way) (word : ℕ) → L k (on_way (extent c) p k way word) ≤ links_to (extent c) way.shape (field_index k) - way.level + errand_left k
+  way_left : (k : Command) (way : TreePath) (word : ℕ) → L k (on_way (extent c) p k way word) ≤ links_to (extent c) way.shape (field_index k) - way.level + errand_left k
   way_left k way word = elim (cases_Bool (ltb way.level (links_to (extent c) way.shape (field_index k)))) [
     | inl q ↦ rw q (omega arith)
     | inr q ↦ (let b = block_left k way word in rw q (omega arith))
@@ -185,7 +185,7 @@ module _ (c : Config) (p : Pass) where
   owner_left (commands.Say s) word v = omega arith
   owner_left k word v = omega (arith, before_left k (Pending word v))
 
-  register_falls : (k : Command) (wanted : Wanted) (w : ℕ) → L k (after_register (extent c) p k wanted w) < register_left c k wanted
+  register_falls : (k : Command) (wanted : Purpose) (w : ℕ) → L k (after_register (extent c) p k wanted w) < register_left c k wanted
   register_falls k wants.Copied w = omega (arith, before_left k (Moved w))
   register_falls k wants.Object w = omega (arith, object_left k (payload_in w))
   register_falls k (wants.Expected way) w = omega arith

@@ -12,8 +12,8 @@ use Rattle.heap_machine.specs.Gating.{Gating, Inside, is_outside}
 use Rattle.heap_machine.specs.declared.gate.GateRow.{GateRow}
 use Rattle.heap_machine.specs.declared.gate.GateRow.TheVariants as gates
 use Rattle.heap_machine.proofs.Gatings.{inside_some, entered_phase}
-use Rattle.lone_bound.specs.Moves.{Spot}
-use Rattle.heap_system.specs.Parts.{Rest, Enter, Again, Idle}
+use Rattle.solo_bound.specs.Moves.{Spot}
+use Rattle.heap_system.specs.Parts.{Rest, Enter, Retry, ToChange}
 use Rattle.heap_system.proofs.SeenAndKept.{Seen}
 use Rattle.heap_system.proofs.alone.Heads.{same_lone, open_here, has_pass}
 use Rattle.heap_system.proofs.alone.LoneThread.{ready_now, some, grey_heads, LoneStep, LoneLaw}
@@ -37,7 +37,7 @@ less_inside c s inside =
     let less = phase-less (s.heap Phase) some in
     (ap (λ (w : PhaseWord). w.cycle) less, ap (λ (w : PhaseWord). w.sweep) less)
 
-pub again_lone : (c : Config) → LoneLaw c Again
+pub again_lone : (c : Config) → LoneLaw c Retry
 again_lone c s is alone event known = record {
   goes = refl;
   out = refl;
@@ -45,10 +45,10 @@ again_lone c s is alone event known = record {
   moves = (refl, refl);
 }
 
-pub idle_lone : (c : Config) → LoneLaw c Idle
+pub idle_lone : (c : Config) → LoneLaw c ToChange
 idle_lone c s is alone event known =
     let same = less_inside c s (ap (λ (g : Gating). g.stand) is.gating) in
-    let pass = has_pass c s Idle is.gating refl in
+    let pass = has_pass c s ToChange is.gating refl in
     record {
       goes = refl;
       out = refl;

@@ -1,9 +1,9 @@
 -- The turn of a lone thread, by its part.
 use Rattle.std.proofs.Common.{◌≡◌, true, false}
 use Rattle.block_store.specs.declared.Config.{Config}
-use Rattle.heap_system.specs.Parts.{Part, Rest, Enter, Serve, Mark, Sweep, Build, Again, Idle, TurnOver, Leave}
+use Rattle.heap_system.specs.Parts.{Part, Rest, Enter, Serve, Mark, Sweep, Build, Retry, ToChange, PhaseChange, Leave}
 use Rattle.heap_system.proofs.alone.Build.{build_lone}
-use Rattle.heap_system.proofs.alone.TurnOver.{turn_lone}
+use Rattle.heap_system.proofs.alone.PhaseChange.{turn_lone}
 use Rattle.heap_system.proofs.alone.Gate.{rest_lone, again_lone, idle_lone, enter_lone}
 use Rattle.heap_system.proofs.alone.Mark.{mark_lone}
 use Rattle.heap_system.proofs.alone.Serve.{serve_lone}
@@ -17,7 +17,7 @@ lone_law c (Serve f) on = serve_lone c f
 lone_law c (Mark m) on = mark_lone c m
 lone_law c (Sweep s) on = sweep_lone c s
 lone_law c (Build b) on = build_lone c b
-lone_law c Again on = again_lone c
-lone_law c Idle on = idle_lone c
-lone_law c (TurnOver g) on = turn_lone c g
+lone_law c Retry on = again_lone c
+lone_law c ToChange on = idle_lone c
+lone_law c (PhaseChange g) on = turn_lone c g
 lone_law c Leave on = absurd (let z : true ≡ false = on in cc)

@@ -24,13 +24,13 @@ use Rattle.build_steps.specs.Rows as making
 use Rattle.build_steps.specs.Rows.{BuildState}
 use Rattle.build_steps.specs.declared.rows.BuildRow.{BuildRow}
 use Rattle.build_steps.specs.declared.rows.BuildRow.TheVariants as builds
-use Rattle.lone_bound.specs.Moves.{Spot, Lone, Terms, Moves}
-use Rattle.heap_system.specs.Parts.{Part, Rest, Enter, Serve, Mark, Sweep, Build, Again, Idle, TurnOver, Leave}
+use Rattle.solo_bound.specs.Moves.{Spot, Lone, Terms, Moves}
+use Rattle.heap_system.specs.Parts.{Part, Rest, Enter, Serve, Mark, Sweep, Build, Retry, ToChange, PhaseChange, Leave}
 use Rattle.heap_system.specs.Locals.{effect, part_want, part_got, pass_got, spent_got, waits}
 use Rattle.heap_system.proofs.PartLaws.{AtPart, PartEvent, word_at}
 use Rattle.heap_system.proofs.SeenAndKept.{Seen, errand}
 use Rattle.heap_system.proofs.alone.FieldsLeft.{field_left}
-use Rattle.heap_system.proofs.alone.Low.{ObjectsAreLow}
+use Rattle.heap_system.proofs.alone.ObjectSizes.{ObjectsAreLow}
 
 -- what a command is
 abbrev pub terms_of : Config → Command → Terms
@@ -97,9 +97,9 @@ spot_of c (Serve f) = Spot.Serve (field_left c f.command f.row)
 spot_of c (Mark m) = grey_spot m.row
 spot_of c (Sweep s) = sweep_spot s.row
 spot_of c (Build b) = build_spot c.width (length b.held) b.row
-spot_of c Again = Spot.Leave
-spot_of c Idle = Spot.LeaveNone
-spot_of c (TurnOver g) = gate_spot g
+spot_of c Retry = Spot.Leave
+spot_of c ToChange = Spot.LeaveNone
+spot_of c (PhaseChange g) = gate_spot g
 spot_of c Leave = Spot.LeaveDone
 
 -- of the n numbers f i, f (i + 1), .., some is not 0
@@ -189,8 +189,8 @@ LoneKnows c h t q due paid (Enter g) = GateKnows c h t q due paid g
 LoneKnows c h t q due paid (Mark m) = GreyKnows c h t m.row
 LoneKnows c h t q due paid (Sweep s) = SweepKnows h s.row
 LoneKnows c h t q due paid (Build b) = BuildKnows c h t b.row
-LoneKnows c h t q due paid Idle = (paid < due) × IsDry c h q
-LoneKnows c h t q due paid (TurnOver g) = GateKnows c h t q due paid g
+LoneKnows c h t q due paid ToChange = (paid < due) × IsDry c h q
+LoneKnows c h t q due paid (PhaseChange g) = GateKnows c h t q due paid g
 LoneKnows c h t q due paid _ = Unit {0}
 
 -- the thread goes out with its reply

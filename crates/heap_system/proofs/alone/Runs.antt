@@ -21,9 +21,9 @@ use Rattle.never_heap.proofs.StepAnswers.{blocks_untold, owes_told}
 use Rattle.heap_machine.specs.Gating.{is_outside, is_inside, is_closing}
 use Rattle.heap_machine.specs.Operations.{place_of}
 use Rattle.heap_machine.proofs.Gatings.{stand_out}
-use Rattle.lone_bound.specs.Moves.{Terms, Moves}
-use Rattle.lone_bound.specs.Prices.{left, at_look, allocation_bound, idle_bound, other_bound}
-use Rattle.lone_bound.proofs.Prices.{lower, within, one_event}
+use Rattle.solo_bound.specs.Moves.{Terms, Moves}
+use Rattle.solo_bound.specs.Prices.{left, at_look, allocation_bound, idle_bound, other_bound}
+use Rattle.solo_bound.proofs.Prices.{lower, within, one_event}
 use Rattle.barrier_steps.specs.Operands.{is_idle}
 use Rattle.barrier_steps.specs.Rows.{first_row}
 use Rattle.heap_system.specs.Parts.{Part, Rest, Leave}
@@ -42,7 +42,7 @@ use Rattle.heap_system.proofs.WaitingTurns.{part_waits}
 use Rattle.heap_system.proofs.alone.FieldsLeft.{events_few, field_left, fields_first}
 use Rattle.heap_system.proofs.alone.Heads.{open_here}
 use Rattle.heap_system.proofs.alone.Laws.{lone_law}
-use Rattle.heap_system.proofs.alone.Low.{order_objects}
+use Rattle.heap_system.proofs.alone.ObjectSizes.{order_objects}
 use Rattle.heap_system.proofs.alone.LoneThread.{terms_of, spot_of, lone_of, LoneKnows, LoneStep, Alone, is_out, paid_left}
 
 -- a price of a unit that serves both widths

@@ -9,10 +9,10 @@ use Rattle.object_lists.specs.Records.{record_blocks}
 use Rattle.never_heap.specs.declared.Command.{Command}
 use Rattle.never_heap.specs.declared.Reply.{Reply}
 use Rattle.never_heap.specs.Graphs.{Graph, ObjectKind, Record, Array, object_of}
-use Rattle.shown_graph.specs.Layouts.{kind_shape}
-use Rattle.shown_graph.specs.Shown.{heads}
-use Rattle.kept_names.specs.Pictures.{Task, picture}
-use Rattle.kept_names.specs.States.{KeptState, Kept}
+use Rattle.graph_relation.specs.Layouts.{kind_shape}
+use Rattle.graph_relation.specs.Shown.{heads}
+use Rattle.name_invariant.specs.Pictures.{Task, picture}
+use Rattle.name_invariant.specs.States.{KeptState, Kept}
 use Rattle.heap_machine.specs.Operations.{place_of}
 use Rattle.heap_machine.specs.declared.pass.Pass.{Pass}
 use Rattle.barrier_steps.specs.declared.rows.FieldRow.{FieldRow}
@@ -24,14 +24,14 @@ use Rattle.barrier_steps.specs.Replies.{ShownAt, ShapeShown}
 use Rattle.barrier_steps.specs.Rows.{FieldState, field_want, field_got, field_reply, shape_in, shape_or_empty}
 use Rattle.barrier_steps.specs.Walks.{shape_length, links_to}
 use Rattle.barrier_steps.proofs.RowReads.{row_shown}
-use Rattle.lone_bound.specs.Moves.{Spot, Lone, Terms, Moves}
+use Rattle.solo_bound.specs.Moves.{Spot, Lone, Terms, Moves}
 use Rattle.heap_system.specs.Alone.{longest_array, most_links}
 use Rattle.heap_system.specs.Parts.{Serve}
 use Rattle.heap_system.specs.Locals.{if_replied}
 use Rattle.heap_system.proofs.PartLaws.{AtPart}
 use Rattle.heap_system.proofs.SeenAndKept.{Seen}
 use Rattle.heap_system.proofs.alone.FieldsLeft.{field_left, field_falls, ways_are_short, IsWayShort}
-use Rattle.heap_system.proofs.alone.Low.{ObjectsAreLow}
+use Rattle.heap_system.proofs.alone.ObjectSizes.{ObjectsAreLow}
 use Rattle.heap_system.proofs.alone.LoneThread.{Alone, LoneLaw, LoneKnows, terms_of, lone_of, heap_left, pass_left, paid_left, is_out}
 
 record_low : (c : Config) (g : Graph) (a : Name) (kind : ObjectKind) (n : ℕ) → ObjectsAreLow c g → (object_of g a).kind ≡ kind → length (object_of g a).fields ≡ n → (m : ℕ) → kind_shape kind n ≡ shapes.List m → record_blocks c.width m ≤ c.object

@@ -23,9 +23,9 @@ use Rattle.sweep_steps.specs.declared.rows.SweepRow.TheVariants as sweeps
 use Rattle.sweep_steps.specs.Rows.{SweepState, next_block, sweep_over, sweep_nothing}
 use Rattle.build_steps.specs.declared.rows.BuildRow.{BuildRow}
 use Rattle.build_steps.specs.declared.rows.BuildRow.TheVariants as builds
-use Rattle.lone_bound.specs.Moves.{Spot}
-use Rattle.lone_bound.specs.Near.{Scene, Keeps, farthest}
-use Rattle.heap_system.specs.Parts.{Part, Rest, Enter, Serve, Mark, Sweep, Build, Again, Idle, TurnOver, Leave}
+use Rattle.solo_bound.specs.Moves.{Spot}
+use Rattle.solo_bound.specs.Near.{Scene, Keeps, farthest}
+use Rattle.heap_system.specs.Parts.{Part, Rest, Enter, Serve, Mark, Sweep, Build, Retry, ToChange, PhaseChange, Leave}
 use Rattle.heap_system.specs.Locals.{if_over}
 use Rattle.heap_system.proofs.PartLaws.{AtPart, PartEvent}
 use Rattle.heap_system.proofs.SeenAndKept.{Seen}
@@ -288,11 +288,11 @@ enter_keeps c (gates.Enter seen) s is alone event known =
     subst (λ v. KeepStep c s (Enter (gates.Enter v))) (sym known) (enters c s)
 enter_keeps c g s is alone event known = absurd is.part
 
-again_keeps : (c : Config) → KeepLaw c Again
+again_keeps : (c : Config) → KeepLaw c Retry
 again_keeps c s is alone event known =
     (refl, (λ p. stays _), (less_inside c s (ap (λ (g : Gating). g.stand) is.gating)).1)
 
-turn_keeps : (c : Config) (g : GateRow) → KeepLaw c (TurnOver g)
+turn_keeps : (c : Config) (g : GateRow) → KeepLaw c (PhaseChange g)
 turn_keeps c (gates.CloseLook p) s is alone event known = tt
 turn_keeps c (gates.Close p seen) s is alone event known = tt
 turn_keeps c (gates.CheckList p u) s is alone event known = tt
@@ -486,7 +486,7 @@ keep_law c (Serve f) on = λ s is alone event known. tt
 keep_law c (Mark m) on = mark_keeps c m.pass m.row
 keep_law c (Sweep s) on = sweep_row c s.thread s.cycle s.blocks s.owed s.row
 keep_law c (Build b) on = λ s is alone event known. built _ _ _ b.row _ _
-keep_law c Again on = again_keeps c
-keep_law c Idle on = λ s is alone event known. tt
-keep_law c (TurnOver g) on = turn_keeps c g
+keep_law c Retry on = again_keeps c
+keep_law c ToChange on = λ s is alone event known. tt
+keep_law c (PhaseChange g) on = turn_keeps c g
 keep_law c Leave on = absurd (let z : true ≡ false = on in cc)

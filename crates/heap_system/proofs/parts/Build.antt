@@ -50,10 +50,10 @@ use Rattle.never_heap.specs.Graphs.{count_of, next_name}
 use Rattle.never_heap.specs.Histories.{Did}
 use Rattle.never_heap.specs.Steps.{step, blocks_of}
 use Rattle.never_heap.proofs.StepAnswers.{blocks_answer, blocks_count}
-use Rattle.shown_graph.specs.Events.{unloaded}
-use Rattle.kept_names.specs.Building.{Build as Builder}
-use Rattle.kept_names.specs.Kept.{IsKept}
-use Rattle.kept_names.specs.Pictures.{Names, Task, no_task, picture}
+use Rattle.graph_relation.specs.Events.{unloaded}
+use Rattle.name_invariant.specs.Building.{Build as Builder}
+use Rattle.name_invariant.specs.Kept.{IsKept}
+use Rattle.name_invariant.specs.Pictures.{Names, Task, no_task, picture}
 use Rattle.heap_machine.specs.Gating.{Gating, GateOf, Inside, is_outside}
 use Rattle.heap_machine.specs.Holdings.{Holding, holds_nothing}
 use Rattle.heap_machine.specs.Operations.{place_of, heap_after}
@@ -61,7 +61,7 @@ use Rattle.heap_machine.specs.PhaseKept.{PhaseKept}
 use Rattle.heap_machine.specs.Readings.{IsHeld}
 use Rattle.heap_machine.proofs.Gatings.{gate_stays}
 use Rattle.heap_machine.proofs.Held.{held_after}
-use Rattle.sweep_steps.specs.Ends.{unpassed}
+use Rattle.sweep_steps.specs.SweepUnits.{unpassed}
 use Rattle.build_steps.specs.declared.rows.BuildRow.{BuildRow}
 use Rattle.build_steps.specs.declared.rows.BuildRow.TheVariants.{
   ReadCount,
@@ -77,7 +77,7 @@ use Rattle.build_steps.specs.declared.rows.BuildRow.TheVariants.{
   Built,
   Refused,
 }
-use Rattle.build_steps.specs.Ends.{is_counting, is_publishing, is_built, is_refused, decides}
+use Rattle.build_steps.specs.LinearizationPoints.{is_counting, is_publishing, is_built, is_refused, decides}
 use Rattle.build_steps.specs.Fits.{RowFits, BuildReads}
 use Rattle.build_steps.specs.Naming.{IsPictured, build_of, names_made, with_task_build}
 use Rattle.build_steps.specs.Rows.{
@@ -98,11 +98,11 @@ use Rattle.build_steps.specs.Rows.{
 use Rattle.build_steps.specs.Standing.{Stands, left_of}
 use Rattle.build_steps.proofs.BuildOfState.{holds_build, pictured_stands}
 use Rattle.build_steps.proofs.DecidingEvent.{full, published, replies as step_replies}
-use Rattle.build_steps.proofs.Ends.{decided_after, full_is, refused_after}
+use Rattle.build_steps.proofs.LinearizationPoints.{decided_after, full_is, refused_after}
 use Rattle.build_steps.proofs.ReuseRulesKept.{over_holds_none}
 use Rattle.build_steps.proofs.NameRulesKept.{goes_on}
 use Rattle.build_steps.proofs.Once.{left_free}
-use Rattle.build_steps.proofs.Ranges.{fits_next}
+use Rattle.build_steps.proofs.RowsFit.{fits_next}
 use Rattle.build_steps.proofs.Parts.{has_blocks}
 use Rattle.build_steps.proofs.Together.{keeps_phase, phase_stays}
 use Rattle.build_steps.proofs.WantedPlaces.{place_fits, stores_held, sum_fits}

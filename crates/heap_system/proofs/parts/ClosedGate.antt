@@ -1,4 +1,4 @@
--- What a thread that closes the gate, to turn the phase over or to start the next cycle, knows of
+-- What a thread that closes the gate, to change the phase or to start the next cycle, knows of
 -- the heap.
 use Rattle.std.proofs.Common.{◌≡◌, ◌≢◌, ℕ, ◌+◌, ◌<◌, ◌≤◌, Bool, true, false, ltb, leb, ltb-true, leb-true, lt-ltb, le-ltb, refl, sym, ap, ◌∙◌, subst, arith, inl, inr}
 use Rattle.std.proofs.lemmas.Bool.{cases_Bool, cases_eq, and_parts, and_right}
@@ -17,31 +17,31 @@ use Rattle.heap_machine.specs.Gates.{GateFits, GateAt}
 use Rattle.heap_machine.specs.Gating.{Stand, Outside, Inside, Closing, is_outside, is_inside, is_closing, Gating}
 use Rattle.heap_machine.specs.Holdings.{Holding, holds_nothing, sweep_held}
 use Rattle.heap_machine.specs.Sweeping.{has_claimed, claims}
-use Rattle.heap_machine.specs.Turning as machine
-use Rattle.heap_machine.specs.Turning.{turns_over, in_pass, turning_gating, turning_holding, roots_shaded, cursor_set, MayTurn, IsTurnOf, HasRoom}
+use Rattle.heap_machine.specs.ChangingPhase as machine
+use Rattle.heap_machine.specs.ChangingPhase.{turns_over, in_pass, changing_gating, changing_holding, roots_shaded, cursor_set, MayTurn, IsTurnOf, HasRoom}
 use Rattle.heap_machine.specs.declared.gate.GateRow.{GateRow}
 use Rattle.heap_machine.specs.declared.gate.GateRow.TheVariants as gates
 use Rattle.heap_machine.specs.declared.pass.Pass.{Pass}
 use Rattle.heap_machine.proofs.Gatings.{gate_closing}
-use Rattle.heap_machine.proofs.TurningRules.{nobody_holds}
+use Rattle.heap_machine.proofs.ChangingPhaseRules.{nobody_holds}
 use Rattle.heap_machine.proofs.Turnovers.{empty_gate, of_pass}
-use Rattle.kept_names.specs.Colouring.{IsDark, IsColoured}
-use Rattle.kept_names.specs.Events.{IsAlone}
-use Rattle.kept_names.specs.Pictures.{Task, no_task, picture}
-use Rattle.kept_names.proofs.WordTargets.{root_in}
-use Rattle.sweep_steps.specs.Ends.{unpassed}
-use Rattle.heap_system.specs.Parts.{TurnOver}
+use Rattle.name_invariant.specs.Colouring.{IsDark, IsColoured}
+use Rattle.name_invariant.specs.Events.{IsAlone}
+use Rattle.name_invariant.specs.Pictures.{Task, no_task, picture}
+use Rattle.name_invariant.proofs.WordTargets.{root_in}
+use Rattle.sweep_steps.specs.SweepUnits.{unpassed}
+use Rattle.heap_system.specs.Parts.{PhaseChange}
 use Rattle.heap_system.specs.Locals.{task}
 use Rattle.heap_system.specs.Pictures.{gating}
 use Rattle.heap_system.proofs.PartLaws.{AtPart}
-use Rattle.heap_system.proofs.SeenAndKept.{stage, IsTurning, IsAtFirst, HasShaded, Seen}
+use Rattle.heap_system.proofs.SeenAndKept.{stage, IsChangingPhase, IsAtFirst, HasShaded, Seen}
 
 -- What a row of a pass says: it is of a part that turns over, where its thread stands has the cycle
 -- and phase of the pass, and the part is one of its thread.
 abbrev pub IsRow : Config → Pass → ℕ → GateRow → Type 0
-IsRow c q t g = (turns_over g ≡ true) × (gating c q (TurnOver g) ≡ turning_gating g) × IsTurnOf t g
+IsRow c q t g = (turns_over g ≡ true) × (gating c q (PhaseChange g) ≡ changing_gating g) × IsTurnOf t g
 
-pub row_of : (c : Config) (q : Pass) (t : ℕ) (g : GateRow) → IsTurning q g → q.thread ≡ t
+pub row_of : (c : Config) (q : Pass) (t : ℕ) (g : GateRow) → IsChangingPhase q g → q.thread ≡ t
     → IsRow c q t g
 row_of c q t g e own = by g e
   where
@@ -51,7 +51,7 @@ row_of c q t g e own = by g e
     owns : (p : Pass) → p ≡ q → p.thread ≡ t
     owns p e = ap (λ (r : Pass). r.thread) e ∙ own
 
-    by : (g : GateRow) → IsTurning q g → IsRow c q t g
+    by : (g : GateRow) → IsChangingPhase q g → IsRow c q t g
     by (gates.CloseLook p) e = (refl, stands_in p Outside e, owns p e)
     by (gates.Close p seen) e = (refl, stands_in p Outside e, owns p e)
     by (gates.CheckList p u) e = (refl, stands_in p Closing e.0, owns p e.0)
@@ -64,18 +64,18 @@ row_of c q t g e own = by g e
     by _ e = absurd e
 
 -- it is at nothing, and has claimed nothing
-pub at_nothing : (c : Config) (g : GateRow) → task c (TurnOver g) ≡ no_task
+pub at_nothing : (c : Config) (g : GateRow) → task c (PhaseChange g) ≡ no_task
 at_nothing c (gates.ShadeRoot p u hand) = refl
 at_nothing c (gates.PutRoots p hand) = refl
 at_nothing c _ = refl
 
-pub none_claimed : (g : GateRow) → unpassed (turning_holding g) ≡ 0
+pub none_claimed : (g : GateRow) → unpassed (changing_holding g) ≡ 0
 none_claimed (gates.ShadeRoot p u hand) = refl
 none_claimed (gates.PutRoots p hand) = refl
 none_claimed _ = refl
 
-pub empty_outside : (g : GateRow) → is_outside (turning_gating g).stand ≡ true
-    → turning_holding g ≡ holds_nothing
+pub empty_outside : (g : GateRow) → is_outside (changing_gating g).stand ≡ true
+    → changing_holding g ≡ holds_nothing
 empty_outside (gates.ShadeRoot p u hand) e = absurd cc
 empty_outside (gates.PutRoots p hand) e = absurd cc
 empty_outside _ e = refl
@@ -98,9 +98,9 @@ record RootShaded (n : ℕ) (shaded : ℕ → Bool) (q : Pass) (g : GateRow) (u 
   pub low : u < n
   pub is : shaded u ≡ true
   pub sweep : q.sweep ≡ true
-  pub closing : is_closing (turning_gating g).stand ≡ true
+  pub closing : is_closing (changing_gating g).stand ≡ true
 
-root_shaded : (c : Config) (shaded : ℕ → Bool) (q : Pass) (g : GateRow) → IsTurning q g
+root_shaded : (c : Config) (shaded : ℕ → Bool) (q : Pass) (g : GateRow) → IsChangingPhase q g
     → GateFits g → GateAt c g → HasShaded c.threads shaded g → (u : ℕ) → u < roots_shaded g
     → RootShaded c.threads shaded q g u
 root_shaded c shaded q (gates.ShadeRoot p v hand) e f a k u low =
@@ -115,14 +115,14 @@ root_shaded c shaded q (gates.Start p) e f a k u low =
 root_shaded c shaded q _ e f a k u low = absurd (omega arith)
 
 -- What the thread knows of the phase, the other threads and the heap, before its event.
-module _ (c : Config) (s : Seen c) (g : GateRow) (at : AtPart c s (TurnOver g)) where
-  pub stands : s.gatings s.thread ≡ turning_gating g
+module _ (c : Config) (s : Seen c) (g : GateRow) (at : AtPart c s (PhaseChange g)) where
+  pub stands : s.gatings s.thread ≡ changing_gating g
   stands = at.gating ∙ (row_of c s.pass s.thread g at.part.0 at.part.1).1
 
-  module _ (closing : is_closing (turning_gating g).stand ≡ true) where
+  module _ (closing : is_closing (changing_gating g).stand ≡ true) where
     stands_closing : (s.gatings s.thread).stand ≡ Closing
     stands_closing =
-        ap (λ (x : Gating). x.stand) stands ∙ is_closing_stand (turning_gating g).stand closing
+        ap (λ (x : Gating). x.stand) stands ∙ is_closing_stand (changing_gating g).stand closing
 
     pub shut : (is_closed (s.heap Phase) ≡ true) × (inside_of (s.heap Phase) ≡ 0)
         × ((u : ℕ) → u < c.threads → (s.thread ≡ u → ⊥) → (s.gatings u).stand ≡ Outside)
@@ -153,7 +153,7 @@ module _ (c : Config) (s : Seen c) (g : GateRow) (at : AtPart c s (TurnOver g)) 
       builds = λ u ul. ap (λ (w : Task). w.build) (no_tasks u ul);
     }
 
-  pub knows : machine.TurningKnows c.width g s.heap
+  pub knows : machine.ChangingPhaseKnows c.width g s.heap
   knows = record {
     lists = at.knows.lists;
     cursor = is_first s.heap g at.knows.first;
@@ -164,7 +164,7 @@ module _ (c : Config) (s : Seen c) (g : GateRow) (at : AtPart c s (TurnOver g)) 
         (s.kept.sweeping (sym of.1 ∙ r.sweep)).roots u r.low r.is;
   }
 
-  pub turning : machine.IsTurning c s.heap s.gatings s.holds s.thread g
+  pub turning : machine.IsChangingPhase c s.heap s.gatings s.holds s.thread g
   turning = record {
     thread = s.low;
     turns = at.fits.2;
@@ -190,7 +190,7 @@ module _ (c : Config) (s : Seen c) (g : GateRow) (at : AtPart c s (TurnOver g)) 
 
 -- a look at an empty gate of the pass is one at the phase of the pass, with the gate open
 pub close_sees : (c : Config) (s : Seen c) (p : Pass) (seen : ℕ)
-    → AtPart c s (TurnOver (gates.Close p seen)) → s.heap Phase ≡ seen → p.sweep ≡ true
+    → AtPart c s (PhaseChange (gates.Close p seen)) → s.heap Phase ≡ seen → p.sweep ≡ true
     → (is_sweep (s.heap Phase) ≡ true) × (is_closed (s.heap Phase) ≡ false)
 close_sees c s p seen at same sweep =
     let of = of_pass p seen at.fits.0.1.pass in
@@ -199,7 +199,7 @@ close_sees c s p seen at same sweep =
 
 -- the root that is shaded next is black
 black_root : (c : Config) (s : Seen c) (p : Pass) (u hand : ℕ)
-    → AtPart c s (TurnOver (gates.ShadeRoot p u hand))
+    → AtPart c s (PhaseChange (gates.ShadeRoot p u hand))
     → s.heap (ColourOf (root_block c.width u)) ≡ black_word p.cycle
 black_root c s p u hand at =
     by ((s.kept.sweeping sweep).arrays (root_block c.width u) (root_in c.width c.threads u low))
@@ -224,7 +224,7 @@ black_root c s p u hand at =
         black ∙ ap black_word (sym phase.0 ∙ sym (ap (λ (r : Pass). r.cycle) at.part.0.0))
 
 -- Where all is swept no block is white, and what is not Free refers to no Free block.
-module _ (c : Config) (s : Seen c) (p : Pass) (at : AtPart c s (TurnOver (gates.Start p))) where
+module _ (c : Config) (s : Seen c) (p : Pass) (at : AtPart c s (PhaseChange (gates.Start p))) where
   abbrev start : GateRow
   start = gates.Start p
 
@@ -280,7 +280,7 @@ module _ (c : Config) (s : Seen c) (p : Pass) (at : AtPart c s (TurnOver (gates.
   all_shaded u ul = at.knows.roots u ul
 
 -- what the graph says where the event comes
-pub may_turn : (c : Config) (s : Seen c) (g : GateRow) → AtPart c s (TurnOver g)
+pub may_turn : (c : Config) (s : Seen c) (g : GateRow) → AtPart c s (PhaseChange g)
     → MayTurn (extent c) g s.heap
 may_turn c s (gates.Close p seen) at = λ is same. (
     let of = close_sees c s p seen at same is in
@@ -293,6 +293,6 @@ may_turn c s (gates.Start p) at = (
 may_turn c s _ at = tt
 
 -- the cycle that a start begins is one that the phase word can hold
-pub roomy : (c : Config) (s : Seen c) (g : GateRow) → AtPart c s (TurnOver g) → HasRoom g
+pub roomy : (c : Config) (s : Seen c) (g : GateRow) → AtPart c s (PhaseChange g) → HasRoom g
 roomy c s (gates.Start p) at = omega (arith, own_cycle c s p at, s.cycle)
 roomy c s _ at = tt

@@ -11,8 +11,8 @@ use Rattle.block_store.proofs.PhaseWords.{phase-more}
 use Rattle.never_heap.specs.declared.Command.{Command}
 use Rattle.never_heap.specs.declared.Command.TheVariants as commands
 use Rattle.never_heap.specs.Steps.{blocks_of}
-use Rattle.never_heap.proofs.Ranges as ranges
-use Rattle.shown_graph.specs.Events.{unloaded}
+use Rattle.never_heap.proofs.CommandBounds as ranges
+use Rattle.graph_relation.specs.Events.{unloaded}
 use Rattle.heap_machine.specs.Gates.{gate_step, is_of_pass, is_empty, is_going_in, GateFits, SeenOpen}
 use Rattle.heap_machine.specs.Gating.{Gating, GateOf, Outside, Inside}
 use Rattle.heap_machine.specs.Holdings.{Holding, holds_nothing}
@@ -23,7 +23,7 @@ use Rattle.heap_machine.specs.declared.gate.GateRow.TheVariants as gates
 use Rattle.heap_machine.specs.declared.pass.Pass.{Pass}
 use Rattle.heap_machine.proofs.Gatings.{gate_enters, gate_stays, inside_most}
 use Rattle.grey_steps.specs.Rows.{scanning}
-use Rattle.grey_steps.proofs.Ranges.{scan_fits}
+use Rattle.grey_steps.proofs.RowsFit.{scan_fits}
 use Rattle.barrier_steps.specs.Rows.{at_first_row, field_decided, first_row, field_reply, field_holding}
 use Rattle.barrier_steps.specs.Fits.{IsThread}
 use Rattle.barrier_steps.specs.Projection.{loading_of}
@@ -33,10 +33,10 @@ use Rattle.barrier_steps.proofs.Decisions.{first_undecided}
 use Rattle.barrier_steps.proofs.Dues.{none_due}
 use Rattle.barrier_steps.proofs.FieldRows.{first_fits}
 use Rattle.sweep_steps.specs.Rows.{sweeping}
-use Rattle.sweep_steps.proofs.Ranges as sweeping_ranges
+use Rattle.sweep_steps.proofs.RowsFit as sweeping_ranges
 use Rattle.build_steps.specs.Rows.{building}
-use Rattle.build_steps.proofs.Ranges as building_ranges
-use Rattle.kept_names.specs.Pictures.{no_task}
+use Rattle.build_steps.proofs.RowsFit as building_ranges
+use Rattle.name_invariant.specs.Pictures.{no_task}
 use Rattle.heap_system.specs.Parts.{Part, Enter, Serve, Mark, Sweep, Build}
 use Rattle.heap_system.specs.declared.Turn.TheVariants as turns
 use Rattle.heap_system.specs.Locals.{part_want, plain, pass_by, first_part, task, turn_of, gate_waits, PartFits, PartReads, IsPassAt}

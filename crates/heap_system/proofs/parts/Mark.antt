@@ -14,19 +14,19 @@ use Rattle.heap_machine.specs.Operations.{CompareExchange, place_of, heap_after}
 use Rattle.heap_machine.specs.PhaseKept.{PhaseKept}
 use Rattle.heap_machine.specs.declared.Step.TheVariants.{Over, Went}
 use Rattle.heap_machine.specs.declared.pass.Pass.{Pass}
-use Rattle.kept_names.specs.Kept.{IsKept}
-use Rattle.kept_names.specs.Pictures.{Task, no_task, picture}
+use Rattle.name_invariant.specs.Kept.{IsKept}
+use Rattle.name_invariant.specs.Pictures.{Task, no_task, picture}
 use Rattle.grey_steps.specs.declared.rows.GreyRow.{GreyRow}
 use Rattle.grey_steps.specs.declared.rows.GreyRow.TheVariants as marks
-use Rattle.grey_steps.specs.Ends.{is_blackening, is_shading}
+use Rattle.grey_steps.specs.MarkUnits.{is_blackening, is_shading}
 use Rattle.grey_steps.specs.Fits.{GreyFits, GreyReads}
 use Rattle.grey_steps.specs.Rows.{GreyState, row_want, grey_want, grey_got, grey_over, grey_step, grey_unit, grey_nothing, grey_holding, holding_at}
-use Rattle.grey_steps.proofs.Ends.{scan_goes_on, unit_after, unit_grey, unit_once}
+use Rattle.grey_steps.proofs.MarkUnits.{scan_goes_on, unit_after, unit_grey, unit_once}
 use Rattle.grey_steps.proofs.Pictures.{scan_keeps_names}
-use Rattle.grey_steps.proofs.Ranges.{next_fits, place_fits, sum_fits, keeps_words}
+use Rattle.grey_steps.proofs.RowsFit.{next_fits, place_fits, sum_fits, keeps_words}
 use Rattle.grey_steps.proofs.Reuses.{keeps_phase, leaves_phase}
 use Rattle.heap_system.specs.declared.Turn.TheVariants as turns
-use Rattle.heap_system.specs.Parts.{Mark, Again, Idle}
+use Rattle.heap_system.specs.Parts.{Mark, Retry, ToChange}
 use Rattle.heap_system.specs.Locals.{turn_of, task, spent_got}
 use Rattle.heap_system.specs.Units.{blackens}
 use Rattle.heap_system.proofs.GatePassage.{inside_open}
@@ -220,7 +220,7 @@ module _ (c : Config) (s : Seen c) (m : GreyState) (at : AtPart c s (Mark m)) wh
       (changed s.tasks s.thread (finds w.found))))
       (nothing over) kept
 
-  again : grey_over next.row ≡ true → PassEvent c s new (is_blackening m.row) Again
+  again : grey_over next.row ≡ true → PassEvent c s new (is_blackening m.row) Retry
   again over = record {
     phase = phase;
     rises = omega (arith, cursor);
@@ -238,7 +238,7 @@ module _ (c : Config) (s : Seen c) (m : GreyState) (at : AtPart c s (Mark m)) wh
     settled = tt;
   }
 
-  idle : grey_over next.row ≡ true → PassEvent c s new (is_blackening m.row) Idle
+  idle : grey_over next.row ≡ true → PassEvent c s new (is_blackening m.row) ToChange
   idle over = record {
     phase = phase;
     rises = omega (arith, cursor);
@@ -258,11 +258,11 @@ module _ (c : Config) (s : Seen c) (m : GreyState) (at : AtPart c s (Mark m)) wh
 
   event : (over none : Bool) → grey_over next.row ≡ over → EventKept c s new
       (of_pass (grey_step (extent c) m read) (is_blackening m.row)) None
-      (cond over (cond none Idle Again) (Mark next))
+      (cond over (cond none ToChange Retry) (Mark next))
   event true true is = pass_kept c s (Mark m) at refl new (grey_step (extent c) m read)
-      (is_blackening m.row) Idle (idle is)
+      (is_blackening m.row) ToChange (idle is)
   event true false is = pass_kept c s (Mark m) at refl new (grey_step (extent c) m read)
-      (is_blackening m.row) Again (again is)
+      (is_blackening m.row) Retry (again is)
   event false none is = pass_kept c s (Mark m) at refl new (grey_step (extent c) m read)
       (is_blackening m.row) (Mark next) (goes_on is)
 

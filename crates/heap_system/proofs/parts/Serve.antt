@@ -25,10 +25,10 @@ use Rattle.heap_machine.specs.PhaseKept.{PhaseKept}
 use Rattle.heap_machine.specs.Sweeping.{SweepHolding}
 use Rattle.heap_machine.specs.declared.pass.Pass.{Pass}
 use Rattle.heap_machine.proofs.Gatings.{gate_stays}
-use Rattle.kept_names.specs.Kept.{IsKept}
-use Rattle.kept_names.specs.Pictures.{picture}
-use Rattle.kept_names.specs.States.{KeptState}
-use Rattle.shown_graph.specs.Events.{Loading, unloaded}
+use Rattle.name_invariant.specs.Kept.{IsKept}
+use Rattle.name_invariant.specs.Pictures.{picture}
+use Rattle.name_invariant.specs.States.{KeptState}
+use Rattle.graph_relation.specs.Events.{Loading, unloaded}
 use Rattle.barrier_steps.specs.declared.rows.FieldRow.{FieldRow}
 use Rattle.barrier_steps.specs.declared.rows.FieldRow.TheVariants as rows
 use Rattle.barrier_steps.specs.declared.rows.FieldStore.{FieldStore}
@@ -48,7 +48,7 @@ use Rattle.barrier_steps.proofs.FieldRows.{sum_at, field_fits}
 use Rattle.barrier_steps.proofs.PhaseRulesKept.{keeps_phase, keeps_words, over_nothing}
 use Rattle.barrier_steps.proofs.PhaseRulesKept.{field_phase, field_cursor, row_grey, row_found, row_claims}
 use Rattle.barrier_steps.proofs.NameRulesKept.{keeps_names, loaded_solid, due_on, reads_on}
-use Rattle.sweep_steps.specs.Ends.{unpassed}
+use Rattle.sweep_steps.specs.SweepUnits.{unpassed}
 use Rattle.heap_system.specs.Parts.{Part, Serve, Leave}
 use Rattle.heap_system.specs.declared.Turn.TheVariants as turns
 use Rattle.heap_system.specs.Locals.{Verdict, Effect, plain, task, spent_got, made_got, if_replied, if_decides, turn_of, entry_of, entries_of, works}

@@ -13,11 +13,11 @@ use Rattle.heap_machine.specs.Holdings.{Holding, holds_nothing}
 use Rattle.heap_machine.specs.Operations.{place_of, heap_after}
 use Rattle.heap_machine.specs.PhaseKept.{PhaseKept}
 use Rattle.heap_machine.specs.Readings.{IsHeld}
-use Rattle.kept_names.specs.Kept.{IsKept}
-use Rattle.kept_names.specs.Pictures.{Task, no_task, picture}
+use Rattle.name_invariant.specs.Kept.{IsKept}
+use Rattle.name_invariant.specs.Pictures.{Task, no_task, picture}
 use Rattle.sweep_steps.specs.declared.rows.SweepRow.{SweepRow}
 use Rattle.sweep_steps.specs.declared.rows.SweepRow.TheVariants as sweeps
-use Rattle.sweep_steps.specs.Ends.{row_passes, unpassed}
+use Rattle.sweep_steps.specs.SweepUnits.{row_passes, unpassed}
 use Rattle.sweep_steps.specs.Fits.{SweepFits, SweepReads, IsSweeping}
 use Rattle.sweep_steps.specs.Rows.{SweepState, row_want, row_got, after_range, next_block, before_free, step_to, sweep_want, sweep_got, sweep_over, sweep_step, sweep_passed, sweep_nothing, sweep_holding}
 use Rattle.sweep_steps.proofs.Cursor.{both_move, cursor_moves, nothing_behind}
@@ -25,9 +25,9 @@ use Rattle.sweep_steps.proofs.FreedBlocks.{keeps_phase, keeps_words, leaves_othe
 use Rattle.sweep_steps.proofs.ReuseRulesKept.{over_holds_none}
 use Rattle.sweep_steps.proofs.PassedBlocks.{passed_bits, passed_few}
 use Rattle.sweep_steps.proofs.Pictures.{keeps_names}
-use Rattle.sweep_steps.proofs.Ranges.{fits_next, place_fits, sum_fits}
+use Rattle.sweep_steps.proofs.RowsFit.{fits_next, place_fits, sum_fits}
 use Rattle.heap_system.specs.declared.Turn.TheVariants as turns
-use Rattle.heap_system.specs.Parts.{Sweep, Again, Idle}
+use Rattle.heap_system.specs.Parts.{Sweep, Retry, ToChange}
 use Rattle.heap_system.specs.Locals.{turn_of, sweep_waits, task, spent_got}
 use Rattle.heap_system.specs.Units.{blackens}
 use Rattle.heap_system.proofs.GatePassage.{inside_open}
@@ -212,7 +212,7 @@ module _ (c : Config) (s : Seen c) (p : SweepState) (at : AtPart c s (Sweep p)) 
   ended_rules over = subst (λ (w : Holding). PhaseKept (extent c) new (changed s.holds s.thread w))
       (nothing over) rules
 
-  again : sweep_over next.row ≡ true → PassEvent c s new unit Again
+  again : sweep_over next.row ≡ true → PassEvent c s new unit Retry
   again over = record {
     phase = phase;
     rises = rises;
@@ -230,7 +230,7 @@ module _ (c : Config) (s : Seen c) (p : SweepState) (at : AtPart c s (Sweep p)) 
     settled = tt;
   }
 
-  idle : sweep_over next.row ≡ true → sweep_nothing next.row ≡ true → PassEvent c s new unit Idle
+  idle : sweep_over next.row ≡ true → sweep_nothing next.row ≡ true → PassEvent c s new unit ToChange
   idle over none =
       let behind : c.blocks < s.heap Cursor =
       nothing_behind c s.heap p fits (still_some p.row at.part.going) none in
@@ -253,11 +253,11 @@ module _ (c : Config) (s : Seen c) (p : SweepState) (at : AtPart c s (Sweep p)) 
 
   event : (over none : Bool) → sweep_over next.row ≡ over → sweep_nothing next.row ≡ none
       → EventKept c s new (of_pass (sweep_step p read) unit) None
-      (cond over (cond none Idle Again) (Sweep next))
+      (cond over (cond none ToChange Retry) (Sweep next))
   event true true is none =
-      pass_kept c s (Sweep p) at refl new (sweep_step p read) unit Idle (idle is none)
+      pass_kept c s (Sweep p) at refl new (sweep_step p read) unit ToChange (idle is none)
   event true false is none =
-      pass_kept c s (Sweep p) at refl new (sweep_step p read) unit Again (again is)
+      pass_kept c s (Sweep p) at refl new (sweep_step p read) unit Retry (again is)
   event false some is none =
       pass_kept c s (Sweep p) at refl new (sweep_step p read) unit (Sweep next) (goes_on is)
 

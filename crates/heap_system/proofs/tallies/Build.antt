@@ -1,5 +1,5 @@
--- A thread that builds: the tally has its reservation, the blocks that it makes black, and the object
--- that it publishes or the refusal.
+-- A thread that builds: the tally has its reservation, the blocks that it makes black, and the
+-- object that it publishes or the refusal.
 use Rattle.std.proofs.Common.{◌≡◌, ℕ, ◌+◌, ◌-◌, ◌*◌, ◌<◌, ◌≤◌, max, Bool, true, false, ◌&&◌, cond, eqb, ltb, eqb-true, ltb-true, None, Some, List, [], ◌∷◌, ◌++◌, length, refl, sym, ap, ◌∙◌, subst, arith, inl, inr}
 use Rattle.std.proofs.lemmas.Bool.{cases_Bool, cases_eq}
 use Rattle.block_store.specs.declared.Config.{Config}
@@ -23,7 +23,7 @@ use Rattle.heap_machine.specs.Operations.{place_of, heap_after}
 use Rattle.heap_machine.specs.declared.Step.{Step}
 use Rattle.build_steps.specs.declared.rows.BuildRow.{BuildRow}
 use Rattle.build_steps.specs.declared.rows.BuildRow.TheVariants as rows
-use Rattle.build_steps.specs.Ends.{is_counting, is_publishing}
+use Rattle.build_steps.specs.LinearizationPoints.{is_counting, is_publishing}
 use Rattle.build_steps.specs.Fits.{RowFits}
 use Rattle.build_steps.specs.Naming.{is_building, row_build, built_object}
 use Rattle.build_steps.specs.Rows.{BuildState, row_want, row_got, row_step, row_reply, row_holding, held_got, built_at, after_take, after_collect, after_last, after_payload, after_colour, build_over, full_cycle}

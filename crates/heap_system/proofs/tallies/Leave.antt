@@ -13,13 +13,14 @@ use Rattle.heap_machine.specs.declared.gate.GateRow.TheVariants as gates
 use Rattle.heap_machine.proofs.Gatings.{inside_some}
 use Rattle.cycle_tally.specs.Events as events
 use Rattle.cycle_tally.specs.Tallies.{Spending, Tally}
-use Rattle.heap_system.specs.Parts.{Part, Rest, Enter, Again, Idle, TurnOver, Leave}
+use Rattle.heap_system.specs.Parts.{Part, Rest, Enter, Retry, ToChange, PhaseChange, Leave}
 use Rattle.heap_system.specs.Locals.{plain}
 use Rattle.heap_system.proofs.SeenAndKept.{Seen}
 use Rattle.heap_system.proofs.TallyLaw.{IsSpending, Counted, TallyEvent, TallyLaw, Asking, asking}
 use Rattle.heap_system.proofs.tallies.Moves.{spends_on, spends_here, told_none, moves}
 
--- from a part that is inside with nothing claimed or reserved to Rest, or to one that stands as that
+-- from a part that is inside with nothing claimed or reserved to Rest, or to one that stands as
+-- that
 goes_out : (c : Config) (rate : ℕ) (s : Seen c) (before : Tally) (p : Part) → Counted c rate s p before → (s.gatings s.thread).stand ≡ Inside → IsSpending c Leave s.balance (asking c s.command s.spent) (before.threads s.thread) → (q : Part) (next : Asking)
     → ((w : Spending) → IsSpending c Rest s.balance (asking c s.command s.spent) w → IsSpending c q s.balance (asking c s.command s.spent) w) → TallyEvent c rate s (put_at s.heap Phase (s.heap Phase - 1)) (plain steps.Over) q next before
 goes_out c rate s before p k stands own q next as_rest =
@@ -34,13 +35,13 @@ goes_out c rate s before p k stands own q next as_rest =
     (as_rest (record w { inside = false }) (record { inside = refl; account = own.account; asked = own.asked; told = own.told; idled = own.idled; low = own.low; high = own.high; reserved = own.reserved })))
     (λ u other. changed_else before.threads s.thread u _ other) (λ x. refl) (λ x. refl) refl
 
-pub again_tallied : (c : Config) → TallyLaw c Again
-again_tallied c rate s at next few before k = goes_out c rate s before Again k (ap (λ (x : Gating). x.stand) at.gating) (spends_on c Again Leave s.balance (asking c s.command s.spent) (before.threads s.thread) refl refl refl refl k.own) (Enter gates.Look) next
+pub again_tallied : (c : Config) → TallyLaw c Retry
+again_tallied c rate s at next few before k = goes_out c rate s before Retry k (ap (λ (x : Gating). x.stand) at.gating) (spends_on c Retry Leave s.balance (asking c s.command s.spent) (before.threads s.thread) refl refl refl refl k.own) (Enter gates.Look) next
     (λ w own. spends_on c Rest (Enter gates.Look) s.balance (asking c s.command s.spent) w refl refl refl refl own)
 
-pub idle_tallied : (c : Config) → TallyLaw c Idle
-idle_tallied c rate s at next few before k = goes_out c rate s before Idle k (ap (λ (x : Gating). x.stand) at.gating) (spends_on c Idle Leave s.balance (asking c s.command s.spent) (before.threads s.thread) refl refl refl refl k.own) (TurnOver (gates.CloseLook s.pass)) next
-    (λ w own. spends_on c Rest (TurnOver (gates.CloseLook s.pass)) s.balance (asking c s.command s.spent) w refl refl refl refl own)
+pub idle_tallied : (c : Config) → TallyLaw c ToChange
+idle_tallied c rate s at next few before k = goes_out c rate s before ToChange k (ap (λ (x : Gating). x.stand) at.gating) (spends_on c ToChange Leave s.balance (asking c s.command s.spent) (before.threads s.thread) refl refl refl refl k.own) (PhaseChange (gates.CloseLook s.pass)) next
+    (λ w own. spends_on c Rest (PhaseChange (gates.CloseLook s.pass)) s.balance (asking c s.command s.spent) w refl refl refl refl own)
 
 pub leave_tallied : (c : Config) → TallyLaw c Leave
 leave_tallied c rate s at next few before k = goes_out c rate s before Leave k (ap (λ (x : Gating). x.stand) at.gating) k.own Rest next (λ w own. own)

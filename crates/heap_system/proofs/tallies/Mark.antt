@@ -1,5 +1,5 @@
--- A thread in a Mark pass: the tally has the scan at the event that makes the block under scan black,
--- and each block that is shaded in its new colour.
+-- A thread in a Mark pass: the tally has the scan at the event that makes the block under scan
+-- black, and each block that is shaded in its new colour.
 use Rattle.std.proofs.Common.{◌≡◌, ℕ, ◌+◌, ◌*◌, ◌<◌, ◌≤◌, Bool, true, false, not, ◌&&◌, cond, eqb, eqb-true, eq-eqb, ne_eqb, Some, [], ◌∷◌, refl, sym, ap, ◌∙◌, arith, inl, inr}
 use Rattle.std.proofs.lemmas.Bool.{cases_Bool, cases_eq}
 use Rattle.block_store.specs.declared.Config.{Config}
@@ -19,14 +19,14 @@ use Rattle.heap_machine.specs.declared.Step.{Step}
 use Rattle.heap_machine.specs.declared.pass.Pass.{Pass}
 use Rattle.grey_steps.specs.declared.rows.GreyRow.{GreyRow}
 use Rattle.grey_steps.specs.declared.rows.GreyRow.TheVariants as marks
-use Rattle.grey_steps.specs.Ends.{is_blackening, is_shading}
+use Rattle.grey_steps.specs.MarkUnits.{is_blackening, is_shading}
 use Rattle.grey_steps.specs.Fits.{RowFits}
 use Rattle.grey_steps.specs.Rows.{GreyState, row_want, grey_unit, grey_want, grey_got, grey_over, grey_step, grey_nothing, grey_holding, holding_at}
-use Rattle.grey_steps.proofs.Ends.{unit_grey}
+use Rattle.grey_steps.proofs.MarkUnits.{unit_grey}
 use Rattle.work_account.specs.Accounts.{Balance}
 use Rattle.cycle_tally.specs.Events as events
 use Rattle.cycle_tally.specs.Tallies.{Spending, Tally, made_of, due_of, with_made}
-use Rattle.heap_system.specs.Parts.{Part, Mark, Again, Idle}
+use Rattle.heap_system.specs.Parts.{Part, Mark, Retry, ToChange}
 use Rattle.heap_system.specs.Locals.{Effect, Open, idle_part, spent_got, balance_made, balance_got}
 use Rattle.heap_system.proofs.Balances.{idle_more}
 use Rattle.heap_system.specs.Machines.{starts_by}
@@ -57,7 +57,7 @@ module _ (c : Config) (rate : ℕ) (s : Seen c) (m : GreyState) (at : AtPart c s
   read = s.heap (place_of (grey_want m))
 
   -- the part after it claims nothing either
-  comes : (n : GreyState) (over none : Bool) (b : Balance) (made : ℕ) (w : Spending) → w.inside ≡ true → w.balance ≡ b → w.asked ≡ blocks_of c.width s.command → w.told ≡ units_told s.command → w.idled ≡ idle_part (units_told s.command) made → w.low ≡ 0 → w.high ≡ 0 → w.reserved ≡ 0 → IsSpending c (cond over (cond none Idle Again) (Mark n)) b (asking c s.command made) w
+  comes : (n : GreyState) (over none : Bool) (b : Balance) (made : ℕ) (w : Spending) → w.inside ≡ true → w.balance ≡ b → w.asked ≡ blocks_of c.width s.command → w.told ≡ units_told s.command → w.idled ≡ idle_part (units_told s.command) made → w.low ≡ 0 → w.high ≡ 0 → w.reserved ≡ 0 → IsSpending c (cond over (cond none ToChange Retry) (Mark n)) b (asking c s.command made) w
   comes n true true b made w inside pays asked told idled low high reserved = record { inside = inside; account = pays; asked = asked; told = told; idled = idled; low = low; high = high; reserved = reserved }
   comes n true false b made w inside pays asked told idled low high reserved = record { inside = inside; account = pays; asked = asked; told = told; idled = idled; low = low; high = high; reserved = reserved }
   comes n false none b made w inside pays asked told idled low high reserved = record { inside = inside; account = pays; asked = asked; told = told; idled = idled; low = low ∙ sym (no_claim (payloads c.width) n.row).0; high = high ∙ sym (no_claim (payloads c.width) n.row).1; reserved = reserved }
@@ -137,5 +137,5 @@ module _ (c : Config) (rate : ℕ) (s : Seen c) (m : GreyState) (at : AtPart c s
 pub mark_tallied : (c : Config) (m : GreyState) → TallyLaw c (Mark m)
 mark_tallied c m rate s at next few before k =
     let n : GreyState = grey_got (extent c) m (s.heap (place_of (grey_want m))) in
-    by c rate s m at before k next (grey_step (extent c) m (s.heap (place_of (grey_want m)))) (cond (grey_over n.row) (cond (grey_nothing n.row) Idle Again) (Mark n))
+    by c rate s m at before k next (grey_step (extent c) m (s.heap (place_of (grey_want m)))) (cond (grey_over n.row) (cond (grey_nothing n.row) ToChange Retry) (Mark n))
     (comes c rate s m at before k next n (grey_over n.row) (grey_nothing n.row)) m.row at.fits.0.row at.part.scans at.part.going at.pays (grey c rate s m at before k next)

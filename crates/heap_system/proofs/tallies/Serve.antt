@@ -1,5 +1,5 @@
--- A thread in a command that allocates nothing: the tally has the blocks that its barrier shades, the
--- answer and the next command.
+-- A thread in a command that allocates nothing: the tally has the blocks that its barrier shades,
+-- the answer and the next command.
 use Rattle.std.proofs.Common.{◌⊎◌, ◌≡◌, ℕ, ◌≤◌, Bool, true, false, eqb, Option, None, Some, is_some, [], ◌∷◌, ◌++◌, refl, sym, ap, ◌∙◌, subst, arith, inl, inr}
 use Rattle.std.proofs.lemmas.Bool.{cases_Bool}
 use Rattle.block_store.specs.declared.Config.{Config}
@@ -23,7 +23,7 @@ use Rattle.heap_machine.specs.declared.Step.{Step}
 use Rattle.heap_machine.specs.declared.pass.Pass.{Pass}
 use Rattle.grey_steps.specs.declared.rows.GreyRow.{GreyRow}
 use Rattle.grey_steps.specs.declared.rows.GreyRow.TheVariants as marks
-use Rattle.grey_steps.specs.Ends.{block_stored}
+use Rattle.grey_steps.specs.MarkUnits.{block_stored}
 use Rattle.grey_steps.specs.Rows as marking
 use Rattle.grey_steps.specs.Rows.{grey_over}
 use Rattle.barrier_steps.specs.declared.rows.FieldRow.{FieldRow}

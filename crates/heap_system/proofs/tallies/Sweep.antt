@@ -15,7 +15,7 @@ use Rattle.heap_machine.specs.Operations.{place_of, heap_after}
 use Rattle.heap_machine.specs.declared.Step.{Step}
 use Rattle.sweep_steps.specs.declared.rows.SweepRow.{SweepRow}
 use Rattle.sweep_steps.specs.declared.rows.SweepRow.TheVariants as sweeps
-use Rattle.sweep_steps.specs.Ends.{row_passes}
+use Rattle.sweep_steps.specs.SweepUnits.{row_passes}
 use Rattle.sweep_steps.specs.Fits.{RowFits, IsLeft}
 use Rattle.sweep_steps.specs.Rows.{SweepState, row_want, row_got, after_read, after_range, next_block, before_free, sweep_want, sweep_got, sweep_over, sweep_step, sweep_passed, sweep_nothing, sweep_holding}
 use Rattle.sweep_steps.proofs.ReuseRulesKept.{over_holds_none}
@@ -28,7 +28,7 @@ use Rattle.cycle_tally.proofs.Steps.{step_kept}
 use Rattle.cycle_tally.specs.Tallies.{Spending, Tally, with_made}
 use Rattle.heap_system.specs.Locals.{idle_part, balance_made}
 use Rattle.heap_system.proofs.Balances.{idle_more}
-use Rattle.heap_system.specs.Parts.{Part, Sweep, Again, Idle}
+use Rattle.heap_system.specs.Parts.{Part, Sweep, Retry, ToChange}
 use Rattle.heap_system.proofs.PartLaws.{AtPart}
 use Rattle.heap_system.proofs.SeenAndKept.{Seen}
 use Rattle.heap_system.proofs.TallyLaw.{IsSpending, IsTallyOf, Counted, TallyEvent, TallyLaw, more_if, Asking, asking}
@@ -76,7 +76,7 @@ module _ (c : Config) (rate : ℕ) (s : Seen c) (p : SweepState) (at : AtPart c 
   AtRow b made r w = AtClaim b made (sweep_holding r).low (sweep_holding r).high w
 
   -- the part of that row
-  comes : (n : SweepState) (over none : Bool) → sweep_over n.row ≡ over → (b : Balance) (made : ℕ) (w : Spending) → AtRow b made n.row w → IsSpending c (cond over (cond none Idle Again) (Sweep n)) b (asking c s.command made) w
+  comes : (n : SweepState) (over none : Bool) → sweep_over n.row ≡ over → (b : Balance) (made : ℕ) (w : Spending) → AtRow b made n.row w → IsSpending c (cond over (cond none ToChange Retry) (Sweep n)) b (asking c s.command made) w
   comes n true true is b made w a = record { inside = a.inside; account = a.account; asked = a.asked; told = a.told; idled = a.idled; low = a.low ∙ ap (λ h. h.low) (over_holds_none n.row is); high = a.high ∙ ap (λ h. h.high) (over_holds_none n.row is); reserved = a.reserved }
   comes n true false is b made w a = record { inside = a.inside; account = a.account; asked = a.asked; told = a.told; idled = a.idled; low = a.low ∙ ap (λ h. h.low) (over_holds_none n.row is); high = a.high ∙ ap (λ h. h.high) (over_holds_none n.row is); reserved = a.reserved }
   comes n false none is b made w a = record { inside = a.inside; account = a.account; asked = a.asked; told = a.told; idled = a.idled; low = a.low; high = a.high; reserved = a.reserved }
@@ -208,6 +208,6 @@ module _ (c : Config) (rate : ℕ) (s : Seen c) (p : SweepState) (at : AtPart c 
 pub sweep_tallied : (c : Config) (p : SweepState) → TallyLaw c (Sweep p)
 sweep_tallied c p rate s at next few before k =
     let n : SweepState = sweep_got p (s.heap (place_of (sweep_want p))) in
-    by c rate s p at before k next (sweep_step p (s.heap (place_of (sweep_want p)))) (cond (sweep_over n.row) (cond (sweep_nothing n.row) Idle Again) (Sweep n))
+    by c rate s p at before k next (sweep_step p (s.heap (place_of (sweep_want p)))) (cond (sweep_over n.row) (cond (sweep_nothing n.row) ToChange Retry) (Sweep n))
     p.row at.fits.0.row at.part.going at.settled (record { inside = k.own.inside; account = k.own.account; asked = k.own.asked; told = k.own.told; idled = k.own.idled; low = k.own.low; high = k.own.high; reserved = k.own.reserved })
     (comes c rate s p at before k next n (sweep_over n.row) (sweep_nothing n.row) refl)

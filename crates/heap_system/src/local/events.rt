@@ -3,6 +3,7 @@
 ghost use Rattle.std.specs.Prelude.{◌≡◌, ◌≤◌, ◌<◌, ◌+◌, ◌^◌, ◌-◌, true, false, if◌then◌else◌, length, slice_index_or};
 ghost use Rattle.block_store.specs.Places.{extent, words_count};
 ghost use Rattle.never_heap.specs.RightWork.{units_owed};
+ghost use Rattle.never_heap.specs.Steps.{blocks_of};
 ghost use Rattle.work_account.specs.Accounts.{entered};
 ghost use Rattle.heap_machine.specs.Memories.{ReadsOnly, ActsOnce};
 ghost use Rattle.heap_machine.specs.Gates.{gate_want, gate_got, going_got, gate_step, GateAt};
@@ -48,12 +49,12 @@ pub(super) fn is_last(step: Step) -> bool
 
 // On the way out after a pass that pays.
 pub(super) fn after_pass(nothing: bool) -> Row
-    ensures { result ≡ (if nothing then rows.Idle else rows.Again) }
+    ensures { result ≡ (if nothing then rows.ToChange else rows.Retry) }
 {
-    if nothing { Row::Idle } else { Row::Again }
+    if nothing { Row::ToChange } else { Row::Retry }
 }
 
-// The part that turns the phase over, after a pass that found nothing to do.
+// The part that changes the phase, after a pass that found nothing to do.
 fn turning(pass: Pass) -> Gate
     requires { IsPass pass }
     ensures { result ≡ GateRow.CloseLook pass }
@@ -61,7 +62,7 @@ fn turning(pass: Pass) -> Gate
     Gate::turn_over(pass.thread, pass.threads, pass.cycle, pass.sweep)
 }
 
-// An event of a part that turns the phase over, which comes once in many commands.
+// An event of a part that changes the phase, which comes once in many commands.
 #[inline(never)]
 fn turns_over<M: Memory>(
     gate: &mut Gate,
@@ -107,8 +108,8 @@ impl Local {
                 SweepPass::at_row(thread, cycle, self.config.blocks, *owed, *row).want(&places)
             },
             Row::Build => self.builder.want(&places),
-            Row::TurnOver => self.gate.want(&places),
-            Row::Again | Row::Idle | Row::Leave => Op::FetchSub {
+            Row::PhaseChange => self.gate.want(&places),
+            Row::Retry | Row::ToChange | Row::Leave => Op::FetchSub {
                 place: places.phase(),
                 by: 1,
             },
@@ -125,9 +126,9 @@ impl Local {
         let _row = &self.row;
     }
 
-    /// Makes the thread's next event by this memory. The thread is not done, and the memory reads no
-    /// word that its row may not: on the way in a phase word of cycle 1 or later, and of none before
-    /// the one that the thread entered last.
+    /// Makes the thread's next event by this memory. The thread is not done, and the memory reads
+    /// no word that its row may not: on the way in a phase word of cycle 1 or later, and of none
+    /// before the one that the thread entered last.
     #[inline(always)]
     pub fn event<M: Memory>(&mut self, memory: &mut M, shared: &M::Shared) -> Turn
         requires open { is_done self.old ≡ false }
@@ -141,13 +142,13 @@ impl Local {
             Row::Rest => self.at_gate(memory, shared),
             Row::Look => self.at_gate(memory, shared),
             Row::Enter { .. } => self.at_gate(memory, shared),
-            Row::TurnOver => self.at_gate(memory, shared),
+            Row::PhaseChange => self.at_gate(memory, shared),
             Row::Serve => self.serves(memory, shared),
             Row::Build => self.builds(memory, shared),
             Row::Mark(_) => self.marks(memory, shared, 1),
             Row::Sweep { .. } => self.sweeps(memory, shared, 1),
-            Row::Again => self.out(memory, shared),
-            Row::Idle => self.out(memory, shared),
+            Row::Retry => self.out(memory, shared),
+            Row::ToChange => self.out(memory, shared),
             Row::Leave => self.out(memory, shared),
         }
     }
@@ -184,7 +185,7 @@ impl Local {
                     Turn::Waited
                 }
             }
-            Row::TurnOver => {
+            Row::PhaseChange => {
                 let step = turns_over(&mut self.gate, &places, memory, shared);
                 if is_last(step) {
                     self.row = Row::Look;
@@ -278,13 +279,13 @@ impl Local {
         let place = Places::new(&self.config).phase();
         memory.act(shared, &Op::FetchSub { place, by: 1 });
         match self.row {
-            Row::Again => {
+            Row::Retry => {
                 self.row = Row::Look;
                 Turn::Went
             }
-            Row::Idle => {
+            Row::ToChange => {
                 self.gate = turning(self.pass);
-                self.row = Row::TurnOver;
+                self.row = Row::PhaseChange;
                 Turn::Went
             }
             Row::Leave => {
@@ -297,7 +298,7 @@ impl Local {
 
     // The command in hand.
     #[inline(always)]
-    fn command(&self) -> Command
+    pub(super) fn command(&self) -> Command
         requires { length self.now.log < length self.now.trace }
         ensures { result ≡ command_of self.now }
     {
@@ -305,7 +306,7 @@ impl Local {
     }
 
     // The pass that begins by this phase word.
-    fn pass_by(&self, phase: PhaseWord) -> Pass
+    pub(super) fn pass_by(&self, phase: PhaseWord) -> Pass
         requires { (1 ≤ phase.cycle) × (phase.cycle ≤ 2 ^ 54 - 2) }
         ensures is { result ≡ pass_by self.now.thread self.now.config.threads phase }
         ensures fits { IsPass result }
@@ -319,7 +320,7 @@ impl Local {
     }
 
     // The thread is inside by this phase word, and begins what it went in for.
-    fn goes_in(&mut self, phase: PhaseWord)
+    pub(super) fn goes_in(&mut self, phase: PhaseWord)
         requires command { length self.old.log < length self.old.trace }
         requires cycle { (1 ≤ phase.cycle) × (phase.cycle ≤ 2 ^ 54 - 2) }
         requires later { self.old.balance.cycle ≤ phase.cycle }
@@ -362,6 +363,7 @@ impl Local {
     }
 
     // The units that the command behind the one in hand owes, where there is one.
+    #[inline(always)]
     fn next_price(&self) -> u64
         requires { length self.now.log < length self.now.trace }
         ensures { result ≡ units_owed self.now.config.width self.now.rate
@@ -374,12 +376,25 @@ impl Local {
     }
 
     // The command in hand is done.
-    fn answer(&mut self, reply: Reply)
+    pub(super) fn answer(&mut self, reply: Reply)
         requires command { length self.old.log < length self.old.trace }
         requires paid { self.old.spent ≡ owed self.old }
         ensures { self.new ≡ answered self.old reply }
     {
         let command = self.command();
+        let blocks = command.blocks(self.config.width);
+        self.answer_to(command, blocks, reply);
+    }
+
+    // The command in hand, which is this one and takes so many blocks, is done.
+    #[inline(always)]
+    pub(super) fn answer_to(&mut self, command: Command, blocks: u32, reply: Reply)
+        requires there { length self.old.log < length self.old.trace }
+        requires command { command ≡ command_of self.old }
+        requires blocks { blocks ≡ blocks_of self.old.config.width command }
+        requires paid { self.old.spent ≡ owed self.old }
+        ensures { self.new ≡ answered self.old reply }
+    {
         let price = self.next_price();
         self.log.push_reserved(Entry {
             thread: self.thread,
@@ -387,7 +402,6 @@ impl Local {
             reply,
             work: self.spent,
         });
-        let blocks = command.blocks(self.config.width);
         settle(&mut self.account, reply, blocks);
         self.price = price;
         self.spent = 0;

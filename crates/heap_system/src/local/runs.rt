@@ -3,14 +3,14 @@
 ghost use Rattle.std.specs.Prelude.{◌≡◌, ◌<◌, true, false, if◌then◌else◌};
 ghost use Rattle.sweep_steps.specs.Rows.{sweep_nothing};
 ghost use Rattle.heap_system.specs.declared.rows.Row.TheVariants as rows;
-ghost use Rattle.heap_system.specs.Courses.{HasRunIn, HasRunOn, MayRun, goes_on, has_waited, longest};
+ghost use Rattle.heap_system.specs.ThreadMemories.{HasRunIn, HasRunOn, MayRun, goes_on, has_waited, longest};
 ghost use Rattle.heap_system.specs.Locals.{is_build, is_done, is_last, is_marking, is_serving, is_sweeping};
 
 use super::Local;
 use super::events::{after_pass, is_last, turn_after};
 use crate::counting::count;
 use crate::rows::Row;
-use crate::{Course, Turn};
+use crate::{ThreadMemory, Turn};
 use block_store::Places;
 use grey_steps::GreyPass;
 use heap_machine::{Memory, Outcome, Pass, Step};
@@ -39,7 +39,7 @@ fn waited(turn: Turn) -> bool
 #[inline(always)]
 fn behind(pass: &SweepPass, owed: u64, step: Step) -> Row
     ensures { result ≡ (if is_last step
-        then (if sweep_nothing pass.now.row then rows.Idle else rows.Again)
+        then (if sweep_nothing pass.now.row then rows.ToChange else rows.Retry)
         else rows.Sweep owed pass.now.row) }
 {
     if is_last(step) {
@@ -54,10 +54,10 @@ fn behind(pass: &SweepPass, owed: u64, step: Step) -> Row
 
 impl Local {
     /// Makes events of the thread in a row, one at least: those of its part, up to 64 and to the
-    /// first that waits; at the gate and outside it, one. The thread is not done. Tells what the last
-    /// event was.
+    /// first that waits; at the gate and outside it, one. The thread is not done. Tells what the
+    /// last event was.
     #[inline(always)]
-    pub fn events<C: Course>(&mut self, memory: &mut C, shared: &C::Shared) -> Turn
+    pub fn events<C: ThreadMemory>(&mut self, memory: &mut C, shared: &C::Shared) -> Turn
         requires open { is_done self.old ≡ false }
         requires stands { C.stands memory.old shared.now self.old }
         ensures stands { C.stands memory.new shared.now self.new }
@@ -78,6 +78,7 @@ impl Local {
             Row::Sweep { .. } => self.sweeps(memory, shared, LONGEST),
             Row::Serve => self.serves_on(memory, shared),
             Row::Build => self.builds_on(memory, shared),
+            Row::Rest => self.at_once(memory, shared),
             _ => self.event(memory, shared),
         }
     }

@@ -1,5 +1,5 @@
 use Rattle.std.proofs.Common.{◌∙◌}
-use Rattle.asked_graph.specs.Asked.{HasUsed}
+use Rattle.graph_view.specs.Asked.{HasUsed}
 use Rattle.historian_core.proofs.Lives.{listed_commands, room_listed}
 use Rattle.historian_core.proofs.Moves.{found_listed}
 use Rattle.historian_core.proofs.alarms_at.Goals as goal

@@ -1,5 +1,5 @@
 use Rattle.std.proofs.Common.{arith}
-use Rattle.asked_graph.specs.Asked.{HasUsed}
+use Rattle.graph_view.specs.Asked.{HasUsed}
 use Rattle.historian_core.proofs.Lives.{asked_commands, room_kept, from_low}
 use Rattle.historian_core.proofs.Moves.{keeps_told}
 use Rattle.historian_core.proofs.keep.Goals as goal

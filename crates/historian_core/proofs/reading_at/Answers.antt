@@ -2,7 +2,7 @@ use Rattle.std.proofs.Common.{◌≡◌, ℕ, sym, ap, ◌∙◌, slice_index_or
 use Rattle.block_store.specs.declared.Value.TheVariants.{Int}
 use Rattle.never_heap.specs.declared.Reply.{Reply}
 use Rattle.never_heap.specs.declared.Reply.TheVariants.{Val}
-use Rattle.asked_graph.specs.Asked.{HasUsed}
+use Rattle.graph_view.specs.Asked.{HasUsed}
 use Rattle.historian_core.proofs.Lives.{fetched_commands, room_fetched}
 use Rattle.historian_core.proofs.Moves.{fetched, number_low}
 use Rattle.historian_core.proofs.reading_at.Goals as goal

@@ -2,7 +2,7 @@ use Rattle.std.proofs.Common.{◌≡◌, [], Result, Ok, Err, IfOk}
 use Rattle.control_heap.specs.Controls.{Control, asked, units}
 use Rattle.control_heap.specs.declared.control.OpenFault.{OpenFault}
 use Rattle.never_heap.specs.Graphs.{start_graph}
-use Rattle.asked_graph.specs.Shown.{HasMetNoFull}
+use Rattle.graph_view.specs.Shown.{HasMetNoFull}
 use Rattle.historian_core.specs.declared.Limits.{Limits}
 use Rattle.historian_core.specs.Kept.{heap_config, Keeps}
 use Rattle.historian_core.proofs.Moves.{keeps_none, start_small}

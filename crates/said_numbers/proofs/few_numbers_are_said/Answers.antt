@@ -1,4 +1,4 @@
-use Rattle.said_numbers.proofs.Few.{few_said}
+use Rattle.said_numbers.proofs.NumbersPerThread.{few_said}
 use Rattle.said_numbers.proofs.few_numbers_are_said.Goals as goal
 
 pub returns : goal.returns

@@ -4,5 +4,5 @@ use Rattle.atom_board.proofs.driver.drives.Given as goal
 abbrev pub invariant-loop : goal.invariant-loop
 invariant-loop g l =
     HasDriven g.C.Memory.acts l.shared l.fn.memory l.fn.local l.memory l.local
-    × g.C.Course.stands l.memory l.shared l.local
+    × g.C.ThreadMemory.stands l.memory l.shared l.local
     × (goal.iterator-loop g).can_next l.iterator' × (goal.iterator-loop g).is_finite l.iterator'

@@ -1,4 +1,4 @@
-use Rattle.build_steps.proofs.Ends.{
+use Rattle.build_steps.proofs.LinearizationPoints.{
   present,
   decided_after,
   last_after,

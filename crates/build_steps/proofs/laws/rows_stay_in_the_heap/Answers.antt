@@ -1,4 +1,4 @@
-use Rattle.build_steps.proofs.Ranges.{first_fits, fits_next}
+use Rattle.build_steps.proofs.RowsFit.{first_fits, fits_next}
 use Rattle.build_steps.proofs.WantedPlaces.{place_fits, sum_fits, stores_held}
 use Rattle.build_steps.proofs.laws.rows_stay_in_the_heap.Goals as goal
 

@@ -1,5 +1,5 @@
 use Rattle.std.proofs.Common.{[], refl, rules, arith}
-use Rattle.heap_system.specs.Courses.{longest}
+use Rattle.heap_system.specs.ThreadMemories.{longest}
 use Rattle.control_heap.proofs.ServeLoop.{few, machine, may_run, came_more}
 use Rattle.control_heap.proofs.control.serve.Goals as goal
 

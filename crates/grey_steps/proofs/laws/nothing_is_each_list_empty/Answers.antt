@@ -1,7 +1,7 @@
 use Rattle.std.proofs.Common.{refl}
 use Rattle.grey_steps.proofs.GreyRuleKept.{own_first}
 use Rattle.grey_steps.specs.Rows.{shading}
-use Rattle.grey_steps.proofs.Ends.{nothing_is_zeros, each_is_taken, each_list, shading_ends}
+use Rattle.grey_steps.proofs.MarkUnits.{nothing_is_zeros, each_is_taken, each_list, shading_ends}
 use Rattle.grey_steps.proofs.laws.nothing_is_each_list_empty.Goals as goal
 
 pub returns : goal.returns

@@ -1,6 +1,6 @@
 use Rattle.std.proofs.Common.{refl}
 use Rattle.grey_steps.specs.Rows.{shading}
-use Rattle.grey_steps.proofs.Ends.{shade_is_over}
+use Rattle.grey_steps.proofs.MarkUnits.{shade_is_over}
 use Rattle.grey_steps.proofs.Tricolours.{keeps_tricolour, scan_over_none, shaded_dark, shade_dark, blackened_whole}
 use Rattle.grey_steps.proofs.laws.rows_keep_tricolour.Goals as goal
 

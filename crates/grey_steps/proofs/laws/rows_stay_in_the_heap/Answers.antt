@@ -1,4 +1,4 @@
-use Rattle.grey_steps.proofs.Ranges.{scan_fits, shade_fits, next_fits, place_fits, sum_fits, stores_held}
+use Rattle.grey_steps.proofs.RowsFit.{scan_fits, shade_fits, next_fits, place_fits, sum_fits, stores_held}
 use Rattle.grey_steps.proofs.laws.rows_stay_in_the_heap.Goals as goal
 
 pub returns : goal.returns

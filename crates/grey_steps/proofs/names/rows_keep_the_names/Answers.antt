@@ -1,6 +1,6 @@
 use Rattle.std.proofs.Common.{refl}
 use Rattle.block_store.specs.Widths.{payloads}
-use Rattle.grey_steps.proofs.Ends.{scan_goes_on, shading_goes_on, block_stays}
+use Rattle.grey_steps.proofs.MarkUnits.{scan_goes_on, shading_goes_on, block_stays}
 use Rattle.grey_steps.proofs.Pictures.{scan_keeps_names, shading_keeps_names}
 use Rattle.grey_steps.proofs.names.rows_keep_the_names.Goals as goal
 

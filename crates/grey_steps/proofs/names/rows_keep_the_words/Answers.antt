@@ -1,4 +1,4 @@
-use Rattle.grey_steps.proofs.Ranges.{keeps_words}
+use Rattle.grey_steps.proofs.RowsFit.{keeps_words}
 use Rattle.grey_steps.proofs.names.rows_keep_the_words.Goals as goal
 
 pub returns : goal.returns

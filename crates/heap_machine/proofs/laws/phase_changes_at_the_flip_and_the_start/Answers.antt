@@ -1,5 +1,5 @@
-use Rattle.heap_machine.proofs.Turnovers.{turning_cycle, turning_phase, flip_phase, start_phase}
+use Rattle.heap_machine.proofs.Turnovers.{changing_cycle, changing_phase, flip_phase, start_phase}
 use Rattle.heap_machine.proofs.laws.phase_changes_at_the_flip_and_the_start.Goals as goal
 
 pub returns : goal.returns
-returns c = record { cycle = turning_cycle; phase = turning_phase; flip = flip_phase; start = start_phase }
+returns c = record { cycle = changing_cycle; phase = changing_phase; flip = flip_phase; start = start_phase }

@@ -1,6 +1,6 @@
 use Rattle.std.proofs.Common.{◌∙◌}
 use Rattle.block_store.specs.declared.Value.TheVariants.{Nil}
-use Rattle.heap_pictures.proofs.Planning.{more_stores}
+use Rattle.heap_pictures.proofs.PlanLists.{more_stores}
 use Rattle.heap_pictures.proofs.plans.plan_fields.Goals as goal
 
 pub loop-i-preserved : goal.loop-i-preserved

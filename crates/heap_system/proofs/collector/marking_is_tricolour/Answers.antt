@@ -1,5 +1,5 @@
-use Rattle.kept_names.proofs.KeptStates.{build_of}
-use Rattle.kept_names.proofs.ReachedBlocks.{coloured_refers, marked_is}
+use Rattle.name_invariant.proofs.KeptStates.{build_of}
+use Rattle.name_invariant.proofs.ReachedBlocks.{coloured_refers, marked_is}
 use Rattle.heap_system.specs.Pictures.{kept_state}
 use Rattle.heap_system.proofs.Always.{run_kept}
 use Rattle.heap_system.proofs.LawsOf.{laws_of}

@@ -6,7 +6,7 @@ use Rattle.heap_system.proofs.Always.{run_kept}
 use Rattle.heap_system.proofs.LawsOf.{laws_of}
 use Rattle.heap_system.proofs.MadeFor.{each_made, hand_made}
 use Rattle.heap_system.proofs.UnitsOfTurns.{run_makes, run_units}
-use Rattle.heap_system.proofs.Told.{paid_low, paid_made, rest_settled, leave_settled, build_settled, serve_settled, rate_is, entries_right}
+use Rattle.heap_system.proofs.RunLaws.{paid_low, paid_made, rest_settled, leave_settled, build_settled, serve_settled, rate_is, entries_right}
 use Rattle.heap_system.proofs.laws.works_are_units.Goals as goal
 
 pub returns-clause-made : goal.returns-clause-made

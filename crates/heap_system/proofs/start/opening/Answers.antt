@@ -1,6 +1,6 @@
 use Rattle.std.proofs.Common.{arith, ap, ◌∙◌, length, length-set}
 use Rattle.block_store.specs.Places.{extent, place_at}
-use Rattle.heap_system.specs.Openings.{opening_heap}
+use Rattle.heap_system.specs.InitialHeaps.{opening_heap}
 use Rattle.heap_system.proofs.OpeningArrays.{by_places, one_more}
 use Rattle.heap_system.proofs.start.opening.Goals as goal
 

@@ -1,6 +1,6 @@
 use Rattle.std.proofs.Common.{◌≡◌, ◌<◌, ℕ, length, get_or}
 use Rattle.block_store.specs.Places.{extent, words_count, place_at}
-use Rattle.heap_system.specs.Openings.{opening_heap}
+use Rattle.heap_system.specs.InitialHeaps.{opening_heap}
 use Rattle.heap_system.proofs.start.opening.Given as goal
 
 abbrev pub invariant-loop-i : goal.invariant-loop-i

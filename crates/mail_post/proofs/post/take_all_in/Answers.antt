@@ -1,6 +1,6 @@
 use Rattle.std.proofs.Common.{sym, subst, ap, ◌∙◌, List, ◌++◌}
-use Rattle.mail_post.specs.Ends.{SenderState, OfPost}
-use Rattle.mail_post.proofs.Facts.{of_post}
+use Rattle.mail_post.specs.PostStates.{SenderState, OfPost}
+use Rattle.mail_post.proofs.EndFacts.{of_post}
 use Rattle.mail_post.proofs.post.take_all_in.Goals as goal
 
 pub take_in-requires-clause-line : goal.take_in-requires-clause-line

@@ -4,7 +4,7 @@ use Rattle.std.proofs.Common.{length}
 use Rattle.crossbeam_queue.specs.Passes.{view, IsPassOf, IsSamePass}
 use Rattle.mail_post.specs.declared.views.View.TheVariants.{Taking}
 use Rattle.mail_post.specs.Rule.{letters_in, senders_in, gathered_in}
-use Rattle.mail_post.specs.Ends.{whole_of}
+use Rattle.mail_post.specs.PostStates.{whole_of}
 use Rattle.mail_post.proofs.post.take_all_in.Given as goal
 
 abbrev pub invariant-loop-sender : goal.invariant-loop-sender

@@ -1,6 +1,6 @@
 use Rattle.std.proofs.Common.{◌∙◌, arith}
 use Rattle.std.proofs.Math.ListN.{length-set}
-use Rattle.mail_post.proofs.Facts.{same_rows, room_more}
+use Rattle.mail_post.proofs.EndFacts.{same_rows, room_more}
 use Rattle.mail_post.proofs.rows.make_room.Goals as goal
 
 pub returns-in_err-make_room-clause-same : goal.returns-in_err-make_room-clause-same

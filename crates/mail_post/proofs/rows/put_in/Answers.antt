@@ -1,4 +1,4 @@
-use Rattle.mail_post.proofs.Facts.{put_row}
+use Rattle.mail_post.proofs.EndFacts.{put_row}
 use Rattle.mail_post.proofs.rows.put_in.Goals as goal
 
 pub returns : goal.returns

@@ -1,5 +1,5 @@
 use Rattle.std.proofs.Common.{◌≡◌, refl}
-use Rattle.threaded_runs.specs.Ends.{HasTurns, job_of}
+use Rattle.threaded_runs.specs.EndedRuns.{HasTurns, job_of}
 use Rattle.threaded_runs.proofs.Shown.{run_shows}
 use Rattle.mail_runs.proofs.letters.deliver.Given.{Over}
 use Rattle.mail_runs.proofs.letters.deliver.Goals as goal
@@ -12,8 +12,8 @@ shows g c = run_shows (record {
   least = c.cycles_cost_few_units.ensures.least;
   most = c.cycles_cost_few_units.ensures.most;
   done = c.cycles_cost_few_units.ensures.done;
-}) _ _ _ _ _ c.closed.result.0 c.args.job c.closed.ensures.config c.in_ok-office.ensures.board.0
-    c.in_ok-office.ensures.board.1 c.closed.ensures.counted refl
+}) _ _ _ _ _ c.closed.result.0 c.args.job c.closed.ensures.config c.in_ok-mail_board.ensures.board.0
+    c.in_ok-mail_board.ensures.board.1 c.closed.ensures.counted refl
 
 pub returns-clause-job : goal.returns-clause-job
 returns-clause-job g c = (shows g c).0

@@ -2,11 +2,11 @@ use Rattle.std.proofs.Common.{ap, sym, subst, ◌∙◌}
 use Rattle.block_store.specs.declared.Config.{Config}
 use Rattle.heap_system.specs.Machines.{IsJob}
 use Rattle.heap_system.proofs.TextLives.{job_of_text}
-use Rattle.mail_post.specs.Ends.{fresh_senders}
+use Rattle.mail_post.specs.PostStates.{fresh_senders}
 use Rattle.trace_text.specs.Jobs.{Job}
-use Rattle.mail_runs.specs.declared.office.Office.{Office}
-use Rattle.mail_runs.specs.Speakers.{AreSpeakers}
-use Rattle.mail_runs.proofs.FreshSpeakers.{ready_count, speakers_ready}
+use Rattle.mail_runs.specs.declared.mail_board.MailBoard.{MailBoard}
+use Rattle.mail_runs.specs.MailThreads.{AreMailThreads}
+use Rattle.mail_runs.proofs.FreshMailThreads.{ready_count, speakers_ready}
 use Rattle.mail_runs.proofs.letters.opened_for.Goals as goal
 
 pub new-requires : goal.new-requires
@@ -20,14 +20,14 @@ paired-requires c =
     c.in_ok-board.ensures.mutators c.in_ok-post.ensures.senders
     (ap (λ (k : Config). k.threads) (sym c.in_ok-board.ensures.board.0))
 
-pub returns-clause-speakers : goal.returns-clause-speakers
-returns-clause-speakers c =
-    let o : Office = record {
+pub returns-clause-mail_threads : goal.returns-clause-mail_threads
+returns-clause-mail_threads c =
+    let o : MailBoard = record {
       board = c.in_ok-board.board;
       post = c.in_ok-post.post;
       ended = c.new-ended.result;
     } in
-    subst (AreSpeakers o) (sym c.in_ok-speakers.ensures)
+    subst (AreMailThreads o) (sym c.in_ok-mail_threads.ensures)
     (speakers_ready o _ _ c.in_ok-board.mutators.items c.in_ok-post.senders.items
     c.in_ok-board.ensures.mutators c.in_ok-board.ensures.start
     (c.in_ok-post.ensures.senders

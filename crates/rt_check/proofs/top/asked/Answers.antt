@@ -1,6 +1,6 @@
 use Rattle.std.proofs.Common.{arith, ◌≡◌, [], map, string_bytes, sym, subst, IfErr, List, ℕ}
 use Rattle.std.proofs.lemmas.Grind.{common_steps}
-use Rattle.call_exits.specs.Sides.{sides}
+use Rattle.exit_statuses.specs.Sides.{sides}
 use Rattle.rt_check.specs.Answers.{IsCause}
 use Rattle.rt_check.proofs.top.asked.Goals as goal
 

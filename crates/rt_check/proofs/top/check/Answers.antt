@@ -1,5 +1,5 @@
 use Rattle.std.proofs.Common.{map, string_bytes}
-use Rattle.call_exits.specs.Sides.{sides}
+use Rattle.exit_statuses.specs.Sides.{sides}
 use Rattle.rt_check.proofs.CarriedOut.{accepted_is_carried_out, refusal_is_carried_out}
 use Rattle.rt_check.proofs.top.check.Goals as goal
 

@@ -1,5 +1,5 @@
 use Rattle.std.proofs.lemmas.Result.{err_from_is_err_and}
-use Rattle.call_exits.specs.Sides.{sides}
+use Rattle.exit_statuses.specs.Sides.{sides}
 use Rattle.rt_check.proofs.Causes.{refused_by_source}
 use Rattle.rt_check.proofs.top.judged.Goals as goal
 

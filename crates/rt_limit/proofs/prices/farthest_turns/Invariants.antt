@@ -1,5 +1,5 @@
 use Rattle.std.proofs.Common.{◌≡◌, ◌≤◌, ◌+◌, ◌*◌}
-use Rattle.lone_bound.specs.Near.{farthest}
+use Rattle.solo_bound.specs.Near.{farthest}
 use Rattle.rt_limit.proofs.prices.farthest_turns.Given as goal
 
 abbrev pub invariant-loop-list : goal.invariant-loop-list

@@ -2,7 +2,7 @@ use Rattle.std.proofs.Common.{ℕ, ◌<◌, ◌≤◌, ◌≡◌, ◌^◌, Optio
 use Rattle.block_store.specs.declared.Width.{Width}
 use Rattle.block_store.specs.declared.Width.TheVariants.{Four, Eight}
 use Rattle.block_store.specs.Widths.{payloads}
-use Rattle.lone_bound.specs.Near.{near_bound}
+use Rattle.solo_bound.specs.Near.{near_bound}
 use Rattle.rt_limit.specs.Prices.{IsInWord}
 use Rattle.rt_limit.proofs.NearSmall.{near_small}
 use Rattle.rt_limit.proofs.prices.turns.Goals as goal

@@ -1,6 +1,6 @@
 use Rattle.std.proofs.Common.{List, ℕ, map, string_bytes, subst}
-use Rattle.call_exits.specs.Exits.{IsWritten}
-use Rattle.call_exits.specs.Sides.{sides}
+use Rattle.exit_statuses.specs.Exits.{IsWritten}
+use Rattle.exit_statuses.specs.Sides.{sides}
 use Rattle.rt_limit.proofs.CarriedOut.{needs_are_carried_out, refusal_is_carried_out}
 use Rattle.rt_limit.proofs.top.limit.Goals as goal
 

@@ -1,5 +1,5 @@
 use Rattle.std.proofs.Common.{◌<◌, refl, length, map, arith}
-use Rattle.rt_mail.proofs.Items.{pushed_items}
+use Rattle.array_scripts.proofs.Items.{pushed_items}
 use Rattle.rt_mail.proofs.RingJob.{as_many, enough, recalled_more, recalled_done}
 use Rattle.rt_mail.proofs.keeping.recalled.Goals as goal
 

@@ -3,7 +3,7 @@ use Rattle.std.proofs.lemmas.List.{length-map}
 use Rattle.trace_text.specs.Streams.{Appends, AppendsPrefix}
 use Rattle.trace_text.proofs.AppendedTexts.{at_err}
 use Rattle.rt_mail.specs.Tellings.{mail_line}
-use Rattle.rt_mail.proofs.Items.{items_at}
+use Rattle.array_scripts.proofs.Items.{items_at}
 use Rattle.rt_mail.proofs.WrittenLines.{written_more, written_front}
 use Rattle.rt_mail.proofs.printing.write_lines.Goals as goal
 

@@ -1,5 +1,5 @@
 use Rattle.std.proofs.lemmas.Result.{err_from_is_err_and}
-use Rattle.call_exits.specs.Sides.{sides}
+use Rattle.exit_statuses.specs.Sides.{sides}
 use Rattle.rt_mail.proofs.Apart.{without_memory}
 use Rattle.rt_mail.proofs.KeepableMail.{has_first, taken_keepable, has_mail}
 use Rattle.rt_mail.proofs.running.mailed.Goals as goal

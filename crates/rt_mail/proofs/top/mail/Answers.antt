@@ -1,6 +1,6 @@
 use Rattle.std.proofs.Common.{refl, map, string_bytes, arith}
 use Rattle.std.proofs.lemmas.List.{length-map}
-use Rattle.call_exits.specs.Sides.{sides}
+use Rattle.exit_statuses.specs.Sides.{sides}
 use Rattle.rt_mail.proofs.CarriedOut.{mail_is_carried_out, refusal_is_carried_out}
 use Rattle.rt_mail.proofs.KeepableMail.{as_many_recalled, few_recalled}
 use Rattle.rt_mail.proofs.top.mail.Goals as goal

@@ -1,40 +1,23 @@
-use Rattle.std.proofs.Common.{refl, List, map, subst, string_bytes, codes, Some, None}
-use Rattle.array_scripts.specs.Tellings.{lines_from}
-use Rattle.array_scripts.proofs.CarriedOut.{run_is_carried_out, refusal_is_carried_out}
-use Rattle.call_exits.specs.Exits.{IsWritten}
-use Rattle.call_exits.specs.Sides.{sides}
-use Rattle.tag_table.specs.Tables.{Tag}
+use Rattle.std.proofs.Common.{map, string_bytes, codes}
+use Rattle.array_scripts.proofs.CarriedOut.{carried_out_as}
+use Rattle.exit_statuses.specs.Sides.{sides}
+use Rattle.script_runs.specs.Runs.{IsAnswered}
 use Rattle.rt_tags.specs.Calls.{Headline}
 use Rattle.rt_tags.specs.Lines.{tag_kind}
-use Rattle.rt_tags.specs.Tellings.{tag_text}
-use Rattle.rt_tags.proofs.LineLaws.{tag_reads}
+use Rattle.rt_tags.specs.Scripts.{commands}
+use Rattle.rt_tags.specs.Tellings.{tag_text, told}
+use Rattle.rt_tags.proofs.Tables.{tag_runs, headline}
 use Rattle.rt_tags.proofs.top.tags.Goals as goal
 
-pub returns-in-Ok : goal.returns-in-Ok
-returns-in-Ok g c =
-    let w = c.tell_answers.ensures in
-    let status = c.tell_answers.result in
-    let source = sides g.S.Source.left g.S.Source.faults c.args.source.now c.asked.new.source in
-    let sink = sides g.K.Sink.held g.K.Sink.faults c.args.sink.now c.tell_answers.new.sink in
-    let table = c.in-Ok.ensures.kept.0 in
-    let told = subst (λ xs. IsWritten sink status (lines_from tag_text 0 (map (λ v. v.items) xs)))
-    c.deref.ensures.value w.text in
-    run_is_carried_out tag_kind tag_reads (codes "rt_tags") (Headline source sink status)
-    (map (λ w. string_bytes w) c.args.words.now) source sink status 0 (Some c.in-Ok.run')
-    record { any_status = w.status; still = w.still; rose = w.rose }
-    c.in-Ok.run' c.in-Ok.ensures.none (record {
-      table = table;
-      text = subst (λ (l : List (List Tag)). IsWritten sink status (lines_from tag_text 0 l))
-          c.in-Ok.ensures.kept.1 told;
-    }) table.header table.scripts table.read table.room c.in-Ok.ensures.still refl refl
+pub run_script-status-requires-clause-runnable : goal.run_script-status-requires-clause-runnable
+run_script-status-requires-clause-runnable g c κs within = tag_runs
 
-pub returns-in-Err : goal.returns-in-Err
-returns-in-Err g c =
-    let r = c.refused.ensures in
-    let source = sides g.S.Source.left g.S.Source.faults c.args.source.now c.asked.new.source in
-    let sink = sides g.K.Sink.held g.K.Sink.faults c.args.sink.now c.refused.new.sink in
-    refusal_is_carried_out tag_kind tag_reads (codes "rt_tags")
-    (Headline source sink c.refused.result) (map (λ w. string_bytes w) c.args.words.now) source sink
-    c.refused.result c.status.result None
-    record { any_status = rw c.status.ensures r.status; still = r.still; rose = r.rose }
-    c.in-Err.refusal c.status.ensures refl c.in-Err.ensures.refused r.line r.prefix
+pub returns : goal.returns
+returns g c =
+    let source = sides g.S.Source.left g.S.Source.faults c.args.source.now c.run_script-status.new.source in
+    let sink = sides g.K.Sink.held g.K.Sink.faults c.args.sink.now c.run_script-status.new.sink in
+    let x = c.run_script-status.result in
+    carried_out_as tag_kind (codes "rt_tags")
+    (IsAnswered tag_kind commands told tag_text source sink x.status)
+    (Headline source sink x.status) (map (λ w. string_bytes w) c.args.words.now) source sink
+    x.status x.due x.run (headline source sink x.status) c.run_script-status.ensures

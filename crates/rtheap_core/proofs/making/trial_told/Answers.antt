@@ -1,4 +1,4 @@
-use Rattle.call_exits.specs.declared.refusal.Refusal.TheVariants.{OutOfMemory}
+use Rattle.exit_statuses.specs.declared.refusal.Refusal.TheVariants.{OutOfMemory}
 use Rattle.rtheap_core.specs.declared.task.Task.TheVariants.{Trial}
 use Rattle.rtheap_core.proofs.CarriedOut.{trial_is_carried_out, refusal_is_carried_out}
 use Rattle.rtheap_core.proofs.GeneratedOutcome.{memory_cause, tried_of}

@@ -1,6 +1,6 @@
 use Rattle.std.proofs.Common.{List, ℕ, subst}
 use Rattle.std.proofs.lemmas.Result.{err_from_is_err_and}
-use Rattle.call_exits.specs.Sides.{sides}
+use Rattle.exit_statuses.specs.Sides.{sides}
 use Rattle.trace_text.specs.Refusals.{IsFirstBadLine}
 use Rattle.trace_text.specs.Wholes.{IsLineFault}
 use Rattle.rtheap_core.proofs.Taken.{refused_by_source, without_job}

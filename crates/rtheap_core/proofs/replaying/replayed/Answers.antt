@@ -1,6 +1,6 @@
 use Rattle.std.proofs.lemmas.Result.{err_from_is_err_and}
 use Rattle.rtheap_core.specs.declared.task.Task.TheVariants.{Replay}
-use Rattle.call_exits.specs.Sides.{sides}
+use Rattle.exit_statuses.specs.Sides.{sides}
 use Rattle.rtheap_core.proofs.Faults.{cause_of, read_and_replayed}
 use Rattle.rtheap_core.proofs.replaying.replayed.Goals as goal
 

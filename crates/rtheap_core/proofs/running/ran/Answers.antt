@@ -3,7 +3,7 @@ use Rattle.std.proofs.lemmas.Result.{err_from_is_err_and}
 use Rattle.trace_text.specs.Jobs.{Job}
 use Rattle.rate_plan.specs.Rates.{IsAdmitted}
 use Rattle.rtheap_core.specs.Exits.{IsReadAs}
-use Rattle.call_exits.specs.Sides.{sides}
+use Rattle.exit_statuses.specs.Sides.{sides}
 use Rattle.rtheap_core.proofs.Taken.{without_memory}
 use Rattle.rtheap_core.proofs.running.ran.Goals as goal
 

@@ -1,5 +1,5 @@
 use Rattle.std.proofs.Common.{refl}
-use Rattle.call_exits.specs.declared.refusal.Refusal.TheVariants.{Usage}
+use Rattle.exit_statuses.specs.declared.refusal.Refusal.TheVariants.{Usage}
 use Rattle.rtheap_core.proofs.CarriedOut.{refusal_is_carried_out}
 use Rattle.rtheap_core.proofs.top.carried_out.Goals as goal
 

@@ -3,7 +3,7 @@ use Rattle.block_store.specs.declared.Width.TheVariants.{Four}
 use Rattle.never_heap.specs.declared.Command.{Command}
 use Rattle.never_heap.specs.declared.Command.TheVariants.{Set, Put, Get}
 use Rattle.never_heap.specs.Jobs.{IsTraceInBounds}
-use Rattle.never_heap.proofs.Ranges.{plain_fits}
+use Rattle.never_heap.proofs.CommandBounds.{plain_fits}
 use Rattle.heap_system.specs.Machines.{IsJob}
 use Rattle.heap_system.specs.Systems.{commands_in}
 use Rattle.heap_system.proofs.Jobs.{config, two, both}

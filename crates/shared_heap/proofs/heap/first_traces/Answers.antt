@@ -3,7 +3,7 @@ use Rattle.std.proofs.lemmas.List.{map-append}
 use Rattle.never_heap.specs.declared.Command.{Command}
 use Rattle.never_heap.specs.declared.Command.TheVariants as commands
 use Rattle.shared_heap.specs.Workers.{AreOnes}
-use Rattle.shared_heap.proofs.Openings.{ones_more}
+use Rattle.shared_heap.proofs.InitialHeaps.{ones_more}
 use Rattle.shared_heap.proofs.heap.first_traces.Goals as goal
 
 abbrev items_of : Vec Command Global → List Command

@@ -1,4 +1,4 @@
-use Rattle.sweep_steps.proofs.Ranges.{first_fits, fits_next, place_fits, sum_fits}
+use Rattle.sweep_steps.proofs.RowsFit.{first_fits, fits_next, place_fits, sum_fits}
 use Rattle.sweep_steps.proofs.laws.rows_stay_in_the_heap.Goals as goal
 
 pub returns : goal.returns

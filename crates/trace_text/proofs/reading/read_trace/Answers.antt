@@ -1,7 +1,7 @@
 use Rattle.std.proofs.Common.{◌≡◌, ◌+◌, ◌≤◌, List, ℕ, length, arith, subst, Err}
 use Rattle.trace_text.specs.Jobs.{input_limit}
 use Rattle.trace_text.specs.declared.trace_faults.TraceFault.TheVariants.{TooLong}
-use Rattle.trace_text.proofs.Ends.{Answers, Known, bounded, known, known_long, stops, stops_early}
+use Rattle.trace_text.proofs.ReadResults.{Answers, Known, bounded, known, known_long, stops, stops_early}
 use Rattle.trace_text.proofs.reading.read_trace.Given.{Over}
 use Rattle.trace_text.proofs.reading.read_trace.Goals as goal
 

@@ -1,6 +1,6 @@
 use Rattle.std.proofs.Common.{arith}
 use Rattle.control_heap.specs.Controls.{ControlOf}
-use Rattle.control_heap.proofs.Left.{thread_fits, left_now}
+use Rattle.control_heap.proofs.LifeLeft.{thread_fits, left_now}
 use Rattle.control_heap.proofs.control.ControlHeap.has_left.Goals as goal
 
 pub owes-requires : goal.owes-requires

@@ -1,6 +1,6 @@
 use Rattle.std.proofs.Common.{eq-eqb}
 use Rattle.control_heap.specs.Controls.{ControlOf}
-use Rattle.control_heap.proofs.Left.{made_fits}
+use Rattle.control_heap.proofs.LifeLeft.{made_fits}
 use Rattle.control_heap.proofs.control.ControlHeap.has_units.Goals as goal
 
 pub returns-then-owed-eq0 : goal.returns-then-owed-eq0

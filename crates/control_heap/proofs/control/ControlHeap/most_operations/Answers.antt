@@ -1,6 +1,6 @@
 use Rattle.control_heap.specs.Controls.{ControlOf}
 use Rattle.control_heap.proofs.GaugesRead.{near_told, other_told}
-use Rattle.control_heap.proofs.Left.{thread_fits}
+use Rattle.control_heap.proofs.LifeLeft.{thread_fits}
 use Rattle.control_heap.proofs.control.ControlHeap.most_operations.Goals as goal
 
 pub owes-units-requires : goal.owes-units-requires

@@ -5,7 +5,7 @@ use Rattle.never_heap.specs.declared.Entry.{Entry}
 use Rattle.never_heap.specs.declared.Reply.TheVariants as replies
 use Rattle.never_heap.specs.Bounds.{IsCommandInBounds}
 use Rattle.heap_machine.specs.Memories.{Acts}
-use Rattle.heap_system.specs.Courses.{Ran}
+use Rattle.heap_system.specs.ThreadMemories.{Ran}
 use Rattle.heap_system.specs.Locals.{LocalState, begun}
 use Rattle.heap_system.specs.Machines.{Run}
 use Rattle.never_heap.specs.declared.Reply.{Reply}

@@ -6,8 +6,8 @@ use Rattle.heap_system.proofs.local.Local.at_gate.Goals as goal
 
 pub invariant_of-self-else-is_last : goal.invariant_of-self-else-is_last
 invariant_of-self-else-is_last g c = (
-  subst (λ p. IsLocal (record (view_of c.self.inside) { part = p })) (sym (turn_to c.self.inside c.turns_over-step.new.gate c.in-TurnOver.is))
-      (turned_on (view_of c.self.inside) c.self.inside.gate c.turns_over-step.new.gate c.turns_over-step.ensures.acted.0 c.new-places.result c.self.invariant.0 (subst (λ (l : LocalState). PartReads l.config l.part c.turns_over-step.ensures.acted.0) (sym c.self.view_is) (c.requires.reads c.turns_over-step.ensures.acted.0 c.turns_over-step.new.memory (search rules)).0) (turn_to c.self.inside c.self.inside.gate c.in-TurnOver.is) c.new-places.ensures c.turns_over-step.ensures.acted.2.0 c.turns_over-step.ensures.places),
+  subst (λ p. IsLocal (record (view_of c.self.inside) { part = p })) (sym (turn_to c.self.inside c.turns_over-step.new.gate c.in-PhaseChange.is))
+      (turned_on (view_of c.self.inside) c.self.inside.gate c.turns_over-step.new.gate c.turns_over-step.ensures.acted.0 c.new-places.result c.self.invariant.0 (subst (λ (l : LocalState). PartReads l.config l.part c.turns_over-step.ensures.acted.0) (sym c.self.view_is) (c.requires.reads c.turns_over-step.ensures.acted.0 c.turns_over-step.new.memory (search rules)).0) (turn_to c.self.inside c.self.inside.gate c.in-PhaseChange.is) c.new-places.ensures c.turns_over-step.ensures.acted.2.0 c.turns_over-step.ensures.places),
   c.self.invariant.1,
   c.self.invariant.2,
   c.self.invariant.3,

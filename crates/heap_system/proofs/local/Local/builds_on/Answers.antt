@@ -1,5 +1,5 @@
 use Rattle.std.proofs.Common.{[], refl, sym, ◌∙◌, arith}
-use Rattle.heap_system.specs.Courses.{longest}
+use Rattle.heap_system.specs.ThreadMemories.{longest}
 use Rattle.heap_system.proofs.Runs.{building_going, leads_at, more_ends, more_goes, none_made}
 use Rattle.heap_system.proofs.local.Local.builds_on.Goals as goal
 

@@ -1,6 +1,6 @@
 use Rattle.std.proofs.Common.{◌≡◌, ◌-◌, length, true}
 use Rattle.heap_system.specs.declared.Turn.TheVariants.{Went}
-use Rattle.heap_system.specs.Courses.{HasRun, MayRun, longest}
+use Rattle.heap_system.specs.ThreadMemories.{HasRun, MayRun, longest}
 use Rattle.heap_system.specs.Locals.{is_build}
 use Rattle.heap_system.proofs.local.Local.builds_on.Given as goal
 

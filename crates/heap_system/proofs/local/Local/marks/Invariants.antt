@@ -1,7 +1,7 @@
 use Rattle.std.proofs.Common.{◌≡◌, ◌-◌, length}
 use Rattle.heap_system.specs.declared.local.Local.TheInside.{Inside}
 use Rattle.heap_system.specs.declared.rows.Row.TheVariants as rows
-use Rattle.heap_system.specs.Courses.{MayRun}
+use Rattle.heap_system.specs.ThreadMemories.{MayRun}
 use Rattle.heap_system.proofs.OwedAndPaid.{view_of}
 use Rattle.heap_system.proofs.Runs.{Goes}
 use Rattle.heap_system.proofs.local.Local.marks.Given as goal

@@ -1,6 +1,6 @@
 use Rattle.std.proofs.Common.{◌≡◌, ◌-◌, length, true}
 use Rattle.heap_system.specs.declared.Turn.TheVariants.{Went}
-use Rattle.heap_system.specs.Courses.{HasRun, MayRun, longest}
+use Rattle.heap_system.specs.ThreadMemories.{HasRun, MayRun, longest}
 use Rattle.heap_system.specs.Locals.{is_serving}
 use Rattle.heap_system.proofs.local.Local.serves_on.Given as goal
 

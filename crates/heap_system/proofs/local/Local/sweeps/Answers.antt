@@ -5,7 +5,7 @@ use Rattle.heap_system.specs.declared.local.Local.TheInside.{Inside}
 use Rattle.heap_system.specs.declared.rows.Row.TheVariants as rows
 use Rattle.heap_system.specs.declared.Turn.TheVariants.{Went}
 use Rattle.heap_system.specs.Parts.{Sweep}
-use Rattle.heap_system.specs.Courses.{HasRunIn, MayRun}
+use Rattle.heap_system.specs.ThreadMemories.{HasRunIn, MayRun}
 use Rattle.heap_system.specs.Locals.{is_last}
 use Rattle.heap_system.proofs.OwedAndPaid.{part_of, view_of}
 use Rattle.heap_system.proofs.UnitMade.{units_few, spent_few, unit_owed, over_part, units_read, swept_owes}

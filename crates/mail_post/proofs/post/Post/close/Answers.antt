@@ -2,9 +2,9 @@ use Rattle.std.proofs.Common.{sym, subst, IsSome, List, ℕ, length}
 use Rattle.mail_post.specs.declared.views.View.{View}
 use Rattle.mail_post.specs.Rule.{gathered_in}
 use Rattle.mail_post.specs.Rows.{rows_of}
-use Rattle.mail_post.specs.Ends.{TakerState, IsTakenState, all_sent}
+use Rattle.mail_post.specs.PostStates.{TakerState, IsTakenState, all_sent}
 use Rattle.crossbeam_queue.specs.Passes.{view}
-use Rattle.mail_post.proofs.Facts.{delivered}
+use Rattle.mail_post.proofs.EndFacts.{delivered}
 use Rattle.mail_post.proofs.post.Post.close.Goals as goal
 
 pub invariant_of-result : goal.invariant_of-result

@@ -2,9 +2,9 @@ use Rattle.std.proofs.Common.{◌≡◌, ◌++◌, sym, subst, ap, ◌∙◌, Li
 use Rattle.mail_post.specs.declared.views.Whole.{Whole}
 use Rattle.mail_post.specs.Rule.{gathered_in}
 use Rattle.mail_post.specs.Rows.{rows_of}
-use Rattle.mail_post.specs.Ends.{TakerState, AreAll, all_sent, known_sent, whole_of}
+use Rattle.mail_post.specs.PostStates.{TakerState, AreAll, all_sent, known_sent, whole_of}
 use Rattle.crossbeam_queue.specs.Passes.{view}
-use Rattle.mail_post.proofs.Facts.{gathered_all, known_all, some_known}
+use Rattle.mail_post.proofs.EndFacts.{gathered_all, known_all, some_known}
 use Rattle.mail_post.proofs.post.Post.gather.Given.{Over}
 use Rattle.mail_post.proofs.post.Post.gather.Goals as goal
 

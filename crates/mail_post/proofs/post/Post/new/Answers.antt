@@ -3,7 +3,7 @@ use Rattle.crossbeam_queue.specs.Passes.{view}
 use Rattle.mail_post.specs.Rule.{sent_in}
 use Rattle.mail_post.specs.Rows.{rows_of}
 use Rattle.mail_post.proofs.Moves.{begins}
-use Rattle.mail_post.proofs.Facts.{fresh, ends_more, rows_more}
+use Rattle.mail_post.proofs.EndFacts.{fresh, ends_more, rows_more}
 use Rattle.mail_post.proofs.post.Post.new.Goals as goal
 
 pub ruled-requires-clause-rule : goal.ruled-requires-clause-rule

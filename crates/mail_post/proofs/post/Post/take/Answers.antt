@@ -1,8 +1,8 @@
 use Rattle.std.proofs.Common.{◌≡◌, sym, subst, ap, ◌∙◌, List, ℕ, IfSome}
 use Rattle.mail_post.specs.Rows.{rows_of, took}
-use Rattle.mail_post.specs.Ends.{TakerState, IsTaker}
+use Rattle.mail_post.specs.PostStates.{TakerState, IsTaker}
 use Rattle.crossbeam_queue.specs.Passes.{view}
-use Rattle.mail_post.proofs.Facts.{took_more, all_taken}
+use Rattle.mail_post.proofs.EndFacts.{took_more, all_taken}
 use Rattle.mail_post.proofs.post.Post.take.Goals as goal
 
 pub returns-in_default-clause-none : goal.returns-in_default-clause-none

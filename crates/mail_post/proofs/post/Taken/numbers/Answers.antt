@@ -1,5 +1,5 @@
 use Rattle.std.proofs.Common.{[], slice_index_or, subst, length, ◌<◌}
-use Rattle.mail_post.specs.Ends.{TakenState, Begins}
+use Rattle.mail_post.specs.PostStates.{TakenState, Begins}
 use Rattle.mail_post.proofs.post.Taken.numbers.Goals as goal
 
 pub returns-clause-front : goal.returns-clause-front

@@ -1,7 +1,0 @@
-use Rattle.asked_graph.proofs.GraphAnswers.{starts_small}
-use Rattle.asked_graph.proofs.shown_heaps_met_no_full.Goals as goal
-
-pub returns : goal.returns
-returns c h g s =
-    c.histories_are_right.ensures.never h s.shows.run s.shows.stands
-    (starts_small h.config s.shows.run.order s.small)

@@ -1,0 +1,9 @@
+pub mod Layouts
+pub mod Words
+pub mod Shown
+pub mod Made
+pub mod Snapshots
+pub mod Read
+pub mod InitialHeaps
+pub mod Events
+pub mod Example

@@ -1,0 +1,73 @@
+-- A command that owes nothing, done from the look at the gate to the way out while its row is in
+-- hand: the thread as it is at each row.
+use Rattle.std.specs.Prelude.{ℕ, ◌<◌, ◌≤◌, ◌≡◌, Option, Some, None, length}
+use Rattle.never_heap.specs.declared.Command.{Command}
+use Rattle.never_heap.specs.declared.Reply.{Reply}
+use Rattle.never_heap.specs.RightWork.{units_told}
+use Rattle.never_heap.specs.Steps.{blocks_of}
+use Rattle.block_store.specs.declared.Width.{Width}
+use Rattle.barrier_steps.specs.declared.rows.FieldRow.{FieldRow}
+use Rattle.barrier_steps.specs.Rows.{field_reply, first_row}
+use Rattle.heap_machine.specs.Memories.{Acts}
+use Rattle.heap_machine.specs.Passes.{IsPass}
+use Rattle.heap_machine.specs.declared.pass.Pass.{Pass}
+use Rattle.heap_machine.specs.declared.gate.GateRow.{GateRow}
+use Rattle.work_account.specs.Accounts.{entered}
+use Rattle.heap_system.specs.declared.Turn.{Turn}
+use Rattle.heap_system.specs.ThreadMemories.{HasRun}
+use Rattle.heap_system.specs.Locals.{LocalState, answered, command_of, errand_of, first_part, owed}
+use Rattle.heap_system.specs.Parts.{Rest, Enter, Serve}
+
+-- the thread that has seen this phase word, and goes in
+abbrev pub entering_by : LocalState → ℕ → LocalState
+entering_by l seen = record l { part = Enter (GateRow.Enter seen) }
+
+-- the thread inside, in this pass, at its first row
+abbrev pub inside_by : LocalState → Pass → LocalState
+inside_by l p = record l {
+  balance = entered p.cycle l.balance;
+  pass = p;
+  part = first_part l.config p (errand_of l);
+}
+
+-- at this row of its command
+abbrev pub serving_at : LocalState → Pass → FieldRow → LocalState
+serving_at l p r = record l {
+  balance = entered p.cycle l.balance;
+  pass = p;
+  part = Serve (record { pass = p; command = command_of l; row = r });
+}
+
+-- or on its way out, where that row has the reply
+abbrev pub if_answered : Option Reply → LocalState → LocalState
+if_answered None l = l
+if_answered (Some r) l = answered l r
+
+abbrev pub come_to : LocalState → Pass → FieldRow → LocalState
+come_to l p r = if_answered (field_reply r) (serving_at l p r)
+
+-- a command makes no object and no units, and this is its first row
+pub record OwesNothing (k : Command) (r : FieldRow) : Type 0 where
+  pub first : r ≡ first_row k
+  pub told : units_told k ≡ 0
+  pub blocks : (w : Width) → blocks_of w k ≡ 0
+  pub unsaid : field_reply r ≡ None
+
+-- A thread at rest has a command, and goes in by this pass to do it: all is made that the command
+-- owes, which takes no blocks.
+pub record GoesIn (l : LocalState) (p : Pass) (k : Command) : Type 0 where
+  pub rest : l.part ≡ Rest
+  pub low : length l.log < length l.trace
+  pub pass : IsPass p
+  pub thread : p.thread ≡ l.thread
+  pub threads : p.threads ≡ l.config.threads
+  pub later : l.balance.cycle ≤ p.cycle
+  pub command : k ≡ command_of l
+  pub paid : l.spent ≡ owed l
+  pub blocks : blocks_of l.config.width k ≡ 0
+
+-- a thread has made events, at most so many and perhaps none
+abbrev pub HasRunUpTo : {M S : Type 0} → ℕ → Acts M S → S → M → LocalState → M → LocalState → Turn
+    → Type 0
+HasRunUpTo most acts s before old after new turn =
+    (run : HasRun acts s before old after new turn) × (length run.words ≤ most)

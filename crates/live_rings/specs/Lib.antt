@@ -1,0 +1,4 @@
+pub mod Decoding
+pub mod Live
+pub mod SoFar
+pub mod Texts

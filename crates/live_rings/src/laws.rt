@@ -1,0 +1,48 @@
+//! Laws of rings that no single call can state. Each is the contract of a function that does
+//! nothing.
+
+ghost use Rattle.std.specs.Prelude.{List};
+ghost use Rattle.atomic_table.specs.Table as table;
+ghost use Rattle.never_heap.specs.declared.Command.{Command};
+ghost use Rattle.heap_system.specs.Systems.{Whole};
+ghost use Rattle.shared_heap.specs.declared.rules.View.{View};
+ghost use Rattle.shared_heap.specs.Shared.{SharedKept};
+ghost use Rattle.number_rings.specs.Rings.{Operation};
+ghost use Rattle.live_rows.specs.Orders.{StandBehindWhatWasSeen};
+ghost use Rattle.live_rows.specs.SoFar.{WorkAllAlong};
+ghost use Rattle.live_rings.specs.Live.{IsRingHeap, rings};
+ghost use Rattle.live_rings.specs.SoFar.{AllSeats, Execute, FitsOneArray, IsBetween, IsWorking};
+
+/// In the order of closed rings, an operation comes after all operations that a worker had done, if
+/// what that worker had seen is a prefix of the history at which it began (`did.start`). That is so
+/// for its own worker, and for each worker whose note it had learned.
+pub fn operations_stand_behind_what_was_seen()
+    ensures { StandBehindWhatWasSeen rings }
+{}
+
+/// Suppose that the rule of the heap's table holds, as it does between any two steps of any
+/// threads. Then what was answered so far is a plain array's: all operations that have taken effect
+/// have one order, which keeps each thread's own, and in which each was answered as by a plain
+/// array of places. A worker between two operations has exactly the operations that it did there,
+/// with the answers that it got. The order is that of the history of the rule's run.
+///
+/// Here all workers are between two operations (`between`); or each is between two or in the middle
+/// of one (`anytime`), as `workers_are_at_work_all_along` says of each operation; or the threads
+/// execute the operations of some scripts (`meanwhile`).
+pub fn what_was_answered_is_the_arrays()
+    ensures between { (k : Whole) (s : table.State Command View) (kept : SharedKept k s)
+        → AllSeats IsBetween s → IsRingHeap k.config
+        → (scripts : List (List Operation)) × FitsOneArray k.config s scripts kept.run.order }
+    ensures anytime { (k : Whole) (s : table.State Command View) (kept : SharedKept k s)
+        → AllSeats IsWorking s → IsRingHeap k.config
+        → (scripts : List (List Operation)) × FitsOneArray k.config s scripts kept.run.order }
+    ensures meanwhile { (k : Whole) (s : table.State Command View) (kept : SharedKept k s)
+        → IsRingHeap k.config → (scripts : List (List Operation)) → Execute k.config s scripts
+        → FitsOneArray k.config s scripts kept.run.order }
+{}
+
+/// At each moment of an operation its worker's thread is in the middle of it, or between two of them:
+/// before the first command, after each event that the worker's code makes, and after the last.
+pub fn workers_are_at_work_all_along()
+    ensures { WorkAllAlong rings }
+{}

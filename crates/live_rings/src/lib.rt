@@ -1,0 +1,20 @@
+//! Rings of numbers that several threads of a program share while they run.
+#![tactic(auto)]
+
+mod commands;
+#[cfg(test)]
+mod drawn_tests;
+mod faults;
+mod laws;
+mod note;
+mod request;
+mod rings;
+#[cfg(test)]
+mod tests;
+mod worker;
+
+pub use faults::{OpenFault, Refused};
+pub use laws::{operations_stand_behind_what_was_seen, what_was_answered_is_the_arrays};
+pub use note::RingNote;
+pub use rings::LiveRings;
+pub use worker::RingWorker;

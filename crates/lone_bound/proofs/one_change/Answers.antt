@@ -1,5 +1,0 @@
-use Rattle.lone_bound.proofs.Fresh.{fresh}
-use Rattle.lone_bound.proofs.one_change.Goals as goal
-
-pub returns-clause-goes_on : goal.returns-clause-goes_on
-returns-clause-goes_on c = λ e s z h f. fresh e s.spot s z h f

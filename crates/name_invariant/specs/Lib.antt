@@ -1,0 +1,9 @@
+pub mod Colouring
+pub mod Building
+pub mod States
+pub mod Events
+pub mod Kept
+pub mod InitialHeaps
+pub mod Reached
+pub mod Example
+pub mod Pictures

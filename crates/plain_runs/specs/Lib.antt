@@ -1,3 +1,0 @@
-pub mod Happenings
-pub mod Ranges
-pub mod Making

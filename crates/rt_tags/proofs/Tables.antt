@@ -1,0 +1,78 @@
+-- A script of tags is run as the job of its commands, and its logs tell what its table answers.
+use Rattle.std.proofs.Common.{◌≡◌, ℕ, ◌+◌, List, [], ◌∷◌, refl, sym, ap, ◌∙◌, subst, arith}
+use Rattle.atom_board.specs.Mutators.{ClosedState}
+use Rattle.exit_statuses.specs.Exits.{IsWritten}
+use Rattle.exit_statuses.specs.Sides.{Sides}
+use Rattle.never_heap.specs.declared.Command.{Command}
+use Rattle.never_heap.specs.Jobs.{IsJobInBounds}
+use Rattle.operations.specs.Linearizations.{Call, traces_of}
+use Rattle.tag_table.specs.declared.operation.Operation.{Operation}
+use Rattle.tag_table.specs.Tables.{Tag, rows_of, command_at}
+use Rattle.tag_table.proofs.Jobs.{jobs_fit}
+use Rattle.tag_table.proofs.TableApplication.{tables_are_kept}
+use Rattle.threaded_runs.specs.EndedRuns.{job_of}
+use Rattle.threaded_runs.proofs.OfJob.{run_of, parts_of}
+use Rattle.trace_text.specs.Reading.{tokenized}
+use Rattle.array_scripts.specs.Answers.{each_from}
+use Rattle.array_scripts.specs.Runnable.{IsRunnable}
+use Rattle.array_scripts.specs.Tellings.{lines_from}
+use Rattle.array_scripts.proofs.AnswersInOrder.{in_order}
+use Rattle.array_scripts.proofs.ScriptSizes.{count}
+use Rattle.script_runs.specs.Runs.{IsAnswered}
+use Rattle.rt_tags.specs.Calls.{Headline}
+use Rattle.rt_tags.specs.Lines.{tag_kind}
+use Rattle.rt_tags.specs.Scripts.{commands, job_of_script}
+use Rattle.rt_tags.specs.Tellings.{tag_text, told}
+use Rattle.rt_tags.proofs.LineLaws.{tag_reads}
+use Rattle.rt_tags.proofs.TagScripts.{places, in_range}
+
+same_traces : (t : ℕ) (scripts : List (List Operation))
+    → each_from commands t scripts ≡ traces_of rows_of command_at scripts
+same_traces t [] = refl
+same_traces t (ops ∷ scripts) =
+    ap (λ (l : List (List Command)). commands t ops ∷ l) (same_traces (t + 1) scripts)
+
+pub tag_runs : IsRunnable tag_kind commands
+tag_runs = record {
+  reads = tag_reads;
+  fits = λ lines h scripts is.
+      subst (λ (l : List (List Command)). IsJobInBounds (tag_kind.config_of h) l)
+      (sym (same_traces 0 scripts))
+      (jobs_fit h.threads h.places h.blocks scripts is.header.some_thread is.header.threads
+      is.header.places is.header.some_block is.header.blocks (count tag_kind h lines scripts is)
+      (in_range lines h scripts is));
+  opens = λ h. omega arith;
+  blocks = λ h. refl;
+  rounds = λ h. omega arith;
+}
+
+pub headline : (source sink : Sides) (status : ℕ) (run : ClosedState)
+    → IsAnswered tag_kind commands told tag_text source sink status run
+    → Headline source sink status run
+headline source sink status run a =
+    let s = a.script in
+    let h = s.header in
+    let job : job_of run ≡ job_of_script h s.scripts =
+    s.job ∙ ap (λ (l : List (List Command)). record { config = tag_kind.config_of h; traces = l })
+    (same_traces 0 s.scripts) in
+    let size = count tag_kind h (tokenized s.read.text) s.scripts s.read.script in
+    let kept = tables_are_kept h.threads h.places h.blocks s.ran.rate s.scripts s.ran.history size
+    (places (tokenized s.read.text) h s.scripts s.read.script)
+    (run_of run (job_of_script h s.scripts) job s.ran) in
+    record {
+      table = record {
+        header = h;
+        scripts = s.scripts;
+        read = s.read;
+        room = s.room;
+        job = job;
+        ran = s.ran;
+        order = kept.0;
+        linear = kept.1;
+        none_full = kept.3;
+      };
+      text = subst (λ (l : List (List Tag)). IsWritten sink status (lines_from tag_text 0 l))
+          (in_order (λ (c : Call Operation Tag). c.answer) kept.0 told h.threads s.ran.history
+          s.scripts run.logs size (parts_of run (job_of_script h s.scripts) job s.ran) kept.2)
+          a.lines;
+    }

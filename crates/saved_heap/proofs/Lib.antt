@@ -1,0 +1,5 @@
+pub mod Walking
+pub mod Pictured
+pub mod Copied
+pub mod Followed
+pub mod Loaded

@@ -1,0 +1,104 @@
+-- When each fault comes, and the printed texts.
+use Rattle.std.specs.Prelude.{ℕ, ◌<◌, ◌≡◌, ◌⊎◌, false, List, length, slice_index_or, take, codes, Ok, Err}
+use Rattle.std.specs.List.{AllByRecursion}
+use Rattle.block_store.specs.declared.Config.{Config}
+use Rattle.never_heap.specs.declared.Command.{Command}
+use Rattle.never_heap.specs.declared.Reply.TheVariants.{Full as FullReply}
+use Rattle.never_heap.specs.Bounds.{IsCommandInBounds}
+use Rattle.never_heap.specs.Graphs.{Graph}
+use Rattle.heap_pictures.specs.Faults.{save_fault_text}
+use Rattle.heap_pictures.specs.Pictures.{Content, is_sound}
+use Rattle.heap_pictures.specs.Plans.{plan_of}
+use Rattle.heap_pictures.specs.Reading.{picture_at}
+use Rattle.control_heap.specs.Calls.{refused_text}
+use Rattle.control_heap.specs.Controls.{Control, HasAnswered}
+use Rattle.control_heap.specs.Refusals.{IsOpenFault, IsRefused, open_fault_text}
+use Rattle.graph_view.specs.Asked.{HasDone}
+use Rattle.graph_view.specs.Shown.{Leaves}
+use Rattle.saved_heap.specs.declared.faults.CopyFault.{CopyFault}
+use Rattle.saved_heap.specs.declared.faults.CopyFault.TheVariants as copy_faults
+use Rattle.saved_heap.specs.declared.faults.LoadFault.{LoadFault}
+use Rattle.saved_heap.specs.declared.faults.LoadFault.TheVariants as load_faults
+use Rattle.saved_heap.specs.declared.faults.RenewFault.{RenewFault}
+use Rattle.saved_heap.specs.declared.faults.RenewFault.TheVariants as renew_faults
+use Rattle.saved_heap.specs.Orders.{IsInOrder}
+use Rattle.saved_heap.specs.Renewals.{HasBuilt, IsOpened, IsPictureOf}
+
+-- A command was answered `Full`, and the heap has the graph from before; or it was refused, and the
+-- heap is unchanged.
+abbrev pub IsCopyFault : Control → Command → Control → CopyFault → Type 0
+IsCopyFault old k new (copy_faults.Full c) =
+    HasDone old k new × HasAnswered old k (FullReply c) new
+    × ((g : Graph) → Leaves old g → Leaves new g)
+IsCopyFault old k new (copy_faults.Refused r) = IsRefused old k r × (new ≡ old)
+
+-- A heap did the first n of these commands and no other, none of them answered `Full`. The next
+-- command is the cause, and the heap is now new.
+pub record StopsAt (old : Control) (ks : List Command) (n : ℕ) (new : Control) (f : CopyFault)
+    : Type 0 where
+  pub low : n < length ks
+  pub last : Control
+  pub built : HasBuilt old (take n ks) last
+  pub fault : (d : Command) → IsCopyFault last (slice_index_or ks n d) new f
+
+abbrev pub AreAllowed : Config → List Command → Type 0
+AreAllowed c ks = AllByRecursion (IsCommandInBounds c) ks
+
+-- There are more objects than the longest array has elements, or a command is out of bounds on this
+-- heap: an object, or the table of all, is larger than one may be.
+abbrev pub IsTooLarge : Config → Content → Type 0
+IsTooLarge c p =
+    (65534 < length p.objects) ⊎ (is_sound p ≡ false) ⊎ (AreAllowed c (plan_of p) → ⊥)
+
+-- why a copy cannot begin; of memory nothing is said
+abbrev pub IsRenewFault : Config → Content → RenewFault → Type 0
+IsRenewFault c p renew_faults.NoMemory = Unit {0}
+IsRenewFault c p (renew_faults.Open f) = IsOpenFault c f
+IsRenewFault c p renew_faults.DoesNotFit = IsTooLarge c p
+IsRenewFault c p (renew_faults.Copy f) = ⊥
+
+-- A heap of this configuration allows each of these commands. It was opened and did them, up to one
+-- that stopped it.
+pub record StopsBuilding (c : Config) (ks : List Command) (f : CopyFault) : Type 0 where
+  pub allowed : AreAllowed c ks
+  pub first : Control
+  pub opened : IsOpened c first
+  pub done : ℕ
+  pub new : Control
+  pub stops : StopsAt first ks done new f
+
+-- why this picture cannot be built: the same, or one of its commands stopped
+abbrev pub CannotBuild : Config → Content → RenewFault → Type 0
+CannotBuild c p (renew_faults.Copy f) = StopsBuilding c (plan_of p) f
+CannotBuild c p f = IsRenewFault c p f
+
+-- why a heap cannot be renewed: its picture, which has no other objects, cannot be built
+abbrev pub CannotRenew : Control → Config → RenewFault → Type 0
+CannotRenew from c renew_faults.NoMemory = Unit {0}
+CannotRenew from c f = (p : Content) × IsPictureOf from p × IsInOrder p × CannotBuild c p f
+
+-- why bytes cannot be loaded
+abbrev pub IsLoadFault : List ℕ → Config → LoadFault → Type 0
+IsLoadFault bytes c (load_faults.Bytes f) = picture_at bytes ≡ Err f
+IsLoadFault bytes c (load_faults.Build renew_faults.NoMemory) = Unit {0}
+IsLoadFault bytes c (load_faults.Build f) =
+    (p : Content) × (picture_at bytes ≡ Ok p) × CannotBuild c p f
+
+abbrev pub copy_fault_text : CopyFault → List ℕ
+copy_fault_text (copy_faults.Full c) =
+    codes "full: more blocks were live than the limit; raise the limit"
+copy_fault_text (copy_faults.Refused r) = refused_text r
+
+abbrev pub behind_text : List ℕ
+behind_text = codes "no room to note a command; make room and note it, or begin again"
+
+abbrev pub renew_fault_text : RenewFault → List ℕ
+renew_fault_text renew_faults.NoMemory = codes "memory ran out; free memory"
+renew_fault_text (renew_faults.Open f) = open_fault_text f
+renew_fault_text renew_faults.DoesNotFit =
+    codes "an object, or the table of all, is too large; raise `object` (at most 1024)"
+renew_fault_text (renew_faults.Copy f) = copy_fault_text f
+
+abbrev pub load_fault_text : LoadFault → List ℕ
+load_fault_text (load_faults.Bytes f) = save_fault_text f
+load_fault_text (load_faults.Build f) = renew_fault_text f

@@ -1,0 +1,5 @@
+pub mod Orders
+pub mod Walks
+pub mod Renewals
+pub mod Follows
+pub mod Faults

@@ -1,0 +1,62 @@
+//! Heaps as bytes.
+
+ghost use Rattle.std.specs.Prelude.{◌≡◌, ◌^◌, ◌<◌, Ok, true, length, IfOk, IfErr};
+ghost use Rattle.heap_pictures.specs.Pictures.{Content, graph_of, is_sound};
+ghost use Rattle.heap_pictures.specs.Plans.{plan_of};
+ghost use Rattle.heap_pictures.specs.Spelling.{saved};
+ghost use Rattle.heap_pictures.specs.Reading.{picture_at};
+ghost use Rattle.control_heap.specs.Controls.{Control};
+ghost use Rattle.saved_heap.specs.Faults.{IsLoadFault};
+ghost use Rattle.saved_heap.specs.Orders.{IsInOrder};
+ghost use Rattle.saved_heap.specs.Renewals.{IsBuilt, IsPictureOf, ShowOneGraph, ShowsUpToNames};
+
+use crate::{LoadFault, RenewFault, build, picture_of};
+use block_store::{Config, OutOfMemory};
+use control_heap::ControlHeap;
+use heap_pictures::{ReadError, decode, encode, names_follow_one_another};
+use std::alloc::Global;
+
+/// What the registers of a heap reach, as bytes: those of its picture.
+///
+/// # Errors
+///
+/// `OutOfMemory` where there is no memory for them.
+pub fn save(alloc: Global, heap: &ControlHeap) -> Result<Vec<u8>, OutOfMemory>
+    ensures saved { IfOk result (λ v.
+        (p : Content) × (v.items ≡ saved p) × IsPictureOf heap.now p × IsInOrder p) }
+    ensures short { IfOk result (λ v. length v.items < 2 ^ 64) }
+{
+    let picture = picture_of(alloc, heap)?;
+    Ok(encode(alloc, &picture)?)
+}
+
+/// Opens a heap that shows what was saved, up to names: the graph of the heap that `save` was given
+/// (`again`). What `save` wrote has no fault (`intact`).
+///
+/// # Errors
+///
+/// `Bytes` with the first fault of the bytes; or, as for `build`, why what they show cannot be
+/// built.
+pub fn load(alloc: Global, bytes: &[u8], c: Config) -> Result<ControlHeap, LoadFault>
+    ensures config { IfOk result (λ h. h.config ≡ c) }
+    ensures shown { IfOk result (λ h.
+        (p : Content) × (picture_at bytes.now ≡ Ok p) × ShowsUpToNames h (graph_of p)) }
+    ensures built { IfOk result (λ h.
+        (p : Content) × (picture_at bytes.now ≡ Ok p) × IsBuilt c (plan_of p) h) }
+    ensures again { (from : Control) (p : Content) → IsPictureOf from p → length (saved p) < 2 ^ 64
+        → bytes.now ≡ saved p → IfOk result (ShowOneGraph from) }
+    ensures intact { (p : Content) → is_sound p ≡ true → length (saved p) < 2 ^ 64
+        → bytes.now ≡ saved p → picture_at bytes.now ≡ Ok p }
+    ensures refused { IfErr result (IsLoadFault bytes.now c) }
+{
+    names_follow_one_another();
+    let picture = match decode(alloc, bytes) {
+        Ok(picture) => picture,
+        Err(ReadError::Memory) => return Err(LoadFault::Build(RenewFault::NoMemory)),
+        Err(ReadError::Fault(fault)) => return Err(LoadFault::Bytes(fault)),
+    };
+    match build(alloc, &picture, c) {
+        Ok(heap) => Ok(heap),
+        Err(fault) => Err(LoadFault::Build(fault)),
+    }
+}

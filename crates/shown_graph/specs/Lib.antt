@@ -1,9 +1,0 @@
-pub mod Layouts
-pub mod Words
-pub mod Shown
-pub mod Made
-pub mod Snapshots
-pub mod Read
-pub mod Openings
-pub mod Events
-pub mod Example

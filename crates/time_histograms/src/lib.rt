@@ -1,0 +1,10 @@
+//! Counts of times: percentiles, and how many lie between powers of two.
+#![tactic(auto)]
+
+mod bars;
+mod counting;
+#[cfg(test)]
+mod tests;
+
+pub use bars::{Bar, CLASSES, bucket_of, fullest, power};
+pub use counting::{Times, count_below};
