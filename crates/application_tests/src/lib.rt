@@ -12,6 +12,8 @@ mod handle_deeds;
 #[cfg(test)]
 mod handle_scripts;
 #[cfg(test)]
+mod plant;
+#[cfg(test)]
 mod refused;
 #[cfg(test)]
 mod replaying;

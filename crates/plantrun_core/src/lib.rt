@@ -15,12 +15,10 @@ mod readings;
 mod roles;
 mod stops;
 mod telling;
-#[cfg(test)]
-mod tests;
 mod top;
 mod work;
 
-pub use alarms::{Limits, Move, move_of};
+pub use alarms::{Limits, Move, limits_of, move_of};
 pub use calls::{Done, Logs, Step};
 pub use law::{Loop, output_of};
 pub use plans::{Plan, plan_of};

@@ -1,5 +1,5 @@
 use Rattle.std.proofs.Common.{◌≤◌}
-use Rattle.plantrun_core.proofs.tests.the_output_is_clamped_and_does_not_wind_up.Given as goal
+use Rattle.application_tests.proofs.plant.the_output_is_clamped_and_does_not_wind_up.Given as goal
 
 abbrev pub invariant-loop-output : goal.invariant-loop-output
 invariant-loop-output g l = l.state.integral ≤ 16384000
