@@ -310,7 +310,7 @@ fn turn_to(kept: Result<(), Fault>) -> Next {
 }
 
 // An array of two in register 3, the second element of which is exchanged.
-fn tells_replies(rt: &impl Abort, heap: &mut ControlHeap) {
+fn check_replies(rt: &impl Abort, heap: &mut ControlHeap) {
     assert_eq!(rt;
         array(heap, 3, 2).map(|name| Value::Ref(name)),
         say(heap, 3)
@@ -334,7 +334,7 @@ fn tells_replies(rt: &impl Abort, heap: &mut ControlHeap) {
     assert_eq!(rt; (idle(heap, 100), nil(heap, 3)), (Ok(()), Ok(())));
 }
 
-fn tells_faults(rt: &impl Abort, heap: &mut ControlHeap) {
+fn check_faults(rt: &impl Abort, heap: &mut ControlHeap) {
     assert_eq!(rt; get(heap, 7, 3, 0), Err(Fault::Null));
     assert_eq!(rt; len(heap, 2), Err(Fault::Kind));
     assert_eq!(rt; put(heap, 4, 2, 2), Err(Fault::Range));
@@ -357,8 +357,8 @@ fn each_call_tells_its_reply(rt: HostRuntime) {
         assert_eq!(rt; turn_to(kept), Next::Reading, "reading {count}");
     }
     assert_eq!(rt; turn_to(put(&mut heap, 2, 0, 1)), Next::Stop);
-    tells_replies(&rt, &mut heap);
-    tells_faults(&rt, &mut heap);
+    check_replies(&rt, &mut heap);
+    check_faults(&rt, &mut heap);
 }
 
 #[test]
