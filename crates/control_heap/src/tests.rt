@@ -3,13 +3,7 @@
 ghost use Rattle.std.specs.Prelude.{◌≡◌, ◌<◌, ◌≤◌, ◌+◌, length, OnOk};
 ghost use Rattle.never_heap.specs.Graphs.{count_of};
 
-pub(crate) mod bare;
-
-use crate::{ControlHeap, Counted, Fault, OpenFault, Refused};
-use bare::{
-    array, ask, blocks_in_use, cas, cycle, free_blocks, get, idle, len, mov, nil, open, operations,
-    put, rate, record, same, say, set, swap,
-};
+use crate::{ControlHeap, Counted, Fault, OpenFault, Refused, operations_of};
 use block_store::{Config, Name, OutOfMemory, Value, Width};
 use heap_system::opening;
 use never_heap::{Command, Graph, Reply};
@@ -17,7 +11,6 @@ use rand_core::utils::NextWord;
 use rand_pcg::Lcg64Xsh32;
 use rate_plan::plan;
 use std::alloc::Global;
-use std::process::Abort;
 
 // How many random commands are made for each width.
 const REQUESTS: u32 = 10_000;
@@ -47,10 +40,6 @@ fn narrow(width: Width) -> Config {
         object: 3,
         shared: 5,
     }
-}
-
-fn opened(rt: &(impl Abort + AllocGlobal), c: Config) -> ControlHeap {
-    open(rt.alloc(), c).expect(rt, "it opens")
 }
 
 fn register(draws: &mut Lcg64Xsh32) -> u8 {
@@ -98,7 +87,7 @@ fn agrees_on(
     ensures thread { OnOk result (length graph.new.graph.mutators ≡ 1) }
     ensures count { OnOk result (count_of graph.new.graph 0 ≤ count_of graph.old.graph 0 + 1) }
 {
-    match ask(heap, command) {
+    match heap.ask(command) {
         Ok(Reply::Full(_)) => Ok(matches!(command, Command::New { .. } | Command::Arr { .. })),
         Ok(reply) => Ok(graph.apply(0, &command)? == reply),
         Err(refused) => Ok(refused == Refused::OutOfBounds && !command.in_bounds(heap.config())),
@@ -111,7 +100,7 @@ fn agrees(alloc: Global, width: Width, key: u64) -> Result<bool, OutOfMemory> {
     if !c.in_bounds() || c.threads != 1 {
         return Ok(false);
     }
-    let Ok(mut heap) = open(alloc, c) else {
+    let Ok(mut heap) = ControlHeap::open(alloc, c) else {
         return Ok(false);
     };
     let mut graph = Graph::start(alloc, &c)?;
@@ -140,11 +129,11 @@ const OBJECTS: u64 = 10_000_000;
 // The registers and the shared array take six blocks, and the rate is 7.
 #[test]
 fn a_heap_makes_ten_million_objects(rt: HostRuntime) {
-    let mut heap = opened(&rt, small(Width::Four));
+    let mut heap = ControlHeap::open(rt.alloc(), small(Width::Four)).expect(&rt, "it opens");
     let record = Command::New { d: 1, fields: 1 };
     for serial in 1..=OBJECTS {
         let new = Reply::New(Name { thread: 0, serial });
-        assert_eq!(rt; ask(&mut heap, record), Ok(new), "object {serial}");
+        assert_eq!(rt; heap.ask(record), Ok(new), "object {serial}");
     }
     assert_eq!(rt; heap.asked(), OBJECTS);
     assert_eq!(rt; heap.objects_left(), (1 << 43) - 1 - OBJECTS);
@@ -153,34 +142,31 @@ fn a_heap_makes_ten_million_objects(rt: HostRuntime) {
         thread: 0,
         serial: OBJECTS,
     });
-    assert_eq!(rt; ask(&mut heap, Command::Say { s: 1 }), Ok(Reply::Val(last)));
+    assert_eq!(rt; heap.ask(Command::Say { s: 1 }), Ok(Reply::Val(last)));
     assert_eq!(rt; heap.asked(), OBJECTS + 1);
 }
 
 #[test]
 fn each_object_takes_one_of_a_life(rt: HostRuntime) {
-    let mut heap = opened(&rt, small(Width::Four));
+    let mut heap = ControlHeap::open(rt.alloc(), small(Width::Four)).expect(&rt, "it opens");
     for made in 1..=100_u64 {
         let (record, array) = (
             Command::New { d: 1, fields: 1 },
             Command::Arr { d: 1, elements: 1 },
         );
         let command = if made % 2 == 0 { record } else { array };
-        assert!(rt; ask(&mut heap, command).is_ok(), "object {made}");
+        assert!(rt; heap.ask(command).is_ok(), "object {made}");
         assert_eq!(rt; heap.objects_left(), (1 << 43) - 1 - made);
-        assert!(rt;
-            ask(&mut heap, Command::Say { s: 1 }).is_ok(),
-            "object {made}"
-        );
+        assert!(rt; heap.ask(Command::Say { s: 1 }).is_ok(), "object {made}");
         assert_eq!(rt; heap.objects_left(), (1 << 43) - 1 - made);
     }
 }
 
 #[test]
 fn an_idle_counts_its_units(rt: HostRuntime) {
-    let mut heap = opened(&rt, small(Width::Eight));
+    let mut heap = ControlHeap::open(rt.alloc(), small(Width::Eight)).expect(&rt, "it opens");
     for units in [0, 10, 131_070] {
-        assert_eq!(rt; ask(&mut heap, Command::Idle { units }), Ok(Reply::Idle));
+        assert_eq!(rt; heap.ask(Command::Idle { units }), Ok(Reply::Idle));
     }
     assert_eq!(rt; heap.units_left(), (1 << 45) - 131_080);
     assert_eq!(rt; (heap.asked(), heap.objects_left()), (3, (1 << 43) - 1));
@@ -188,7 +174,7 @@ fn an_idle_counts_its_units(rt: HostRuntime) {
 
 #[test]
 fn a_command_out_of_bounds_changes_nothing(rt: HostRuntime) {
-    let mut heap = opened(&rt, small(Width::Four));
+    let mut heap = ControlHeap::open(rt.alloc(), small(Width::Four)).expect(&rt, "it opens");
     for command in [
         Command::Say { s: 16 },
         Command::Set {
@@ -198,14 +184,9 @@ fn a_command_out_of_bounds_changes_nothing(rt: HostRuntime) {
         Command::New { d: 1, fields: 7 },
         Command::Idle { units: 1 },
     ] {
-        assert_eq!(rt; ask(&mut heap, command), Err(Refused::OutOfBounds));
+        assert_eq!(rt; heap.ask(command), Err(Refused::OutOfBounds));
     }
     assert_eq!(rt; (heap.asked(), heap.units_left()), (0, 1 << 45));
-}
-
-// Why a heap is not opened.
-fn fault_of(alloc: Global, c: Config) -> Option<OpenFault> {
-    open(alloc, c).err()
 }
 
 #[test]
@@ -225,10 +206,10 @@ fn each_refusal_of_a_configuration_has_its_cause(rt: HostRuntime) {
         (Config { live: 5, ..c }, OpenFault::LiveTooSmall),
         (Config { live: 59, ..c }, OpenFault::NoRate),
     ] {
-        assert_eq!(rt; fault_of(rt.alloc(), config), Some(fault));
+        assert_eq!(rt; ControlHeap::open(rt.alloc(), config).err(), Some(fault));
     }
     for live in [6, 58] {
-        assert_eq!(rt; fault_of(rt.alloc(), Config { live, ..c }), None);
+        assert!(rt; ControlHeap::open(rt.alloc(), Config { live, ..c }).is_ok());
     }
 }
 
@@ -241,15 +222,15 @@ fn the_largest_heap_opens_and_keeps_the_largest_object(rt: HostRuntime) {
             object: 1024,
             ..small(width)
         };
-        let mut heap = opened(&rt, c);
+        let mut heap = ControlHeap::open(rt.alloc(), c).expect(&rt, "it opens");
         let name = Name {
             thread: 0,
             serial: 1,
         };
-        assert_eq!(rt; record(&mut heap, 1, fields), Ok(name));
-        assert_eq!(rt; put(&mut heap, 1, last, 1), Ok(()));
-        assert_eq!(rt; get(&mut heap, 2, 1, last), Ok(Value::Ref(name)));
-        assert_eq!(rt; get(&mut heap, 2, 1, u64::from(fields)), Err(Fault::Range));
+        assert_eq!(rt; heap.record(1, fields), Ok(name));
+        assert_eq!(rt; heap.put(1, last, 1), Ok(()));
+        assert_eq!(rt; heap.get(2, 1, last), Ok(Value::Ref(name)));
+        assert_eq!(rt; heap.get(2, 1, u64::from(fields)), Err(Fault::Range));
     }
 }
 
@@ -269,11 +250,11 @@ fn as_many_operations_are_made_as_the_rows_of_a_command_are(rt: HostRuntime) {
         (Command::Nil { d: 1 }, 4),
         (Command::Set { d: 1, value: 7 }, 4),
     ] {
-        assert_eq!(rt; operations(&mut heap, command), Some(few));
+        assert_eq!(rt; operations_of(&mut heap, command), Some(few));
     }
     let mut most = 0;
     for _object in 0..1000 {
-        let made = operations(&mut heap, Command::New { d: 2, fields: 2 }).unwrap_or(0);
+        let made = operations_of(&mut heap, Command::New { d: 2, fields: 2 }).unwrap_or(0);
         assert!(rt; 10 < made, "{made} operations");
         most = made.max(most);
     }
@@ -284,11 +265,11 @@ fn as_many_operations_are_made_as_the_rows_of_a_command_are(rt: HostRuntime) {
 // alarm, in the list of alarms from element 40 on.
 fn keep(heap: &mut ControlHeap, count: u64, reading: u32, alarm: bool) -> Result<(), Fault> {
     let from = if alarm { 1 } else { 5 };
-    let _name = record(heap, 1, 1)?;
-    set(heap, 2, u64::from(reading))?;
-    put(heap, 1, 0, 2)?;
-    put(heap, 0, count % 40, 1)?;
-    put(heap, 0, 40 + count % 40, from)
+    let _name = heap.record(1, 1)?;
+    heap.set(2, u64::from(reading))?;
+    heap.put(1, 0, 2)?;
+    heap.put(0, count % 40, 1)?;
+    heap.put(0, 40 + count % 40, from)
 }
 
 // What a loop does after a reading.
@@ -309,38 +290,6 @@ fn turn_to(kept: Result<(), Fault>) -> Next {
     }
 }
 
-// An array of two in register 3, the second element of which is exchanged.
-fn check_replies(rt: &impl Abort, heap: &mut ControlHeap) {
-    assert_eq!(rt;
-        array(heap, 3, 2).map(|name| Value::Ref(name)),
-        say(heap, 3)
-    );
-    assert_eq!(rt; len(heap, 3), Ok(2));
-    assert_eq!(rt; mov(heap, 4, 3), Ok(()));
-    assert_eq!(rt; (same(heap, 3, 4), same(heap, 3, 1)), (Ok(true), Ok(false)));
-    assert_eq!(rt; put(heap, 3, 1, 2), Ok(()));
-    assert_eq!(rt; get(heap, 6, 3, 1), Ok(Value::Int(20)));
-    assert_eq!(rt; set(heap, 2, 21), Ok(()));
-    assert_eq!(rt; swap(heap, 3, 1, 2), Ok(Value::Int(20)));
-    assert_eq!(rt;
-        (cas(heap, 3, 1, 2, 4), cas(heap, 3, 1, 6, 4)),
-        (Ok(false), Ok(false))
-    );
-    assert_eq!(rt; set(heap, 6, 21), Ok(()));
-    assert_eq!(rt;
-        (cas(heap, 3, 1, 6, 4), get(heap, 7, 3, 1)),
-        (Ok(true), say(heap, 4))
-    );
-    assert_eq!(rt; (idle(heap, 100), nil(heap, 3)), (Ok(()), Ok(())));
-}
-
-fn check_faults(rt: &impl Abort, heap: &mut ControlHeap) {
-    assert_eq!(rt; get(heap, 7, 3, 0), Err(Fault::Null));
-    assert_eq!(rt; len(heap, 2), Err(Fault::Kind));
-    assert_eq!(rt; put(heap, 4, 2, 2), Err(Fault::Range));
-    assert_eq!(rt; say(heap, 16), Err(Fault::OutOfBounds));
-}
-
 #[test]
 fn each_call_tells_its_reply(rt: HostRuntime) {
     let c = Config {
@@ -351,19 +300,39 @@ fn each_call_tells_its_reply(rt: HostRuntime) {
         object: 1,
         shared: 80,
     };
-    let mut heap = opened(&rt, c);
+    let mut heap = ControlHeap::open(rt.alloc(), c).expect(&rt, "it opens");
     for count in 0..1000 {
         let kept = keep(&mut heap, count, 20, count % 3 == 0);
         assert_eq!(rt; turn_to(kept), Next::Reading, "reading {count}");
     }
-    assert_eq!(rt; turn_to(put(&mut heap, 2, 0, 1)), Next::Stop);
-    check_replies(&rt, &mut heap);
-    check_faults(&rt, &mut heap);
+    assert_eq!(rt; turn_to(heap.put(2, 0, 1)), Next::Stop);
+    assert_eq!(rt; heap.array(3, 2).map(|name| Value::Ref(name)), heap.say(3));
+    assert_eq!(rt; heap.len(3), Ok(2));
+    assert_eq!(rt; heap.mov(4, 3), Ok(()));
+    assert_eq!(rt; (heap.same(3, 4), heap.same(3, 1)), (Ok(true), Ok(false)));
+    assert_eq!(rt; heap.put(3, 1, 2), Ok(()));
+    assert_eq!(rt; heap.get(6, 3, 1), Ok(Value::Int(20)));
+    assert_eq!(rt; heap.set(2, 21), Ok(()));
+    assert_eq!(rt; heap.swap(3, 1, 2), Ok(Value::Int(20)));
+    assert_eq!(rt;
+        (heap.cas(3, 1, 2, 4), heap.cas(3, 1, 6, 4)),
+        (Ok(false), Ok(false))
+    );
+    assert_eq!(rt; heap.set(6, 21), Ok(()));
+    assert_eq!(rt;
+        (heap.cas(3, 1, 6, 4), heap.get(7, 3, 1)),
+        (Ok(true), heap.say(4))
+    );
+    assert_eq!(rt; (heap.idle(100), heap.nil(3)), (Ok(()), Ok(())));
+    assert_eq!(rt; heap.get(7, 3, 0), Err(Fault::Null));
+    assert_eq!(rt; heap.len(2), Err(Fault::Kind));
+    assert_eq!(rt; heap.put(4, 2, 2), Err(Fault::Range));
+    assert_eq!(rt; heap.say(16), Err(Fault::OutOfBounds));
 }
 
 #[test]
 fn a_list_that_grows_without_end_is_full(rt: HostRuntime) {
-    let mut heap = opened(&rt, small(Width::Four));
+    let mut heap = ControlHeap::open(rt.alloc(), small(Width::Four)).expect(&rt, "it opens");
     let mut made = 0;
     let full = loop_until_full(&mut heap, &mut made);
     assert!(rt; 14 <= made && made < 64, "{made} objects");
@@ -385,26 +354,26 @@ fn loop_until_full(heap: &mut ControlHeap, made: &mut u32) -> Option<u64> {
 }
 
 fn grow(heap: &mut ControlHeap) -> Result<(), Fault> {
-    let _name = record(heap, 2, 1)?;
-    put(heap, 2, 0, 1)?;
-    mov(heap, 1, 2)
+    let _name = heap.record(2, 1)?;
+    heap.put(2, 0, 1)?;
+    heap.mov(1, 2)
 }
 
 #[test]
 fn gauges_tell_of_the_heap(rt: HostRuntime) {
-    let mut heap = opened(&rt, small(Width::Eight));
-    assert_eq!(rt; (rate(&heap), cycle(&heap), free_blocks(&heap)), (7, 1, 60));
-    let new = Command::New { d: 1, fields: 7 };
-    assert_eq!(rt; most_of(&heap, &new), 7 * 23 + 18 + 12 + 8);
+    let mut heap = ControlHeap::open(rt.alloc(), small(Width::Eight)).expect(&rt, "it opens");
+    assert_eq!(rt; (heap.rate(), heap.cycle(), heap.free_blocks()), (7, 1, 60));
+    let record = Command::New { d: 1, fields: 7 };
+    assert_eq!(rt; most_of(&heap, &record), 7 * 23 + 18 + 12 + 8);
     assert_eq!(rt; most_of(&heap, &Command::Nil { d: 1 }), 4);
     assert_eq!(rt;
         most_of(&heap, &Command::Idle { units: 9 }),
         9 * 23 + 18 + 4
     );
-    assert!(rt; ask(&mut heap, new).is_ok());
-    assert_eq!(rt; (free_blocks(&heap), blocks_in_use(&heap)), (59, 5));
-    assert_eq!(rt; idle(&mut heap, 64 * 4), Ok(()));
-    assert!(rt; 2 < cycle(&heap));
+    assert!(rt; heap.ask(record).is_ok());
+    assert_eq!(rt; (heap.free_blocks(), heap.blocks_in_use()), (59, 5));
+    assert_eq!(rt; heap.idle(64 * 4), Ok(()));
+    assert!(rt; 2 < heap.cycle());
 }
 
 // 0 for a command that is not in bounds.
@@ -420,13 +389,13 @@ fn most_of(heap: &ControlHeap, command: &Command) -> u64 {
 // is room again.
 #[test]
 fn a_full_heap_comes_back(rt: HostRuntime) {
-    let mut heap = opened(&rt, small(Width::Eight));
+    let mut heap = ControlHeap::open(rt.alloc(), small(Width::Eight)).expect(&rt, "it opens");
     let mut made = 0;
     assert!(rt; loop_until_full(&mut heap, &mut made).is_some());
-    assert!(rt; matches!(record(&mut heap, 1, 1), Err(Fault::Full(_))));
-    assert_eq!(rt; (nil(&mut heap, 1), nil(&mut heap, 2)), (Ok(()), Ok(())));
-    assert_eq!(rt; idle(&mut heap, 4 * 64 + 1), Ok(()));
+    assert!(rt; matches!(heap.record(1, 1), Err(Fault::Full(_))));
+    assert_eq!(rt; (heap.nil(1), heap.nil(2)), (Ok(()), Ok(())));
+    assert_eq!(rt; heap.idle(4 * 64 + 1), Ok(()));
     for _object in 0..1000 {
-        assert!(rt; record(&mut heap, 1, 1).is_ok());
+        assert!(rt; heap.record(1, 1).is_ok());
     }
 }

@@ -44,10 +44,6 @@ fn clear(plain: &mut Vec<Alarm>, number: u64) -> bool {
 }
 
 // The calls without their contracts, which the tests do not need.
-fn list_of(heap: &mut ControlHeap, size: u32) -> Result<AlarmList, Fault> {
-    AlarmList::new(heap, 1, 2, size)
-}
-
 fn raise_on(heap: &mut ControlHeap, list: &mut AlarmList, number: u64) -> Result<Raised, Fault> {
     list.raise(heap, number)
 }
@@ -62,10 +58,6 @@ fn clear_on(heap: &mut ControlHeap, list: &mut AlarmList, number: u64) -> Result
 
 fn alarm_on(heap: &mut ControlHeap, list: &AlarmList, i: u32) -> Result<Option<Alarm>, Fault> {
     list.get(heap, i)
-}
-
-fn len_of(list: &AlarmList) -> usize {
-    list.len() as usize
 }
 
 // Whether a drawn call answers as it does on the plain list.
@@ -88,18 +80,12 @@ fn is_answered_alike(
     Ok(clear_on(heap, list, number) == Ok(wanted))
 }
 
-// Whether place `i` has the alarm of the plain list, and both are equally long.
-fn is_listed_alike(heap: &mut ControlHeap, list: &AlarmList, plain: &[Alarm], i: u32) -> bool {
-    let wanted = plain.get(i as usize).copied();
-    alarm_on(heap, list, i) == Ok(wanted) && len_of(list) == plain.len()
-}
-
 #[test]
 fn a_list_keeps_its_alarms_in_order(rt: HostRuntime) -> Result<(), Fail> {
     // The registers and the shared array take four blocks.
     let live = blocks_of(Width::Eight, SIZE).saturating_add(4);
     let mut heap = least_heap(&rt, live)?;
-    let mut list = list_of(&mut heap, SIZE).ok().ok_or("list")?;
+    let mut list = AlarmList::new(&mut heap, 1, 2, SIZE).ok().ok_or("list")?;
     let mut plain = Vec::new(rt.alloc());
     let mut state = 3;
     for turn in 0..DRAWN {
@@ -107,51 +93,35 @@ fn a_list_keeps_its_alarms_in_order(rt: HostRuntime) -> Result<(), Fail> {
         let kind = draw(&mut state) % (8 + turn / 10_000);
         assert!(rt; is_answered_alike(&mut heap, &mut list, &mut plain, kind, number)?);
         let i = draw(&mut state) % 10;
-        assert!(rt; is_listed_alike(&mut heap, &list, &plain, i as u32));
+        let wanted = plain.get(i as usize).copied();
+        assert_eq!(rt; alarm_on(&mut heap, &list, i as u32), Ok(wanted));
+        assert_eq!(rt; list.len() as usize, plain.len());
     }
     Ok(())
-}
-
-fn is_raised(heap: &mut ControlHeap, list: &mut AlarmList, number: u64, wanted: Raised) -> bool {
-    raise_on(heap, list, number) == Ok(wanted)
-}
-
-// Whether place `i` has this alarm.
-fn stands(heap: &mut ControlHeap, list: &AlarmList, i: u32, alarm: Alarm) -> bool {
-    alarm_on(heap, list, i) == Ok(Some(alarm))
-}
-
-fn stays_acknowledged(heap: &mut ControlHeap, list: &mut AlarmList, number: u64) -> bool {
-    let alarm = Alarm {
-        number,
-        acknowledged: true,
-    };
-    is_raised(heap, list, number, Raised::New)
-        && acknowledge_on(heap, list, number) == Ok(true)
-        && is_raised(heap, list, number, Raised::Standing)
-        && stands(heap, list, 0, alarm)
-}
-
-// Whether an alarm that is cleared and raised again is a new one, the last of the list.
-fn returns_anew(heap: &mut ControlHeap, list: &mut AlarmList, number: u64) -> bool {
-    let alarm = Alarm {
-        number,
-        acknowledged: false,
-    };
-    clear_on(heap, list, number) == Ok(true)
-        && is_raised(heap, list, number, Raised::New)
-        && stands(heap, list, 1, alarm)
 }
 
 #[test]
 fn an_acknowledged_alarm_stays_so_until_it_is_cleared(rt: HostRuntime) -> Result<(), Fail> {
     let mut heap = least_heap(&rt, 20)?;
-    let mut list = list_of(&mut heap, 2).ok().ok_or("list")?;
+    let mut list = AlarmList::new(&mut heap, 1, 2, 2).ok().ok_or("list")?;
     let number = NUMBERS - 1;
-    assert!(rt; stays_acknowledged(&mut heap, &mut list, number));
-    assert!(rt; is_raised(&mut heap, &mut list, 7, Raised::New));
-    assert!(rt; is_raised(&mut heap, &mut list, 8, Raised::Full));
-    assert!(rt; returns_anew(&mut heap, &mut list, number));
+    let mut alarm = Alarm {
+        number,
+        acknowledged: true,
+    };
+    assert_eq!(rt; raise_on(&mut heap, &mut list, number), Ok(Raised::New));
+    assert_eq!(rt; acknowledge_on(&mut heap, &list, number), Ok(true));
+    assert_eq!(rt;
+        raise_on(&mut heap, &mut list, number),
+        Ok(Raised::Standing)
+    );
+    assert_eq!(rt; alarm_on(&mut heap, &list, 0), Ok(Some(alarm)));
+    assert_eq!(rt; raise_on(&mut heap, &mut list, 7), Ok(Raised::New));
+    assert_eq!(rt; raise_on(&mut heap, &mut list, 8), Ok(Raised::Full));
+    assert_eq!(rt; clear_on(&mut heap, &mut list, number), Ok(true));
+    assert_eq!(rt; raise_on(&mut heap, &mut list, number), Ok(Raised::New));
+    alarm.acknowledged = false;
+    assert_eq!(rt; alarm_on(&mut heap, &list, 1), Ok(Some(alarm)));
     assert_eq!(rt;
         raise_on(&mut heap, &mut list, NUMBERS),
         Err(Fault::OutOfBounds)

@@ -54,29 +54,8 @@ pub(crate) fn record(heap: &mut ControlHeap, number: u64) -> Result<(), Fault> {
 }
 
 // The number of the record in register `LOADED`.
-fn number(heap: &mut ControlHeap) -> Result<Value, Fault> {
+pub(crate) fn number(heap: &mut ControlHeap) -> Result<Value, Fault> {
     heap.get(NUMBER, LOADED, 0)
-}
-
-pub(crate) fn has_number(heap: &mut ControlHeap, wanted: u64) -> bool {
-    number(heap) == Ok(Value::Int(wanted))
-}
-
-// Whether what was loaded into register `LOADED` is a record with this number, or nothing was.
-pub(crate) fn is_loaded(
-    heap: &mut ControlHeap,
-    got: Result<Option<Value>, Fault>,
-    wanted: Option<u64>,
-) -> bool {
-    match wanted {
-        Some(wanted) => matches!(got, Ok(Some(_))) && has_number(heap, wanted),
-        None => got == Ok(None),
-    }
-}
-
-// The calls without their contracts, which the tests do not need.
-fn ring_of(heap: &mut ControlHeap, base: u8, spare: u8, size: u32) -> Result<Ring, Fault> {
-    Ring::new(heap, base, spare, size)
 }
 
 fn push_ring(heap: &mut ControlHeap, ring: &mut Ring, value: u64) -> Result<(), Fault> {
@@ -84,98 +63,60 @@ fn push_ring(heap: &mut ControlHeap, ring: &mut Ring, value: u64) -> Result<(), 
     ring.push(heap, RECORD)
 }
 
-fn ring_at(heap: &mut ControlHeap, ring: &Ring, i: u32) -> Result<Option<Value>, Fault> {
-    ring.get(heap, i, LOADED)
-}
-
-fn ring_len(ring: &Ring) -> usize {
-    ring.len() as usize
-}
-
-fn queue_of(heap: &mut ControlHeap, base: u8, spare: u8, size: u32) -> Result<Queue, Fault> {
-    Queue::new(heap, base, spare, size)
-}
-
-fn push_from(heap: &mut ControlHeap, queue: &mut Queue, from: u8) -> Result<bool, Fault> {
-    queue.push(heap, from)
-}
-
-fn pop_to(heap: &mut ControlHeap, queue: &mut Queue, d: u8) -> Result<Option<Value>, Fault> {
-    queue.pop(heap, d)
-}
-
-fn queue_len(queue: &Queue) -> usize {
-    queue.len() as usize
-}
-
-// Whether a ring takes a value, and has a drawn one, as the plain list does.
-fn is_ring_alike(
-    heap: &mut ControlHeap,
-    ring: &mut Ring,
-    plain: &mut VecDeque<u64>,
-    value: u64,
-    i: u32,
-) -> Result<bool, Fail> {
-    plain.push_back(value)?;
-    if plain.len() > SIZE as usize {
-        let _oldest = plain.pop_front();
-    }
-    if push_ring(heap, ring, value).is_err() {
-        return Ok(false);
-    }
-    let got = ring_at(heap, ring, i);
-    let wanted = plain.get(i as usize).copied();
-    Ok(is_loaded(heap, got, wanted) && ring_len(ring) == plain.len())
-}
-
 #[test]
 fn a_ring_keeps_the_last_values(rt: HostRuntime) -> Result<(), Fail> {
     let mut heap = least_heap(&rt, 20)?;
-    let mut ring = ring_of(&mut heap, 1, 2, SIZE).ok().ok_or("ring")?;
+    let mut ring = Ring::new(&mut heap, 1, 2, SIZE).ok().ok_or("ring")?;
     let mut plain = VecDeque::new(rt.alloc());
     let mut state = 1;
     for value in 0..DRAWN {
+        assert_eq!(rt; push_ring(&mut heap, &mut ring, value), Ok(()));
+        plain.push_back(value)?;
+        if plain.len() > SIZE as usize {
+            let _oldest = plain.pop_front();
+        }
         let i = draw(&mut state) % 12;
-        assert!(rt; is_ring_alike(&mut heap, &mut ring, &mut plain, value, i as u32)?);
+        match plain.get(i as usize) {
+            Some(wanted) => {
+                let got = ring.get(&mut heap, i as u32, LOADED);
+                assert!(rt; matches!(got, Ok(Some(_))));
+                assert_eq!(rt; number(&mut heap), Ok(Value::Int(*wanted)));
+            }
+            None => assert_eq!(rt; ring.get(&mut heap, i as u32, LOADED), Ok(None)),
+        }
+        assert_eq!(rt; ring.len() as usize, plain.len());
     }
     Ok(())
 }
 
 fn push_queue(heap: &mut ControlHeap, queue: &mut Queue, value: u64) -> Result<bool, Fault> {
     record(heap, value)?;
-    push_from(heap, queue, RECORD)
-}
-
-// Whether a push of a value, or else a pop, answers as it does on the plain list.
-fn is_queue_alike(
-    heap: &mut ControlHeap,
-    queue: &mut Queue,
-    plain: &mut VecDeque<u64>,
-    value: u64,
-    pushes: bool,
-) -> Result<bool, Fail> {
-    if pushes {
-        let room = plain.len() < SIZE as usize;
-        if room {
-            plain.push_back(value)?;
-        }
-        return Ok(push_queue(heap, queue, value) == Ok(room));
-    }
-    let wanted = plain.pop_front();
-    let got = pop_to(heap, queue, LOADED);
-    Ok(is_loaded(heap, got, wanted))
+    queue.push(heap, RECORD)
 }
 
 #[test]
 fn a_queue_gives_values_in_order(rt: HostRuntime) -> Result<(), Fail> {
     let mut heap = least_heap(&rt, 20)?;
-    let mut queue = queue_of(&mut heap, 1, 2, SIZE).ok().ok_or("queue")?;
+    let mut queue = Queue::new(&mut heap, 1, 2, SIZE).ok().ok_or("queue")?;
     let mut plain = VecDeque::new(rt.alloc());
     let mut state = 2;
     for value in 0..DRAWN {
-        let pushes = draw(&mut state) % 100 < 40 + value / 1000 % 20;
-        assert!(rt; is_queue_alike(&mut heap, &mut queue, &mut plain, value, pushes)?);
-        assert_eq!(rt; queue_len(&queue), plain.len());
+        if draw(&mut state) % 100 < 40 + value / 1000 % 20 {
+            let room = plain.len() < SIZE as usize;
+            assert_eq!(rt; push_queue(&mut heap, &mut queue, value), Ok(room));
+            if room {
+                plain.push_back(value)?;
+            }
+        } else {
+            match plain.pop_front() {
+                Some(wanted) => {
+                    assert!(rt; matches!(queue.pop(&mut heap, LOADED), Ok(Some(_))));
+                    assert_eq!(rt; number(&mut heap), Ok(Value::Int(wanted)));
+                }
+                None => assert_eq!(rt; queue.pop(&mut heap, LOADED), Ok(None)),
+            }
+        }
+        assert_eq!(rt; queue.len() as usize, plain.len());
     }
     Ok(())
 }
@@ -183,17 +124,13 @@ fn a_queue_gives_values_in_order(rt: HostRuntime) -> Result<(), Fail> {
 #[test]
 fn wrong_registers_are_refused(rt: HostRuntime) -> Result<(), Fail> {
     let mut heap = least_heap(&rt, 20)?;
-    for spare in [1, 16] {
-        assert_eq!(rt; ring_of(&mut heap, 1, spare, SIZE), Err(Fault::OutOfBounds));
-    }
-    assert_eq!(rt; queue_of(&mut heap, 1, 2, 0), Err(Fault::OutOfBounds));
-    let mut queue = queue_of(&mut heap, 1, 2, SIZE).ok().ok_or("queue")?;
-    assert_eq!(rt;
-        push_from(&mut heap, &mut queue, 16),
-        Err(Fault::OutOfBounds)
-    );
+    assert_eq!(rt; Ring::new(&mut heap, 1, 1, SIZE), Err(Fault::OutOfBounds));
+    assert_eq!(rt; Ring::new(&mut heap, 1, 16, SIZE), Err(Fault::OutOfBounds));
+    assert_eq!(rt; Queue::new(&mut heap, 1, 2, 0), Err(Fault::OutOfBounds));
+    let mut queue = Queue::new(&mut heap, 1, 2, SIZE).ok().ok_or("queue")?;
+    assert_eq!(rt; queue.push(&mut heap, 16), Err(Fault::OutOfBounds));
     for d in [1, 2, 16] {
-        assert_eq!(rt; pop_to(&mut heap, &mut queue, d), Err(Fault::OutOfBounds));
+        assert_eq!(rt; queue.pop(&mut heap, d), Err(Fault::OutOfBounds));
     }
     Ok(())
 }

@@ -5,13 +5,11 @@ ghost use Rattle.std.specs.Prelude.{◌≡◌, IfOk};
 ghost use Rattle.live_handles.specs.Live.{AreInOrder, IsOf, IsSameWorker};
 
 use crate::request::Request;
-use crate::tests::{evict, make, open, release, see, take};
 use crate::{HandleWorker, LiveHandles};
 use block_store::OutOfMemory;
 use rand_core::utils::NextWord;
 use rand_pcg::Lcg64Xsh32;
 use std::alloc::Global;
-use std::process::Abort;
 use std::sync::{Mutex, Wait};
 use std::thread;
 use std::thread::Threads;
@@ -98,23 +96,14 @@ fn have_one_order(alloc: Global, logs: &[Vec<Did>]) -> Result<bool, OutOfMemory>
     })?;
     for log in logs {
         for _request in log {
-            points = next_points(alloc, &points, logs)?;
+            let mut next = Vec::new(alloc);
+            for point in &points {
+                add_next(&mut next, point, logs)?;
+            }
+            points = next;
         }
     }
     Ok(!points.is_empty())
-}
-
-// The points with one request more than these have.
-fn next_points(
-    alloc: Global,
-    points: &[Point],
-    logs: &[Vec<Did>],
-) -> Result<Vec<Point>, OutOfMemory> {
-    let mut next = Vec::new(alloc);
-    for point in points {
-        add_next(&mut next, point, logs)?;
-    }
-    Ok(next)
 }
 
 // Adds the points with one request more, each once.
@@ -191,13 +180,14 @@ fn answered<R: Wait>(
             handle,
             slot,
             number,
-        } => make(rt, table, who, handle, slot, number)
+        } => table
+            .make(rt, who, handle, slot, number)
             .ok()
             .map(Told::Matched),
-        Request::See { handle } => see(rt, table, who, handle).ok().map(Told::Matched),
-        Request::Release { handle } => release(rt, table, who, handle).ok().map(Told::Matched),
-        Request::Take { slot } => take(rt, table, who, slot).ok().map(Told::Found),
-        Request::Evict { slot } => evict(rt, table, who, slot).ok().map(Told::Found),
+        Request::See { handle } => table.see(rt, who, handle).ok().map(Told::Matched),
+        Request::Release { handle } => table.release(rt, who, handle).ok().map(Told::Matched),
+        Request::Take { slot } => table.take(rt, who, slot).ok().map(Told::Found),
+        Request::Evict { slot } => table.evict(rt, who, slot).ok().map(Told::Found),
     }
 }
 
@@ -268,25 +258,11 @@ fn all_draw<R: Threads + Wait + Sync>(
     Ok(done)
 }
 
-// Checks what the threads of one heap were answered.
-fn check(rt: &impl Abort, alloc: Global, logs: &[Vec<Did>], key: u64) -> Result<(), OutOfMemory> {
-    assert_eq!(rt; logs.len(), 3);
-    for log in logs {
-        assert!(rt;
-            log.len() > REQUESTS / 2,
-            "thread of {} requests",
-            log.len()
-        );
-    }
-    assert!(rt; have_one_order(alloc, logs)?, "draws {key}");
-    Ok(())
-}
-
 #[test]
 fn drawn_requests_have_one_order(rt: HostRuntime) -> Result<(), OutOfMemory> {
     let alloc = rt.alloc();
     for key in 0..40 {
-        let Ok((table, workers)) = open(alloc, 2, 3) else {
+        let Ok((table, workers)) = LiveHandles::open(alloc, 2, 3) else {
             assert!(rt; false, "it opens");
             return Ok(());
         };
@@ -294,17 +270,17 @@ fn drawn_requests_have_one_order(rt: HostRuntime) -> Result<(), OutOfMemory> {
         let rest = all_draw(&rt, alloc, &table, workers, key, &logs)?;
         table.close(rest);
         let logs = logs.into_inner();
-        check(&rt, alloc, &logs, key)?;
+        assert_eq!(rt; logs.len(), 3);
+        for log in &logs {
+            assert!(rt;
+                log.len() > REQUESTS / 2,
+                "thread of {} requests",
+                log.len()
+            );
+        }
+        assert!(rt; have_one_order(alloc, &logs)?, "draws {key}");
     }
     Ok(())
-}
-
-// The logs of two threads that did one request each.
-fn two_logs(alloc: Global, first: Did, second: Did) -> Result<Vec<Vec<Did>>, OutOfMemory> {
-    let mut logs = Vec::new(alloc);
-    logs.push(vec![in alloc; first; 1]?)?;
-    logs.push(vec![in alloc; second; 1]?)?;
-    Ok(logs)
 }
 
 // The test's own search finds an order of two threads, and none for another answer.
@@ -328,7 +304,9 @@ fn answers_without_an_order_are_found(rt: HostRuntime) -> Result<(), OutOfMemory
             id: 0,
             told: Told::Found(shown),
         };
-        let logs = two_logs(alloc, make, take)?;
+        let mut logs = Vec::new(alloc);
+        logs.push(vec![in alloc; make; 1]?)?;
+        logs.push(vec![in alloc; take; 1]?)?;
         assert_eq!(rt; have_one_order(alloc, &logs)?, wanted);
     }
     Ok(())

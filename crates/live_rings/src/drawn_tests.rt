@@ -4,13 +4,11 @@
 ghost use Rattle.std.specs.Prelude.{◌≡◌, IfOk};
 ghost use Rattle.live_rings.specs.Live.{AreInOrder, IsOf, IsSameWorker};
 
-use crate::tests::{keep, open, recall};
 use crate::{LiveRings, RingWorker};
 use block_store::OutOfMemory;
 use rand_core::utils::NextWord;
 use rand_pcg::Lcg64Xsh32;
 use std::alloc::Global;
-use std::process::Abort;
 use std::sync::{Mutex, Wait};
 use std::thread;
 use std::thread::Threads;
@@ -69,23 +67,14 @@ fn have_one_order(alloc: Global, logs: &[Vec<Did>]) -> Result<bool, OutOfMemory>
     })?;
     for log in logs {
         for _request in log {
-            points = next_points(alloc, &points, logs)?;
+            let mut next = Vec::new(alloc);
+            for point in &points {
+                add_next(&mut next, point, logs)?;
+            }
+            points = next;
         }
     }
     Ok(!points.is_empty())
-}
-
-// The points with one request more than these have.
-fn next_points(
-    alloc: Global,
-    points: &[Point],
-    logs: &[Vec<Did>],
-) -> Result<Vec<Point>, OutOfMemory> {
-    let mut next = Vec::new(alloc);
-    for point in points {
-        add_next(&mut next, point, logs)?;
-    }
-    Ok(next)
 }
 
 // Adds the points with one request more, each once.
@@ -117,10 +106,10 @@ fn does<R: Wait>(
     if draws.next_word() % 3 == 0 {
         let own = (who.thread() as usize).saturating_mul(8);
         let place = own.saturating_add((who.kept() % 8) as usize);
-        keep(rt, rings, who, number).ok()?;
+        rings.keep(rt, who, number).ok()?;
         return Some(Did::Keep { place, number });
     }
-    let shown = recall(rt, rings, who, thread, place).ok()?;
+    let shown = rings.recall(rt, who, thread, place).ok()?;
     let place = (thread * 8 + place) as usize;
     Some(Did::Recall { place, shown })
 }
@@ -177,21 +166,11 @@ fn all_draw<R: Threads + Wait + Sync>(
     Ok(done)
 }
 
-// Checks what the threads of one heap were answered.
-fn check(rt: &impl Abort, alloc: Global, logs: &[Vec<Did>], key: u64) -> Result<(), OutOfMemory> {
-    assert_eq!(rt; logs.len(), 3);
-    for log in logs {
-        assert_eq!(rt; log.len(), REQUESTS as usize);
-    }
-    assert!(rt; have_one_order(alloc, logs)?, "draws {key}");
-    Ok(())
-}
-
 #[test]
 fn drawn_requests_have_one_order(rt: HostRuntime) -> Result<(), OutOfMemory> {
     let alloc = rt.alloc();
     for key in 0..20 {
-        let Ok((rings, workers)) = open(alloc, 3) else {
+        let Ok((rings, workers)) = LiveRings::open(alloc, 3) else {
             assert!(rt; false, "they open");
             return Ok(());
         };
@@ -199,17 +178,13 @@ fn drawn_requests_have_one_order(rt: HostRuntime) -> Result<(), OutOfMemory> {
         let rest = all_draw(&rt, alloc, &rings, workers, key, &logs)?;
         rings.close(rest);
         let logs = logs.into_inner();
-        check(&rt, alloc, &logs, key)?;
+        assert_eq!(rt; logs.len(), 3);
+        for log in &logs {
+            assert_eq!(rt; log.len(), REQUESTS as usize);
+        }
+        assert!(rt; have_one_order(alloc, &logs)?, "draws {key}");
     }
     Ok(())
-}
-
-// The logs of two threads that did one request each.
-fn two_logs(alloc: Global, first: Did, second: Did) -> Result<Vec<Vec<Did>>, OutOfMemory> {
-    let mut logs = Vec::new(alloc);
-    logs.push(vec![in alloc; first; 1]?)?;
-    logs.push(vec![in alloc; second; 1]?)?;
-    Ok(logs)
 }
 
 // The test's own search finds an order of two threads, and none for another answer.
@@ -217,11 +192,12 @@ fn two_logs(alloc: Global, first: Did, second: Did) -> Result<Vec<Vec<Did>>, Out
 fn answers_without_an_order_are_found(rt: HostRuntime) -> Result<(), OutOfMemory> {
     let alloc = rt.alloc();
     for (shown, wanted) in [(Some(7), true), (None, true), (Some(8), false)] {
-        let keep = Did::Keep {
+        let mut logs = Vec::new(alloc);
+        logs.push(vec![in alloc; Did::Keep {
             place: 1,
-            number: 7,
-        };
-        let logs = two_logs(alloc, keep, Did::Recall { place: 1, shown })?;
+            number: 7
+        }; 1]?)?;
+        logs.push(vec![in alloc; Did::Recall { place: 1, shown }; 1]?)?;
         assert_eq!(rt; have_one_order(alloc, &logs)?, wanted);
     }
     Ok(())

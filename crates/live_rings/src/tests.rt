@@ -1,12 +1,10 @@
 //! Threads that share rings: each recalls its own last numbers, and those of others in their order.
 
 ghost use Rattle.std.specs.Prelude.{◌≡◌, IfOk};
-ghost use Rattle.live_rings.specs.Live.{AreEachOnce, AreInOrder, IsOf, IsSameWorker};
+ghost use Rattle.live_rings.specs.Live.{AreInOrder, IsOf, IsSameWorker};
 
 use crate::{LiveRings, OpenFault, Refused, RingWorker};
 use block_store::OutOfMemory;
-use std::alloc::Global;
-use std::process::Abort;
 use std::sync::Wait;
 use std::sync::atomic::{AtomicU64, Ordering};
 use std::thread;
@@ -49,41 +47,6 @@ impl Counts {
     }
 }
 
-// The calls with no more of their contracts than the tests need.
-pub(crate) fn open(alloc: Global, threads: u32) -> Result<(LiveRings, Vec<RingWorker>), OpenFault>
-    ensures workers { IfOk result (λ r. AreInOrder r.0 r.1.items) }
-    ensures each { IfOk result (λ r. AreEachOnce r.0 r.1.items) }
-{
-    LiveRings::open(alloc, threads)
-}
-
-pub(crate) fn keep<R: Wait>(
-    rt: &R,
-    rings: &LiveRings,
-    who: &mut RingWorker,
-    number: u64,
-) -> Result<(), Refused>
-    requires { IsOf rings.now who.old }
-    ensures own { IsOf rings.now who.new }
-    ensures same { IsSameWorker who.old who.new }
-{
-    rings.keep(rt, who, number)
-}
-
-pub(crate) fn recall<R: Wait>(
-    rt: &R,
-    rings: &LiveRings,
-    who: &mut RingWorker,
-    thread: u32,
-    place: u32,
-) -> Result<Option<u64>, Refused>
-    requires { IsOf rings.now who.old }
-    ensures own { IsOf rings.now who.new }
-    ensures same { IsSameWorker who.old who.new }
-{
-    rings.recall(rt, who, thread, place)
-}
-
 // Keeps a number, recalls its own oldest and newest, and twice a place of another's ring, in each
 // round.
 #[tactic(auto, using(crate::proofs::Crews::same_first, crate::proofs::Crews::same_then, crate::proofs::Crews::of_same))]
@@ -94,19 +57,19 @@ fn uses<R: Wait>(rt: &R, rings: &LiveRings, who: &mut RingWorker, threads: u32, 
     let thread = who.thread();
     for round in 0..ROUNDS {
         let number = u64::from(thread) * 1_000_000 + u64::from(round);
-        let _kept = keep(rt, rings, who, number);
-        if let Ok(newest) = recall(rt, rings, who, thread, round % 8) {
+        let _kept = rings.keep(rt, who, number);
+        if let Ok(newest) = rings.recall(rt, who, thread, round % 8) {
             counts.own(newest, number);
         }
         if round >= 7 {
-            if let Ok(oldest) = recall(rt, rings, who, thread, (round + 1) % 8) {
+            if let Ok(oldest) = rings.recall(rt, who, thread, (round + 1) % 8) {
                 counts.own(oldest, number - 7);
             }
         }
         let other = round.checked_rem(threads).unwrap_or(thread);
         let place = round / 3 % 8;
-        if let Ok(first) = recall(rt, rings, who, other, place) {
-            if let Ok(second) = recall(rt, rings, who, other, place) {
+        if let Ok(first) = rings.recall(rt, who, other, place) {
+            if let Ok(second) = rings.recall(rt, who, other, place) {
                 counts.others(other, place, first, second);
             }
         }
@@ -144,7 +107,7 @@ fn all_use<R: Threads + Wait + Sync>(
 #[test]
 fn threads_recall_the_last_numbers(rt: HostRuntime) -> Result<(), OutOfMemory> {
     for threads in [1, 2, 4] {
-        let Ok((rings, workers)) = open(rt.alloc(), threads) else {
+        let Ok((rings, workers)) = LiveRings::open(rt.alloc(), threads) else {
             assert!(rt; false, "it opens");
             return Ok(());
         };
@@ -170,73 +133,57 @@ fn keeps_nine<R: Wait>(rt: &R, rings: &LiveRings, who: &mut RingWorker)
     ensures { IsSameWorker who.old who.new }
 {
     for number in 50..59 {
-        let _kept = keep(rt, rings, who, number);
+        let _kept = rings.keep(rt, who, number);
     }
-}
-
-fn keeps_eight<R: Wait + Abort>(rt: &R, rings: &LiveRings, who: &mut RingWorker)
-    requires { IsOf rings.now who.old }
-{
-    assert_eq!(rt; recall(rt, rings, who, 0, 0), Ok(None));
-    keeps_nine(rt, rings, who);
-    assert_eq!(rt; who.kept(), 9);
-    assert_eq!(rt; recall(rt, rings, who, 0, 0), Ok(Some(58)));
-    assert_eq!(rt; recall(rt, rings, who, 0, 1), Ok(Some(51)));
-    assert_eq!(rt; recall(rt, rings, who, 0, 8), Err(Refused::OutOfRange));
-    assert_eq!(rt; recall(rt, rings, who, 1, 0), Err(Refused::OutOfRange));
-    assert_eq!(rt; keep(rt, rings, who, 1 << 62), Err(Refused::OutOfRange));
-    assert_eq!(rt; recall(rt, rings, who, 0, 1), Ok(Some(51)));
 }
 
 #[test]
 fn one_thread_keeps_eight(rt: HostRuntime) {
-    let Ok((rings, workers)) = open(rt.alloc(), 1) else {
+    let Ok((rings, workers)) = LiveRings::open(rt.alloc(), 1) else {
         assert!(rt; false, "it opens");
         return;
     };
     for who in workers {
         let mut who = who;
-        keeps_eight(&rt, &rings, &mut who);
+        assert_eq!(rt; rings.recall(&rt, &mut who, 0, 0), Ok(None));
+        keeps_nine(&rt, &rings, &mut who);
+        assert_eq!(rt; who.kept(), 9);
+        assert_eq!(rt; rings.recall(&rt, &mut who, 0, 0), Ok(Some(58)));
+        assert_eq!(rt; rings.recall(&rt, &mut who, 0, 1), Ok(Some(51)));
+        assert_eq!(rt; rings.recall(&rt, &mut who, 0, 8), Err(Refused::OutOfRange));
+        assert_eq!(rt; rings.recall(&rt, &mut who, 1, 0), Err(Refused::OutOfRange));
+        assert_eq!(rt;
+            rings.keep(&rt, &mut who, 1 << 62),
+            Err(Refused::OutOfRange)
+        );
+        assert_eq!(rt; rings.recall(&rt, &mut who, 0, 1), Ok(Some(51)));
     }
-}
-
-// Why rings are not opened.
-fn fault_of(alloc: Global, threads: u32) -> Option<OpenFault> {
-    open(alloc, threads).err()
 }
 
 #[test]
 fn rings_out_of_range_are_not_opened(rt: HostRuntime) {
-    for (threads, fault) in [
-        (0, Some(OpenFault::OutOfRange)),
-        (17, Some(OpenFault::OutOfRange)),
-        (16, None),
-    ] {
-        assert_eq!(rt; fault_of(rt.alloc(), threads), fault, "{threads} threads");
+    for threads in [0, 17] {
+        match LiveRings::open(rt.alloc(), threads) {
+            Ok(_) => assert!(rt; false, "they open"),
+            Err(fault) => assert_eq!(rt; fault, OpenFault::OutOfRange),
+        }
     }
-}
-
-// Gives a worker its own note.
-fn learns(rings: &LiveRings, who: &mut RingWorker)
-    requires { IsOf rings.now who.old }
-    ensures { IsOf rings.now who.new }
-{
-    let note = rings.note(who);
-    rings.learn(who, note);
+    assert!(rt; LiveRings::open(rt.alloc(), 16).is_ok());
 }
 
 // A worker learns its own note and then does another request.
 #[test]
 fn a_note_is_learned(rt: HostRuntime) {
-    let Ok((rings, workers)) = open(rt.alloc(), 2) else {
+    let Ok((rings, workers)) = LiveRings::open(rt.alloc(), 2) else {
         assert!(rt; false, "they open");
         return;
     };
     for who in workers {
         let mut who = who;
         let thread = who.thread();
-        assert_eq!(rt; keep(&rt, &rings, &mut who, 7), Ok(()));
-        learns(&rings, &mut who);
-        assert_eq!(rt; recall(&rt, &rings, &mut who, thread, 0), Ok(Some(7)));
+        assert_eq!(rt; rings.keep(&rt, &mut who, 7), Ok(()));
+        let note = rings.note(&mut who);
+        rings.learn(&mut who, note);
+        assert_eq!(rt; rings.recall(&rt, &mut who, thread, 0), Ok(Some(7)));
     }
 }

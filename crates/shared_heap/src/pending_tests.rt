@@ -1,10 +1,10 @@
 //! Commands that are made a few events at a time, on one thread and on several.
 
-ghost use Rattle.std.specs.Prelude.{◌≡◌, IfErr, IfOk};
+ghost use Rattle.std.specs.Prelude.{◌≡◌};
 ghost use Rattle.shared_heap.specs.Workers.{AreInOrder};
 
 use crate::heap::first_and_rest;
-use crate::tests::{asked, heap_of, open};
+use crate::tests::heap_of;
 use crate::{Pending, Refused, SharedHeap, Worker};
 use block_store::{Name, OutOfMemory, Value};
 use never_heap::{Command, Reply};
@@ -21,32 +21,6 @@ const DRAWN: u32 = 20_000;
 // How many objects each of two workers makes in turns.
 const TURNS: u32 = 2_000;
 
-// The calls with no more of their contracts than the tests need.
-fn start(heap: &SharedHeap, who: Worker, command: Command) -> Result<Pending, (Worker, Refused)>
-    requires { who.heap ≡ heap.now.id }
-    ensures started { IfOk result (λ pending.
-        (pending.heap ≡ heap.now.id) × (pending.worker.heap ≡ heap.now.id)) }
-    ensures back { IfErr result (λ back. back.0.heap ≡ heap.now.id) }
-{
-    match heap.start(who, command) {
-        Ok(pending) => Ok(pending),
-        Err(back) => Err(back),
-    }
-}
-
-fn poll(heap: &SharedHeap, pending: Pending, most: u64) -> Result<(Worker, Reply), Pending>
-    requires heap { pending.heap ≡ heap.now.id }
-    requires worker { pending.worker.heap ≡ heap.now.id }
-    ensures done { IfOk result (λ r. r.0.heap ≡ heap.now.id) }
-    ensures more { IfErr result (λ left.
-        (left.heap ≡ heap.now.id) × (left.worker.heap ≡ heap.now.id)) }
-{
-    match heap.poll(pending, most) {
-        Ok(done) => Ok(done),
-        Err(more) => Err(more),
-    }
-}
-
 // Polls a pending command to its end.
 fn finished<R: Wait>(rt: &R, heap: &SharedHeap, pending: Pending, most: u64) -> (Worker, Reply)
     requires heap { pending.heap ≡ heap.now.id }
@@ -55,7 +29,7 @@ fn finished<R: Wait>(rt: &R, heap: &SharedHeap, pending: Pending, most: u64) -> 
 {
     let mut left = pending;
     for _ in rt.forever() {
-        match poll(heap, left, most) {
+        match heap.poll(left, most) {
             Ok(done) => return done,
             Err(more) => left = more,
         }
@@ -137,7 +111,7 @@ fn made<R: Wait>(
     requires { who.heap ≡ heap.now.id }
     ensures { result.0.heap ≡ heap.now.id }
 {
-    match start(heap, who, command) {
+    match heap.start(who, command) {
         Ok(pending) => {
             let (back, reply) = finished(rt, heap, pending, most);
             (back, Ok(reply))
@@ -170,7 +144,7 @@ fn all_draw<R: Threads + Wait + Sync>(
 #[test]
 fn threads_poll_drawn_commands_beside_each_other(rt: HostRuntime) -> Result<(), OutOfMemory> {
     for threads in [1, 2, 3, 4] {
-        let Ok((heap, workers)) = open(rt.alloc(), heap_of(threads)) else {
+        let Ok((heap, workers)) = SharedHeap::open(rt.alloc(), heap_of(threads)) else {
             assert!(rt; false, "it opens");
             return Ok(());
         };
@@ -199,11 +173,11 @@ fn in_turns<R: Wait>(
     let mut one = first;
     let mut two = second;
     for _ in rt.forever() {
-        match poll(heap, one, 1) {
+        match heap.poll(one, 1) {
             Ok(done) => return (done, finished(rt, heap, two, 1)),
             Err(more) => one = more,
         }
-        match poll(heap, two, 1) {
+        match heap.poll(two, 1) {
             Ok(done) => return (finished(rt, heap, one, 1), done),
             Err(more) => two = more,
         }
@@ -221,10 +195,10 @@ fn both_make<R: Wait>(rt: &R, heap: &SharedHeap, first: Worker, second: Worker) 
     let mut two = second;
     let mut right: u32 = 0;
     for number in 0..TURNS {
-        let Ok(mine) = start(heap, one, make) else {
+        let Ok(mine) = heap.start(one, make) else {
             return right;
         };
-        let Ok(theirs) = start(heap, two, make) else {
+        let Ok(theirs) = heap.start(two, make) else {
             return right;
         };
         let ((a, made), (b, other)) = in_turns(rt, heap, mine, theirs);
@@ -254,7 +228,7 @@ fn two_of(heap: &SharedHeap, workers: Vec<Worker>) -> (Worker, Worker)
 
 #[test]
 fn two_workers_make_an_event_each_in_turns(rt: HostRuntime) {
-    let Ok((heap, workers)) = open(rt.alloc(), heap_of(2)) else {
+    let Ok((heap, workers)) = SharedHeap::open(rt.alloc(), heap_of(2)) else {
         assert!(rt; false, "it opens");
         return;
     };
@@ -266,28 +240,28 @@ fn two_workers_make_an_event_each_in_turns(rt: HostRuntime) {
 // many events they allow, until the first is done.
 #[test]
 fn a_poll_ends_where_its_thread_would_wait(rt: HostRuntime) {
-    let Ok((heap, workers)) = open(rt.alloc(), heap_of(2)) else {
+    let Ok((heap, workers)) = SharedHeap::open(rt.alloc(), heap_of(2)) else {
         assert!(rt; false, "it opens");
         return;
     };
     let (first, second) = two_of(&heap, workers);
-    let Ok(inside) = start(&heap, first, Command::New { d: 1, fields: 2 }) else {
+    let Ok(inside) = heap.start(first, Command::New { d: 1, fields: 2 }) else {
         assert!(rt; false, "a command in bounds is announced");
         return;
     };
-    let Err(inside) = poll(&heap, inside, 2) else {
+    let Err(inside) = heap.poll(inside, 2) else {
         assert!(rt; false, "two events only enter");
         return;
     };
-    let Ok(held_up) = start(&heap, second, Command::Idle { units: 200 }) else {
+    let Ok(held_up) = heap.start(second, Command::Idle { units: 200 }) else {
         assert!(rt; false, "a command in bounds is announced");
         return;
     };
-    let Err(held_up) = poll(&heap, held_up, u64::MAX) else {
+    let Err(held_up) = heap.poll(held_up, u64::MAX) else {
         assert!(rt; false, "the phase can't change");
         return;
     };
-    let Err(held_up) = poll(&heap, held_up, u64::MAX) else {
+    let Err(held_up) = heap.poll(held_up, u64::MAX) else {
         assert!(rt; false, "nor when it is asked again");
         return;
     };
@@ -304,17 +278,17 @@ fn a_poll_ends_where_its_thread_would_wait(rt: HostRuntime) {
 // What can't be started is refused as `ask` does, and gives the worker back.
 #[test]
 fn a_refused_start_gives_the_worker_back(rt: HostRuntime) {
-    let Ok((heap, workers)) = open(rt.alloc(), heap_of(2)) else {
+    let Ok((heap, workers)) = SharedHeap::open(rt.alloc(), heap_of(2)) else {
         assert!(rt; false, "it opens");
         return;
     };
     let (first, _second) = two_of(&heap, workers);
-    let Err((back, refused)) = start(&heap, first, Command::Say { s: 16 }) else {
+    let Err((back, refused)) = heap.start(first, Command::Say { s: 16 }) else {
         assert!(rt; false, "there are 16 registers");
         return;
     };
     assert_eq!(rt; refused, Refused::OutOfBounds);
-    assert_eq!(rt; (asked(&back), back.units_left()), (0, 1 << 45));
+    assert_eq!(rt; (back.asked(), back.units_left()), (0, 1 << 45));
     let (back, said) = made(&rt, &heap, back, Command::Set { d: 1, value: 7 }, 3);
-    assert_eq!(rt; (asked(&back), said), (1, Ok(Reply::Stored)));
+    assert_eq!(rt; (back.asked(), said), (1, Ok(Reply::Stored)));
 }

@@ -1,8 +1,7 @@
 //! Programs that go on while their heaps are renewed.
 
-use super::calls::{asked, begun, copied, finished, followed, given_room};
-use super::{CONFIG, draw, drawn, drawn_heap, renewal_of, same};
-use crate::{Behind, CopyFault, RenewFault, Renewal};
+use super::{CONFIG, draw, drawn, drawn_heap, same};
+use crate::{Behind, CopyFault, RenewFault, Renewal, picture_of};
 use block_store::{Config, OutOfMemory};
 use control_heap::{ControlHeap, Refused};
 use never_heap::{Command, Reply};
@@ -21,7 +20,7 @@ pub const LARGER: Config = Config {
 };
 
 // Why a program stops.
-#[derive(Clone, Copy)]
+#[derive(Clone, Copy, Debug, PartialEq, Eq)]
 pub enum Stop {
     Refused(Refused),
     Behind,
@@ -72,36 +71,25 @@ pub fn goes_on(
     Ok(left)
 }
 
-fn all_go_on(heap: &mut ControlHeap, renewal: &mut Renewal, state: &mut u64) -> Result<(), Stop> {
-    given_room(renewal, MEANWHILE)?;
-    for _command in 0..MEANWHILE {
-        let command = drawn(state);
-        let piece = draw(state, 5) as usize;
-        let _left = goes_on(heap, renewal, command, piece)?;
-    }
-    let _none = copied(renewal, usize::MAX)?;
-    Ok(())
-}
-
 // The heap that takes the place of another, which goes on meanwhile. Both then have one graph.
 fn renewed_meanwhile(
     alloc: Global,
     heap: &mut ControlHeap,
     state: &mut u64,
 ) -> Result<ControlHeap, Stop> {
-    let mut renewal = begun(alloc, heap, LARGER)?;
-    all_go_on(heap, &mut renewal, state)?;
-    finished(renewal).ok_or(Stop::Behind)
-}
-
-fn is_renewed_meanwhile(
-    rt: &HostRuntime,
-    heap: &mut ControlHeap,
-    state: &mut u64,
-) -> Result<bool, Fail> {
-    let renewed = renewed_meanwhile(rt.alloc(), heap, state);
-    let renewed = renewed.ok().ok_or("renewed")?;
-    same(rt, heap, &renewed)
+    let picture = picture_of(alloc, heap)?;
+    let mut renewal = Renewal::of(alloc, &picture, LARGER)?;
+    renewal.make_room(MEANWHILE)?;
+    for _command in 0..MEANWHILE {
+        let command = drawn(state);
+        let piece = draw(state, 5) as usize;
+        let _left = goes_on(heap, &mut renewal, command, piece)?;
+    }
+    let _none = renewal.copy(usize::MAX)?;
+    match renewal.finish() {
+        Ok(into) => Ok(into),
+        Err(_) => Err(Stop::Behind),
+    }
 }
 
 #[test]
@@ -109,42 +97,39 @@ fn programs_go_on_while_their_heaps_are_renewed(rt: HostRuntime) -> Result<(), F
     let mut state = 11;
     for _ in 0..3 {
         let mut heap = drawn_heap(&rt, &mut state)?;
-        assert!(rt; is_renewed_meanwhile(&rt, &mut heap, &mut state)?);
+        let renewed = renewed_meanwhile(rt.alloc(), &mut heap, &mut state);
+        let renewed = renewed.ok().ok_or("renewed")?;
+        assert!(rt; same(&rt, &heap, &renewed)?);
     }
     Ok(())
 }
 
-// Whether a copy with no room has as many commands left, also after one that was answered full.
-fn stays(renewal: &mut Renewal, command: Command, left: usize) -> bool {
-    renewal.left() == left
-        && followed(renewal, command, Reply::Full(1)).is_ok()
-        && renewal.left() == left
-}
-
-// Whether a copy with room for three commands notes these, and then says that it is behind.
-fn falls_behind(
-    heap: &mut ControlHeap,
-    renewal: &mut Renewal,
-    state: &mut u64,
-) -> Result<bool, Fail> {
-    given_room(renewal, 3).ok().ok_or("room")?;
-    for noted in 0..MEANWHILE {
-        let command = drawn(state);
-        let reply = asked(heap, command).ok().ok_or("asked")?;
-        let left = renewal.left();
-        if followed(renewal, command, reply) == Err(Behind) {
-            return Ok(3 <= noted && stays(renewal, command, left));
-        }
-    }
-    Ok(false)
+fn renewal_of(rt: &HostRuntime, heap: &ControlHeap) -> Result<Renewal, Fail> {
+    let picture = picture_of(rt.alloc(), heap).ok().ok_or("picture")?;
+    let renewal = Renewal::of(rt.alloc(), &picture, LARGER).ok().ok_or("of")?;
+    Ok(renewal)
 }
 
 #[test]
 fn a_copy_that_was_left_behind_says_so(rt: HostRuntime) -> Result<(), Fail> {
     let mut state = 12;
     let mut heap = drawn_heap(&rt, &mut state)?;
-    let mut renewal = renewal_of(&rt, &heap, LARGER)?;
-    assert!(rt; falls_behind(&mut heap, &mut renewal, &mut state)?);
-    assert!(rt; finished(renewal).is_none());
+    let mut renewal = renewal_of(&rt, &heap)?;
+    renewal.make_room(3).ok().ok_or("room")?;
+    let mut noted: usize = 0;
+    for _command in 0..MEANWHILE {
+        let command = drawn(&mut state);
+        let reply = heap.ask(command).ok().ok_or("asked")?;
+        let left = renewal.left();
+        if renewal.follow(command, reply) == Err(Behind) {
+            assert_eq!(rt; renewal.left(), left);
+            assert!(rt; renewal.follow(command, Reply::Full(1)).is_ok());
+            assert_eq!(rt; renewal.left(), left);
+            break;
+        }
+        noted = noted.saturating_add(1);
+    }
+    assert!(rt; 3 <= noted && noted < MEANWHILE);
+    assert!(rt; renewal.finish().is_err());
     Ok(())
 }

@@ -1,9 +1,8 @@
 //! Heaps that are read, planned and copied in pieces, while their programs go on.
 
-use super::calls::{asked, copied, finished, followed, given_room, opened, pictured};
 use super::follow::{LARGER, MEANWHILE, Stop, goes_on};
 use super::{drawn, drawn_heap, same};
-use crate::{Reading, RenewFault, Renewal};
+use crate::{Reading, RenewFault, Renewal, picture_of};
 use block_store::OutOfMemory;
 use control_heap::ControlHeap;
 use heap_pictures::{Picture, Planning};
@@ -26,25 +25,8 @@ fn keep(kept: &mut Kept, command: Command, reply: Reply) -> Result<(), OutOfMemo
 // A command of the program, which is kept for the copy.
 fn goes_ahead(heap: &mut ControlHeap, kept: &mut Kept, state: &mut u64) -> Result<(), Stop> {
     let command = drawn(state);
-    let reply = asked(heap, command)?;
+    let reply = heap.ask(command)?;
     keep(kept, command, reply)?;
-    Ok(())
-}
-
-fn read_all(
-    alloc: Global,
-    reading: &mut Reading,
-    heap: &mut ControlHeap,
-    kept: &mut Kept,
-    state: &mut u64,
-    piece: usize,
-) -> Result<(), Stop> {
-    for _period in 0..u64::MAX {
-        if reading.step(alloc, piece)? {
-            break;
-        }
-        goes_ahead(heap, kept, state)?;
-    }
     Ok(())
 }
 
@@ -57,34 +39,13 @@ fn read_meanwhile(
     piece: usize,
 ) -> Result<Reading, Stop> {
     let mut reading = Reading::of(alloc, heap)?;
-    read_all(alloc, &mut reading, heap, kept, state, piece)?;
-    Ok(reading)
-}
-
-fn planning_of(alloc: Global, reading: Reading) -> Result<Planning, Stop> {
-    let Ok(picture) = reading.finish() else {
-        return Err(Stop::Behind);
-    };
-    if picture.objects.len() > 65_534 {
-        return Err(Stop::Renew(RenewFault::DoesNotFit));
-    }
-    Ok(Planning::of(alloc, picture))
-}
-
-fn plan_all(
-    planning: &mut Planning,
-    heap: &mut ControlHeap,
-    kept: &mut Kept,
-    state: &mut u64,
-    piece: usize,
-) -> Result<(), Stop> {
     for _period in 0..u64::MAX {
-        if planning.step(piece)? == 0 {
+        if reading.step(alloc, piece)? {
             break;
         }
         goes_ahead(heap, kept, state)?;
     }
-    Ok(())
+    Ok(reading)
 }
 
 // The commands that build what was read, `piece` turns at a time.
@@ -96,55 +57,23 @@ fn planned_meanwhile(
     piece: usize,
 ) -> Result<Vec<Command>, Stop> {
     let reading = read_meanwhile(alloc, heap, kept, state, piece)?;
-    let mut planning = planning_of(alloc, reading)?;
-    plan_all(&mut planning, heap, kept, state, piece)?;
+    let Ok(picture) = reading.finish() else {
+        return Err(Stop::Behind);
+    };
+    if picture.objects.len() > 65_534 {
+        return Err(Stop::Renew(RenewFault::DoesNotFit));
+    }
+    let mut planning = Planning::of(alloc, picture);
+    for _period in 0..u64::MAX {
+        if planning.step(piece)? == 0 {
+            break;
+        }
+        goes_ahead(heap, kept, state)?;
+    }
     planning.finish().map_err(|_| Stop::Behind)
 }
 
-fn renewal_on(spare: ControlHeap, commands: Vec<Command>) -> Option<Renewal> {
-    Renewal::on(spare, commands).ok()
-}
-
-fn follow_all(renewal: &mut Renewal, kept: &Kept) -> Result<(), Stop> {
-    given_room(renewal, kept.len())?;
-    for (command, reply) in kept.iter() {
-        followed(renewal, *command, *reply)?;
-    }
-    Ok(())
-}
-
-// A renewal on a heap that was opened before. It has noted what the program did meanwhile.
-fn begun_in_pieces(
-    alloc: Global,
-    heap: &mut ControlHeap,
-    spare: ControlHeap,
-    state: &mut u64,
-    piece: usize,
-) -> Result<Renewal, Stop> {
-    let mut kept = Vec::new(alloc);
-    let commands = planned_meanwhile(alloc, heap, &mut kept, state, piece)?;
-    let mut renewal = renewal_on(spare, commands).ok_or(Stop::Behind)?;
-    follow_all(&mut renewal, &kept)?;
-    Ok(renewal)
-}
-
-fn copy_all(
-    heap: &mut ControlHeap,
-    renewal: &mut Renewal,
-    state: &mut u64,
-    piece: usize,
-) -> Result<(), Stop> {
-    given_room(renewal, MEANWHILE)?;
-    for _period in 0..MEANWHILE {
-        if goes_on(heap, renewal, drawn(state), piece.saturating_add(1))? == 0 {
-            break;
-        }
-    }
-    let _none = copied(renewal, usize::MAX)?;
-    Ok(())
-}
-
-// The heap that takes the place of another, all in pieces.
+// The heap that takes the place of another, all in pieces, on a heap that was opened before.
 fn renewed_in_pieces(
     alloc: Global,
     heap: &mut ControlHeap,
@@ -152,21 +81,23 @@ fn renewed_in_pieces(
     state: &mut u64,
     piece: usize,
 ) -> Result<ControlHeap, Stop> {
-    let mut renewal = begun_in_pieces(alloc, heap, spare, state, piece)?;
-    copy_all(heap, &mut renewal, state, piece)?;
-    finished(renewal).ok_or(Stop::Behind)
-}
-
-fn is_renewed(
-    rt: &HostRuntime,
-    heap: &mut ControlHeap,
-    state: &mut u64,
-    piece: usize,
-) -> Result<bool, Fail> {
-    let spare = opened(rt, LARGER)?;
-    let renewed = renewed_in_pieces(rt.alloc(), heap, spare, state, piece);
-    let renewed = renewed.ok().ok_or("renewed")?;
-    same(rt, heap, &renewed)
+    let mut kept = Vec::new(alloc);
+    let commands = planned_meanwhile(alloc, heap, &mut kept, state, piece)?;
+    let Ok(mut renewal) = Renewal::on(spare, commands) else {
+        return Err(Stop::Behind);
+    };
+    renewal.make_room(kept.len())?;
+    for (command, reply) in kept {
+        renewal.follow(command, reply)?;
+    }
+    renewal.make_room(MEANWHILE)?;
+    for _period in 0..MEANWHILE {
+        if goes_on(heap, &mut renewal, drawn(state), piece.saturating_add(1))? == 0 {
+            break;
+        }
+    }
+    let _none = renewal.copy(usize::MAX)?;
+    renewal.finish().map_err(|_| Stop::Behind)
 }
 
 // Whether drawn heaps are renewed by pieces of this size.
@@ -174,7 +105,10 @@ fn are_renewed(rt: &HostRuntime, seed: u64, piece: usize) -> Result<bool, Fail> 
     let mut state = seed;
     for _heap in 0..READ {
         let mut heap = drawn_heap(rt, &mut state)?;
-        if !is_renewed(rt, &mut heap, &mut state, piece)? {
+        let spare = ControlHeap::open(rt.alloc(), LARGER).ok().ok_or("opens")?;
+        let renewed = renewed_in_pieces(rt.alloc(), &mut heap, spare, &mut state, piece);
+        let renewed = renewed.ok().ok_or("renewed")?;
+        if !same(rt, &heap, &renewed)? {
             return Ok(false);
         }
     }
@@ -206,27 +140,23 @@ fn read_by(
     reading.finish().ok().ok_or_else(|| Fail::from("finished"))
 }
 
-fn is_read(rt: &HostRuntime, heap: &mut ControlHeap, state: &mut u64) -> Result<bool, Fail> {
-    let before = pictured(rt, heap)?;
-    let read = read_by(rt, heap, state, 1)?;
-    Ok(read == before)
-}
-
 #[test]
 fn a_reading_shows_the_heap_as_it_was(rt: HostRuntime) -> Result<(), Fail> {
     let mut state = 23;
     for _heap in 0..READ {
         let mut heap = drawn_heap(&rt, &mut state)?;
-        assert!(rt; is_read(&rt, &mut heap, &mut state)?);
+        let before = picture_of(rt.alloc(), &heap).ok().ok_or("picture")?;
+        let read = read_by(&rt, &mut heap, &mut state, 1)?;
+        assert!(rt; read == before);
     }
     Ok(())
 }
 
 #[test]
 fn a_heap_that_was_used_takes_no_renewal(rt: HostRuntime) -> Result<(), Fail> {
-    let mut heap = opened(&rt, LARGER)?;
-    let _reply = asked(&mut heap, Command::Nil { d: 1 }).ok().ok_or("asked")?;
+    let mut heap = ControlHeap::open(rt.alloc(), LARGER).ok().ok_or("opens")?;
+    let _reply = heap.ask(Command::Nil { d: 1 }).ok().ok_or("asked")?;
     let none = Vec::new(rt.alloc());
-    assert!(rt; renewal_on(heap, none).is_none());
+    assert!(rt; Renewal::on(heap, none).is_err());
     Ok(())
 }
