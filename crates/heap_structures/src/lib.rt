@@ -5,6 +5,8 @@
 mod alarm_tests;
 mod alarms;
 mod cells;
+#[cfg(test)]
+mod example_tests;
 mod laws;
 mod map;
 #[cfg(test)]
