@@ -4,5 +4,5 @@ pub mod Moves
 pub mod AlarmCounts
 pub mod Rings
 pub mod Takes
-pub mod TextLaws
-pub mod ReportSoFar
+pub mod LongLines
+pub mod ReportLaws
