@@ -63,7 +63,25 @@ impl Local {
         ensures stands { C.stands memory.new shared.now self.new }
         ensures run { HasRunOn C.acts shared.now memory.old self.old memory.new self.new result }
     {
-        self.run(memory, shared)
+        self.run_whole(memory, shared)
+    }
+
+    // `run`, as memories of several threads have it: the compiler makes fewer instructions of this
+    // for them, and of `run` for a heap of one thread.
+    #[inline(always)]
+    fn run_whole<M: Memory>(&mut self, memory: &mut M, shared: &M::Shared) -> Turn
+        requires open { is_done self.old ≡ false }
+        requires may { MayRun M.may M.acts longest memory.old shared.now self.old }
+        ensures { HasRunOn M.acts shared.now memory.old self.old memory.new self.new result }
+    {
+        match self.row {
+            Row::Mark(_) => self.marks(memory, shared, LONGEST),
+            Row::Sweep { .. } => self.sweeps(memory, shared, LONGEST),
+            Row::Serve => self.serves_on(memory, shared),
+            Row::Build => self.builds_on(memory, shared),
+            Row::Rest => self.at_once(memory, shared),
+            _ => self.event(memory, shared),
+        }
     }
 
     /// Makes events as `events` does, on any memory that may make 64 of them one after the other.
