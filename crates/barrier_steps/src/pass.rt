@@ -20,6 +20,8 @@ ghost use Rattle.barrier_steps.specs.Rows;
 ghost use Rattle.barrier_steps.specs.Rows.{at_first_row, register_place, field_want, field_got, field_step, field_decided, field_reply};
 ghost use Rattle.barrier_steps.specs.Fits.{IsThread, IsWalk, StoreFits, WantedFits, FitsAt, ReadsAt, FieldFits, FieldReads};
 
+mod rows_known;
+
 use crate::operands::{
     constant_word, expected_register, field_index, from_register, other_register, to_register,
 };
@@ -403,6 +405,7 @@ fn link(places: &Places, command: Command, way: TreePath) -> usize
 }
 
 // The place of that field, at its block.
+#[inline(always)]
 fn field(places: &Places, command: Command, way: TreePath) -> usize
     requires walk { IsWalk places.now (operands.field_index command) way }
     ensures { result
@@ -514,7 +517,7 @@ impl FieldPass {
             LoadField { way } => Op::load(field(places, command, way)),
             LoadOwner { word } => Op::load(places.owner(target(word))),
             Shade { shade, .. } => GreyPass::at_row(self.pass, shade).want(places),
-            Store { store } => self.stores(places, store),
+            Store { store } => self.store_of(places, store),
             StoreConstant => self.store(places, constant_word(command)),
             IdleLook | Answered { .. } => Op::load(places.phase()),
         }
@@ -522,7 +525,7 @@ impl FieldPass {
 
     // The store of a word that was loaded.
     #[inline(always)]
-    fn stores(&self, places: &Places, store: FieldStore) -> Op
+    fn store_of(&self, places: &Places, store: FieldStore) -> Op
         requires thread { IsThread places.now self.now.pass.thread }
         requires command { IsCommandInRange self.now.command }
         requires fits { StoreFits places.now self.now.command store }

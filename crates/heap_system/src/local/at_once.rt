@@ -201,7 +201,14 @@ impl Local {
         match wanted {
             Purpose::Object => self.object(pass, command, places, memory, shared),
             Purpose::First => self.both(pass, command, places, memory, shared),
-            wanted => self.register(pass, command, wanted, places, memory, shared),
+            Purpose::Copied => {
+                self.register(pass, command, Purpose::Copied, places, memory, shared)
+            }
+            Purpose::Shown => self.register(pass, command, Purpose::Shown, places, memory, shared),
+            wanted => {
+                let row = FieldRow::LoadRegister { wanted };
+                self.ends(pass, command, row, places, memory, shared)
+            }
         }
     }
 
@@ -224,10 +231,8 @@ impl Local {
             (come_to self.old pass (FieldRow.LoadRegister Purpose.First))
             memory.new self.new result }
     {
-        let row = FieldRow::LoadRegister {
-            wanted: Purpose::First,
-        };
-        match FieldPass::event_at(pass, command, row, places, memory, shared) {
+        let wanted = Purpose::First;
+        match FieldPass::loads_register(pass, command, wanted, places, memory, shared) {
             FieldRow::LoadRegister { wanted } => {
                 self.register(pass, command, wanted, places, memory, shared)
             }
@@ -254,8 +259,7 @@ impl Local {
         ensures { HasRunUpTo 3 M.acts shared.now memory.old
             (come_to self.old pass (FieldRow.LoadRegister wanted)) memory.new self.new result }
     {
-        let row = FieldRow::LoadRegister { wanted };
-        match FieldPass::event_at(pass, command, row, places, memory, shared) {
+        match FieldPass::loads_register(pass, command, wanted, places, memory, shared) {
             FieldRow::Store { store } => self.store(pass, command, store, places, memory, shared),
             row => self.ends(pass, command, row, places, memory, shared),
         }
@@ -280,8 +284,7 @@ impl Local {
         ensures { HasRunUpTo 5 M.acts shared.now memory.old
             (come_to self.old pass (FieldRow.LoadShape block)) memory.new self.new result }
     {
-        let row = FieldRow::LoadShape { block };
-        match FieldPass::event_at(pass, command, row, places, memory, shared) {
+        match FieldPass::loads_shape(pass, command, block, places, memory, shared) {
             FieldRow::LoadField { way } => self.field(pass, command, way, places, memory, shared),
             FieldRow::LoadRegister { wanted } => {
                 self.register(pass, command, wanted, places, memory, shared)
@@ -309,14 +312,7 @@ impl Local {
         ensures { HasRunUpTo 2 M.acts shared.now memory.old
             (come_to self.old pass (FieldRow.StoreConstant)) memory.new self.new result }
     {
-        let row = FieldPass::event_at(
-            pass,
-            command,
-            FieldRow::StoreConstant,
-            places,
-            memory,
-            shared,
-        );
+        let row = FieldPass::stores_constant(pass, command, places, memory, shared);
         self.ends(pass, command, row, places, memory, shared)
     }
 
@@ -340,10 +336,8 @@ impl Local {
             (come_to self.old pass (FieldRow.LoadRegister Purpose.Object))
             memory.new self.new result }
     {
-        let row = FieldRow::LoadRegister {
-            wanted: Purpose::Object,
-        };
-        match FieldPass::event_at(pass, command, row, places, memory, shared) {
+        let wanted = Purpose::Object;
+        match FieldPass::loads_register(pass, command, wanted, places, memory, shared) {
             FieldRow::LoadShape { block } => self.shape(
                 pass, command, block, places, memory, shared,
             ),
@@ -371,8 +365,7 @@ impl Local {
         ensures { HasRunUpTo 4 M.acts shared.now memory.old
             (come_to self.old pass (FieldRow.LoadField way)) memory.new self.new result }
     {
-        let row = FieldRow::LoadField { way };
-        match FieldPass::event_at(pass, command, row, places, memory, shared) {
+        match FieldPass::loads_field(pass, command, way, places, memory, shared) {
             FieldRow::Store { store } => self.store(pass, command, store, places, memory, shared),
             FieldRow::LoadOwner { word } => self.owner(pass, command, word, places, memory, shared),
             row => self.ends(pass, command, row, places, memory, shared),
@@ -399,8 +392,7 @@ impl Local {
         ensures { HasRunUpTo 3 M.acts shared.now memory.old
             (come_to self.old pass (FieldRow.LoadOwner word)) memory.new self.new result }
     {
-        let row = FieldRow::LoadOwner { word };
-        match FieldPass::event_at(pass, command, row, places, memory, shared) {
+        match FieldPass::loads_owner(pass, command, word, places, memory, shared) {
             FieldRow::Store { store } => self.store(pass, command, store, places, memory, shared),
             row => self.ends(pass, command, row, places, memory, shared),
         }
@@ -426,14 +418,7 @@ impl Local {
         ensures { HasRunUpTo 2 M.acts shared.now memory.old
             (come_to self.old pass (FieldRow.Store store)) memory.new self.new result }
     {
-        let row = FieldPass::event_at(
-            pass,
-            command,
-            FieldRow::Store { store },
-            places,
-            memory,
-            shared,
-        );
+        let row = FieldPass::stores(pass, command, store, places, memory, shared);
         self.ends(pass, command, row, places, memory, shared)
     }
 
@@ -498,7 +483,7 @@ impl Local {
     }
 
     // It is at this row of its command: other code makes the rest.
-    #[inline(never)]
+    #[inline(always)]
     fn is_at(&mut self, pass: Pass, command: Command, row: FieldRow)
         requires goes { GoesIn self.old pass command }
         requires fits { FitsAt self.old.config pass command row }

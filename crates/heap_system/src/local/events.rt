@@ -156,7 +156,7 @@ impl Local {
     // `event`, of a part outside.
     #[inline(always)]
     #[tactic(auto, using(crate::proofs::OwedAndPaid::turns_on, crate::proofs::OwedAndPaid::going_at))]
-    fn at_gate<M: Memory>(&mut self, memory: &mut M, shared: &M::Shared) -> Turn
+    pub(super) fn at_gate<M: Memory>(&mut self, memory: &mut M, shared: &M::Shared) -> Turn
         requires part { is_at_gate self.old.part ≡ true }
         requires open { is_done self.old ≡ false }
         requires may { M.may memory.old shared.now (op_wanted self.old) }
@@ -270,7 +270,7 @@ impl Local {
 
     // `event`, of a part on its way out.
     #[inline(always)]
-    fn out<M: Memory>(&mut self, memory: &mut M, shared: &M::Shared) -> Turn
+    pub(super) fn out<M: Memory>(&mut self, memory: &mut M, shared: &M::Shared) -> Turn
         requires part { is_on_way_out self.old.part ≡ true }
         requires may { M.may memory.old shared.now (op_wanted self.old) }
         ensures { ActsOnce M.acts memory.old shared.now (op_wanted self.old) memory.new

@@ -4,7 +4,7 @@ ghost use Rattle.std.specs.Prelude.{◌≡◌, ◌<◌, true, false, if◌then�
 ghost use Rattle.sweep_steps.specs.Rows.{sweep_nothing};
 ghost use Rattle.heap_system.specs.declared.rows.Row.TheVariants as rows;
 ghost use Rattle.heap_system.specs.ThreadMemories.{HasRunIn, HasRunOn, MayRun, goes_on, has_waited, longest};
-ghost use Rattle.heap_system.specs.Locals.{is_build, is_done, is_last, is_marking, is_serving, is_sweeping};
+ghost use Rattle.heap_system.specs.Locals.{is_at_gate, is_build, is_done, is_last, is_marking, is_on_way_out, is_serving, is_sweeping};
 
 use super::Local;
 use super::events::{after_pass, is_last, turn_after};
@@ -63,7 +63,25 @@ impl Local {
         ensures stands { C.stands memory.new shared.now self.new }
         ensures run { HasRunOn C.acts shared.now memory.old self.old memory.new self.new result }
     {
-        self.run(memory, shared)
+        self.run_whole(memory, shared)
+    }
+
+    // `run`, as memories of several threads have it: the compiler makes fewer instructions of this
+    // for them, and of `run` for a heap of one thread.
+    #[inline(always)]
+    fn run_whole<M: Memory>(&mut self, memory: &mut M, shared: &M::Shared) -> Turn
+        requires open { is_done self.old ≡ false }
+        requires may { MayRun M.may M.acts longest memory.old shared.now self.old }
+        ensures { HasRunOn M.acts shared.now memory.old self.old memory.new self.new result }
+    {
+        match self.row {
+            Row::Mark(_) => self.marks(memory, shared, LONGEST),
+            Row::Sweep { .. } => self.sweeps(memory, shared, LONGEST),
+            Row::Serve => self.serves_on(memory, shared),
+            Row::Build => self.builds_on(memory, shared),
+            Row::Rest => self.at_once(memory, shared),
+            _ => self.event(memory, shared),
+        }
     }
 
     /// Makes events as `events` does, on any memory that may make 64 of them one after the other.
@@ -79,8 +97,37 @@ impl Local {
             Row::Serve => self.serves_on(memory, shared),
             Row::Build => self.builds_on(memory, shared),
             Row::Rest => self.at_once(memory, shared),
-            _ => self.event(memory, shared),
+            Row::Look => self.at_gate_once(memory, shared),
+            Row::Enter { .. } => self.at_gate_once(memory, shared),
+            Row::PhaseChange => self.at_gate_once(memory, shared),
+            Row::Retry => self.out_once(memory, shared),
+            Row::ToChange => self.out_once(memory, shared),
+            Row::Leave => self.out_once(memory, shared),
         }
+    }
+
+    // Makes one event, of a part outside.
+    #[inline(always)]
+    fn at_gate_once<M: Memory>(&mut self, memory: &mut M, shared: &M::Shared) -> Turn
+        requires part { is_at_gate self.old.part ≡ true }
+        requires open { is_done self.old ≡ false }
+        requires may { MayRun M.may M.acts longest memory.old shared.now self.old }
+        ensures { HasRunOn M.acts shared.now memory.old self.old memory.new self.new result }
+    {
+        self.wants_a_word();
+        self.at_gate(memory, shared)
+    }
+
+    // Makes one event, of a part on its way out.
+    #[inline(always)]
+    fn out_once<M: Memory>(&mut self, memory: &mut M, shared: &M::Shared) -> Turn
+        requires part { is_on_way_out self.old.part ≡ true }
+        requires open { is_done self.old ≡ false }
+        requires may { MayRun M.may M.acts longest memory.old shared.now self.old }
+        ensures { HasRunOn M.acts shared.now memory.old self.old memory.new self.new result }
+    {
+        self.wants_a_word();
+        self.out(memory, shared)
     }
 
     // Makes events of a part that marks, `most` at most.

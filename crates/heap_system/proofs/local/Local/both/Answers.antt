@@ -9,29 +9,29 @@ register-requires-clause-may g c =
     may_on g.M.Memory.may g.M.Memory.acts c.args.shared.now c.args.self.now c.args.pass c.args.places.now
     c.requires.places c.args.command c.requires.goes.command (FieldRow.LoadRegister Purpose.First) c.requires.fits refl 3
     c.args.memory.now c.requires.may
-    c.event_at.ensures.acted.0 c.event_at.new.memory c.event_at.ensures.acted.1 (FieldRow.LoadRegister c.in-LoadRegister.wanted)
-    (sym c.in-LoadRegister.is ∙ c.event_at.ensures.acted.2) 3 (omega arith)
+    c.loads_register.ensures.acted.0 c.loads_register.new.memory c.loads_register.ensures.acted.1 (FieldRow.LoadRegister c.in-LoadRegister.wanted)
+    (sym c.in-LoadRegister.is ∙ c.loads_register.ensures.acted.2) 3 (omega arith)
 
 pub returns-in-LoadRegister : goal.returns-in-LoadRegister
 returns-in-LoadRegister g c =
     run_on g.M.Memory.may g.M.Memory.acts c.args.shared.now c.args.self.now c.args.pass c.args.places.now
     c.requires.places c.args.command c.requires.goes.command (FieldRow.LoadRegister Purpose.First) c.requires.fits refl 3
     c.args.memory.now c.requires.may
-    c.event_at.ensures.acted.0 c.event_at.new.memory c.event_at.ensures.acted.1 (FieldRow.LoadRegister c.in-LoadRegister.wanted)
-    (sym c.in-LoadRegister.is ∙ c.event_at.ensures.acted.2) 3 (omega arith) c.register.new.memory c.register.new.self c.register.result c.register.ensures
+    c.loads_register.ensures.acted.0 c.loads_register.new.memory c.loads_register.ensures.acted.1 (FieldRow.LoadRegister c.in-LoadRegister.wanted)
+    (sym c.in-LoadRegister.is ∙ c.loads_register.ensures.acted.2) 3 (omega arith) c.register.new.memory c.register.new.self c.register.result c.register.ensures
 
 pub ends-requires-clause-may : goal.ends-requires-clause-may
 ends-requires-clause-may g c =
     may_on g.M.Memory.may g.M.Memory.acts c.args.shared.now c.args.self.now c.args.pass c.args.places.now
     c.requires.places c.args.command c.requires.goes.command (FieldRow.LoadRegister Purpose.First) c.requires.fits refl 3
     c.args.memory.now c.requires.may
-    c.event_at.ensures.acted.0 c.event_at.new.memory c.event_at.ensures.acted.1 (c.event_at.result)
-    (c.event_at.ensures.acted.2) 1 (omega arith)
+    c.loads_register.ensures.acted.0 c.loads_register.new.memory c.loads_register.ensures.acted.1 (c.loads_register.result)
+    (c.loads_register.ensures.acted.2) 1 (omega arith)
 
 pub returns-in_default : goal.returns-in_default
 returns-in_default g c =
     run_on g.M.Memory.may g.M.Memory.acts c.args.shared.now c.args.self.now c.args.pass c.args.places.now
     c.requires.places c.args.command c.requires.goes.command (FieldRow.LoadRegister Purpose.First) c.requires.fits refl 3
     c.args.memory.now c.requires.may
-    c.event_at.ensures.acted.0 c.event_at.new.memory c.event_at.ensures.acted.1 (c.event_at.result)
-    (c.event_at.ensures.acted.2) 1 (omega arith) c.ends.new.memory c.ends.new.self c.ends.result c.ends.ensures
+    c.loads_register.ensures.acted.0 c.loads_register.new.memory c.loads_register.ensures.acted.1 (c.loads_register.result)
+    (c.loads_register.ensures.acted.2) 1 (omega arith) c.ends.new.memory c.ends.new.self c.ends.result c.ends.ensures

@@ -8,13 +8,13 @@ ends-requires-clause-may g c =
     may_on g.M.Memory.may g.M.Memory.acts c.args.shared.now c.args.self.now c.args.pass c.args.places.now
     c.requires.places c.args.command c.requires.goes.command (FieldRow.StoreConstant) c.requires.fits refl 1
     c.args.memory.now c.requires.may
-    c.event_at-row.ensures.acted.0 c.event_at-row.new.memory c.event_at-row.ensures.acted.1 (c.event_at-row.result)
-    (c.event_at-row.ensures.acted.2) 1 (omega arith)
+    c.stores_constant-row.ensures.acted.0 c.stores_constant-row.new.memory c.stores_constant-row.ensures.acted.1 (c.stores_constant-row.result)
+    (c.stores_constant-row.ensures.acted.2) 1 (omega arith)
 
 pub returns : goal.returns
 returns g c =
     run_on g.M.Memory.may g.M.Memory.acts c.args.shared.now c.args.self.now c.args.pass c.args.places.now
     c.requires.places c.args.command c.requires.goes.command (FieldRow.StoreConstant) c.requires.fits refl 1
     c.args.memory.now c.requires.may
-    c.event_at-row.ensures.acted.0 c.event_at-row.new.memory c.event_at-row.ensures.acted.1 (c.event_at-row.result)
-    (c.event_at-row.ensures.acted.2) 1 (omega arith) c.ends.new.memory c.ends.new.self c.ends.result c.ends.ensures
+    c.stores_constant-row.ensures.acted.0 c.stores_constant-row.new.memory c.stores_constant-row.ensures.acted.1 (c.stores_constant-row.result)
+    (c.stores_constant-row.ensures.acted.2) 1 (omega arith) c.ends.new.memory c.ends.new.self c.ends.result c.ends.ensures

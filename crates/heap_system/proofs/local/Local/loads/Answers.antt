@@ -26,13 +26,25 @@ returns-in-First g c =
     (ap (λ x. FieldRow.LoadRegister x) c.in-First.is) 4 6 (omega arith)
     c.both.new.memory c.both.new.self c.both.result c.both.ensures
 
-pub register-requires-clause-may : goal.register-requires-clause-may
-register-requires-clause-may g c =
+pub returns-in-Copied : goal.returns-in-Copied
+returns-in-Copied g c =
+    run_from g.M.Memory.acts c.args.shared.now c.args.memory.now c.args.self.now c.args.pass (FieldRow.LoadRegister c.args.wanted) (FieldRow.LoadRegister Purpose.Copied)
+    (ap (λ x. FieldRow.LoadRegister x) c.in-Copied.is) 3 6 (omega arith)
+    c.register.new.memory c.register.new.self c.register.result c.register.ensures
+
+pub returns-in-Shown : goal.returns-in-Shown
+returns-in-Shown g c =
+    run_from g.M.Memory.acts c.args.shared.now c.args.memory.now c.args.self.now c.args.pass (FieldRow.LoadRegister c.args.wanted) (FieldRow.LoadRegister Purpose.Shown)
+    (ap (λ x. FieldRow.LoadRegister x) c.in-Shown.is) 3 6 (omega arith)
+    c.register-in-Shown.new.memory c.register-in-Shown.new.self c.register-in-Shown.result c.register-in-Shown.ensures
+
+pub ends-requires-clause-may : goal.ends-requires-clause-may
+ends-requires-clause-may g c =
     may_from g.M.Memory.acts c.args.shared.now c.args.memory.now c.args.self.now c.args.pass (FieldRow.LoadRegister c.args.wanted) (FieldRow.LoadRegister c.args.wanted)
-    (refl) 3 6 (omega arith) g.M.Memory.may c.requires.may
+    (refl) 1 6 (omega arith) g.M.Memory.may c.requires.may
 
 pub returns-in_default : goal.returns-in_default
 returns-in_default g c =
     run_from g.M.Memory.acts c.args.shared.now c.args.memory.now c.args.self.now c.args.pass (FieldRow.LoadRegister c.args.wanted) (FieldRow.LoadRegister c.args.wanted)
-    (refl) 3 6 (omega arith)
-    c.register.new.memory c.register.new.self c.register.result c.register.ensures
+    (refl) 1 6 (omega arith)
+    c.ends.new.memory c.ends.new.self c.ends.result c.ends.ensures

@@ -9,29 +9,29 @@ shape-requires-clause-may g c =
     may_on g.M.Memory.may g.M.Memory.acts c.args.shared.now c.args.self.now c.args.pass c.args.places.now
     c.requires.places c.args.command c.requires.goes.command (FieldRow.LoadRegister Purpose.Object) c.requires.fits refl 5
     c.args.memory.now c.requires.may
-    c.event_at.ensures.acted.0 c.event_at.new.memory c.event_at.ensures.acted.1 (FieldRow.LoadShape c.in-LoadShape.block)
-    (sym c.in-LoadShape.is ∙ c.event_at.ensures.acted.2) 5 (omega arith)
+    c.loads_register.ensures.acted.0 c.loads_register.new.memory c.loads_register.ensures.acted.1 (FieldRow.LoadShape c.in-LoadShape.block)
+    (sym c.in-LoadShape.is ∙ c.loads_register.ensures.acted.2) 5 (omega arith)
 
 pub returns-in-LoadShape : goal.returns-in-LoadShape
 returns-in-LoadShape g c =
     run_on g.M.Memory.may g.M.Memory.acts c.args.shared.now c.args.self.now c.args.pass c.args.places.now
     c.requires.places c.args.command c.requires.goes.command (FieldRow.LoadRegister Purpose.Object) c.requires.fits refl 5
     c.args.memory.now c.requires.may
-    c.event_at.ensures.acted.0 c.event_at.new.memory c.event_at.ensures.acted.1 (FieldRow.LoadShape c.in-LoadShape.block)
-    (sym c.in-LoadShape.is ∙ c.event_at.ensures.acted.2) 5 (omega arith) c.shape.new.memory c.shape.new.self c.shape.result c.shape.ensures
+    c.loads_register.ensures.acted.0 c.loads_register.new.memory c.loads_register.ensures.acted.1 (FieldRow.LoadShape c.in-LoadShape.block)
+    (sym c.in-LoadShape.is ∙ c.loads_register.ensures.acted.2) 5 (omega arith) c.shape.new.memory c.shape.new.self c.shape.result c.shape.ensures
 
 pub ends-requires-clause-may : goal.ends-requires-clause-may
 ends-requires-clause-may g c =
     may_on g.M.Memory.may g.M.Memory.acts c.args.shared.now c.args.self.now c.args.pass c.args.places.now
     c.requires.places c.args.command c.requires.goes.command (FieldRow.LoadRegister Purpose.Object) c.requires.fits refl 5
     c.args.memory.now c.requires.may
-    c.event_at.ensures.acted.0 c.event_at.new.memory c.event_at.ensures.acted.1 (c.event_at.result)
-    (c.event_at.ensures.acted.2) 1 (omega arith)
+    c.loads_register.ensures.acted.0 c.loads_register.new.memory c.loads_register.ensures.acted.1 (c.loads_register.result)
+    (c.loads_register.ensures.acted.2) 1 (omega arith)
 
 pub returns-in_default : goal.returns-in_default
 returns-in_default g c =
     run_on g.M.Memory.may g.M.Memory.acts c.args.shared.now c.args.self.now c.args.pass c.args.places.now
     c.requires.places c.args.command c.requires.goes.command (FieldRow.LoadRegister Purpose.Object) c.requires.fits refl 5
     c.args.memory.now c.requires.may
-    c.event_at.ensures.acted.0 c.event_at.new.memory c.event_at.ensures.acted.1 (c.event_at.result)
-    (c.event_at.ensures.acted.2) 1 (omega arith) c.ends.new.memory c.ends.new.self c.ends.result c.ends.ensures
+    c.loads_register.ensures.acted.0 c.loads_register.new.memory c.loads_register.ensures.acted.1 (c.loads_register.result)
+    (c.loads_register.ensures.acted.2) 1 (omega arith) c.ends.new.memory c.ends.new.self c.ends.result c.ends.ensures

@@ -8,35 +8,35 @@ store-requires-clause-may g c =
     may_on g.M.Memory.may g.M.Memory.acts c.args.shared.now c.args.self.now c.args.pass c.args.places.now
     c.requires.places c.args.command c.requires.goes.command (FieldRow.LoadRegister c.args.wanted) c.requires.fits refl 2
     c.args.memory.now c.requires.may
-    c.event_at.ensures.acted.0 c.event_at.new.memory c.event_at.ensures.acted.1 (FieldRow.Store c.in-Store.store)
-    (sym c.in-Store.is ∙ c.event_at.ensures.acted.2) 2 (omega arith)
+    c.loads_register.ensures.acted.0 c.loads_register.new.memory c.loads_register.ensures.acted.1 (FieldRow.Store c.in-Store.store)
+    (sym c.in-Store.is ∙ c.loads_register.ensures.acted.2) 2 (omega arith)
 
 pub returns-in-Store : goal.returns-in-Store
 returns-in-Store g c =
     run_on g.M.Memory.may g.M.Memory.acts c.args.shared.now c.args.self.now c.args.pass c.args.places.now
     c.requires.places c.args.command c.requires.goes.command (FieldRow.LoadRegister c.args.wanted) c.requires.fits refl 2
     c.args.memory.now c.requires.may
-    c.event_at.ensures.acted.0 c.event_at.new.memory c.event_at.ensures.acted.1 (FieldRow.Store c.in-Store.store)
-    (sym c.in-Store.is ∙ c.event_at.ensures.acted.2) 2 (omega arith) c.store.new.memory c.store.new.self c.store.result c.store.ensures
+    c.loads_register.ensures.acted.0 c.loads_register.new.memory c.loads_register.ensures.acted.1 (FieldRow.Store c.in-Store.store)
+    (sym c.in-Store.is ∙ c.loads_register.ensures.acted.2) 2 (omega arith) c.store.new.memory c.store.new.self c.store.result c.store.ensures
 
 pub ends-requires-clause-may : goal.ends-requires-clause-may
 ends-requires-clause-may g c =
     may_on g.M.Memory.may g.M.Memory.acts c.args.shared.now c.args.self.now c.args.pass c.args.places.now
     c.requires.places c.args.command c.requires.goes.command (FieldRow.LoadRegister c.args.wanted) c.requires.fits refl 2
     c.args.memory.now c.requires.may
-    c.event_at.ensures.acted.0 c.event_at.new.memory c.event_at.ensures.acted.1 (c.event_at.result)
-    (c.event_at.ensures.acted.2) 1 (omega arith)
+    c.loads_register.ensures.acted.0 c.loads_register.new.memory c.loads_register.ensures.acted.1 (c.loads_register.result)
+    (c.loads_register.ensures.acted.2) 1 (omega arith)
 
 pub returns-in_default : goal.returns-in_default
 returns-in_default g c =
     run_on g.M.Memory.may g.M.Memory.acts c.args.shared.now c.args.self.now c.args.pass c.args.places.now
     c.requires.places c.args.command c.requires.goes.command (FieldRow.LoadRegister c.args.wanted) c.requires.fits refl 2
     c.args.memory.now c.requires.may
-    c.event_at.ensures.acted.0 c.event_at.new.memory c.event_at.ensures.acted.1 (c.event_at.result)
-    (c.event_at.ensures.acted.2) 1 (omega arith) c.ends.new.memory c.ends.new.self c.ends.result c.ends.ensures
+    c.loads_register.ensures.acted.0 c.loads_register.new.memory c.loads_register.ensures.acted.1 (c.loads_register.result)
+    (c.loads_register.ensures.acted.2) 1 (omega arith) c.ends.new.memory c.ends.new.self c.ends.result c.ends.ensures
 
-pub event_at-requires-clause-reads : goal.event_at-requires-clause-reads
-event_at-requires-clause-reads g c =
+pub loads_register-requires-clause-reads : goal.loads_register-requires-clause-reads
+loads_register-requires-clause-reads g c =
     reads_well g.M.Memory.may g.M.Memory.acts c.args.shared.now c.args.self.now c.args.pass c.args.places.now
     c.requires.places c.args.command c.requires.goes.command (FieldRow.LoadRegister c.args.wanted) c.requires.fits refl 2
     c.args.memory.now c.requires.may

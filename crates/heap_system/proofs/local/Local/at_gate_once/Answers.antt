@@ -1,0 +1,19 @@
+use Rattle.std.proofs.Common.{[], refl, arith}
+use Rattle.heap_system.specs.ThreadMemories.{longest}
+use Rattle.heap_system.proofs.Runs.{leads_at, run_more}
+use Rattle.heap_system.proofs.local.Local.at_gate_once.Goals as goal
+
+pub at_gate-requires : goal.at_gate-requires
+at_gate-requires g c =
+    let lead = leads_at g.M.Memory.may g.M.Memory.acts longest 0 (omega arith) c.args.memory.now c.args.shared.now
+    c.args.self.now c.requires.may (c.requires.«open», c.wants_a_word.ensures) in
+    record { part = c.requires.part; «open» = c.requires.«open»; may = lead.allowed; reads = lead.reads }
+
+pub returns : goal.returns
+returns g c =
+    let acted = c.at_gate.ensures in
+    let lead = leads_at g.M.Memory.may g.M.Memory.acts longest 0 (omega arith) c.args.memory.now c.args.shared.now
+    c.args.self.now c.requires.may (c.requires.«open», c.wants_a_word.ensures) in
+    let more = run_more g.M.Memory.acts c.args.shared.now c.args.memory.now c.args.self.now c.args.memory.now c.args.self.now acted.0 c.at_gate.new.memory c.at_gate.new.self c.at_gate.result
+    (record { words = []; ran = (refl, refl); told = refl }) acted.1 (lead.reads acted.0 c.at_gate.new.memory acted.1) (c.requires.«open», c.wants_a_word.ensures) acted.2.0 acted.2.1 in
+    (more.0, omega (arith, more.1), omega (arith, more.1))
