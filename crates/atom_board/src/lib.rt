@@ -8,8 +8,6 @@ mod laws;
 mod mutator;
 mod port;
 mod rules;
-#[cfg(test)]
-mod tests;
 
 pub use board::AtomBoard;
 pub use closed::Closed;

@@ -43,3 +43,4 @@ pub mod CycleCounts
 pub mod OncePerCycle
 pub mod alone
 pub mod OrderKept
+pub mod LoggedTraces

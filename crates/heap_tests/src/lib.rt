@@ -1,16 +1,24 @@
-//! Tests of `heap_system`: whole heaps, run turn by turn.
+//! Tests of `heap_system` and of what runs it: whole heaps, by turns and on threads.
 #![tactic(auto)]
 
 #[cfg(test)]
+mod drawing;
+#[cfg(test)]
 mod drawn;
+#[cfg(test)]
+mod judging;
 #[cfg(test)]
 mod lone;
 #[cfg(test)]
 mod ordered;
 #[cfg(test)]
-mod schedules;
+mod replays;
 #[cfg(test)]
 mod tests;
+#[cfg(test)]
+mod threads;
+#[cfg(test)]
+mod three_threads;
 mod traces;
 #[cfg(test)]
 mod ways;

@@ -3,4 +3,3 @@ pub mod SameTurns
 pub mod LeftTurns
 pub mod Runs
 pub mod ReplayEnds
-pub mod Drawn

@@ -1,14 +1,8 @@
 //! Replays of a job: a schedule says which thread has each turn.
 #![tactic(auto)]
 
-#[cfg(test)]
-mod drawing;
-#[cfg(test)]
-mod judging;
 mod laws;
 mod replaying;
-#[cfg(test)]
-mod tests;
 
 pub use laws::{
     replays_are_runs, replays_end, replays_have_one_order, replays_stop, serial_replays_go_on,

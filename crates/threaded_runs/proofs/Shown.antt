@@ -1,7 +1,7 @@
 -- What an ended run shows.
 use Rattle.std.proofs.Common.{ℕ, ◌-◌, ◌*◌, ◌≡◌, ◌≤◌, List, map, refl, sym, ◌∙◌, subst}
 use Rattle.atom_board.specs.Mutators.{ClosedState, MutatorState, IsFinishedBy}
-pub use Rattle.board_jobs.proofs.LoggedTraces.{traces_logged}
+pub use Rattle.heap_system.proofs.LoggedTraces.{traces_logged}
 use Rattle.block_store.specs.declared.Config.{Config}
 use Rattle.never_heap.specs.declared.Command.{Command}
 use Rattle.never_heap.specs.declared.Entry.{Entry}
