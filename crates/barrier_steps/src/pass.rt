@@ -707,33 +707,6 @@ impl FieldPass {
         step_at(next)
     }
 
-    /// One event of a command at this row, as `event` makes it: the answer is the row after it.
-    /// The caller keeps the row, so a caller that knows its kind needs no choice.
-    #[inline(always)]
-    pub fn event_at<M: Memory>(
-        pass: Pass,
-        command: Command,
-        row: FieldRow,
-        places: &Places,
-        memory: &mut M,
-        shared: &M::Shared,
-    ) -> FieldRow
-        requires fits { FitsAt places.now pass command row }
-        requires may { M.may memory.old shared.now
-            (op_at (extent places.now) (Rows.row_want (extent places.now) pass command row)) }
-        requires reads { ReadsOnly M.acts memory.old shared.now
-            (op_at (extent places.now) (Rows.row_want (extent places.now) pass command row))
-            (ReadsAt places.now pass command row) }
-        ensures acted { ActsOnce M.acts memory.old shared.now
-            (op_at (extent places.now) (Rows.row_want (extent places.now) pass command row))
-            memory.new (λ w. result ≡ Rows.row_got (extent places.now) pass command row w) }
-        ensures fits { FitsAt places.now pass command result }
-    {
-        let part = FieldPass { pass, command, row };
-        let word = memory.act(shared, &part.operation(places, row));
-        part.after(places, row, word)
-    }
-
     /// Whether the command is past its linearization point.
     pub fn decided(&self) -> bool
         ensures { result ≡ field_decided self.now.row }

@@ -1,7 +1,0 @@
-use Rattle.std.proofs.Common.{refl, rules}
-use Rattle.barrier_steps.proofs.FieldRows.{moved_fits}
-use Rattle.barrier_steps.proofs.pass.FieldPass.event_at.Goals as goal
-
-pub returns-clause-fits : goal.returns-clause-fits
-returns-clause-fits g c =
-    moved_fits c.args.places.now c.args.pass c.args.command c.args.row c.after.result (record { pass = c.args.pass; command = c.args.command; row = c.args.row }) c.act-word.result refl (search rules) c.requires.fits (c.requires.reads c.act-word.result c.act-word.new.self (search rules))
