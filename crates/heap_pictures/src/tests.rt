@@ -36,23 +36,45 @@ fn drawn_values(rt: &HostRuntime, state: &mut u64, n: u64, count: u64) -> Result
     Ok(values)
 }
 
-fn drawn_picture(rt: &HostRuntime, state: &mut u64) -> Result<Picture, Fail> {
-    let count = draw(state, 9).saturating_add(1);
+fn drawn_item(rt: &HostRuntime, state: &mut u64, count: u64) -> Result<Item, Fail> {
+    let kind = if draw(state, 2) == 0 {
+        Kind::Array
+    } else {
+        Kind::Record
+    };
+    let n = draw(state, 6);
+    let fields = drawn_values(rt, state, n, count)?;
+    Ok(Item { kind, fields })
+}
+
+fn drawn_objects(rt: &HostRuntime, state: &mut u64, count: u64) -> Result<Vec<Item>, Fail> {
     let mut objects = Vec::new(rt.alloc());
     for _object in 0..count {
-        let kind = if draw(state, 2) == 0 {
-            Kind::Array
-        } else {
-            Kind::Record
-        };
-        let n = draw(state, 6);
-        let fields = drawn_values(rt, state, n, count)?;
-        objects.push(Item { kind, fields })?;
+        objects.push(drawn_item(rt, state, count)?)?;
     }
-    Ok(Picture {
-        registers: drawn_values(rt, state, 16, count)?,
-        objects,
-    })
+    Ok(objects)
+}
+
+fn drawn_picture(rt: &HostRuntime, state: &mut u64) -> Result<Picture, Fail> {
+    let count = draw(state, 9).saturating_add(1);
+    let objects = drawn_objects(rt, state, count)?;
+    let registers = drawn_values(rt, state, 16, count)?;
+    Ok(Picture { registers, objects })
+}
+
+// The calls without their contracts, which the tests do not need.
+fn encoded(rt: &HostRuntime, picture: &Picture) -> Result<Vec<u8>, Fail> {
+    Ok(encode(rt.alloc(), picture)?)
+}
+
+fn decoded(rt: &HostRuntime, bytes: &[u8]) -> Result<Picture, ReadError> {
+    decode(rt.alloc(), bytes)
+}
+
+fn comes_back(rt: &HostRuntime, picture: &Picture) -> Result<bool, Fail> {
+    let bytes = encoded(rt, picture)?;
+    let again = decoded(rt, &bytes).ok().ok_or("a picture")?;
+    Ok(again == *picture)
 }
 
 #[test]
@@ -60,16 +82,18 @@ fn pictures_come_back(rt: HostRuntime) -> Result<(), Fail> {
     let mut state = 1;
     for _ in 0..300 {
         let picture = drawn_picture(&rt, &mut state)?;
-        assert!(rt; picture.is_sound());
-        let bytes = encode(rt.alloc(), &picture)?;
-        let again = decode(rt.alloc(), &bytes).ok().ok_or("a picture")?;
-        assert!(rt; again == picture);
+        assert!(rt; picture.is_sound() && comes_back(&rt, &picture)?);
     }
     Ok(())
 }
 
+fn drawn_bytes(rt: &HostRuntime, state: &mut u64) -> Result<Vec<u8>, Fail> {
+    let picture = drawn_picture(rt, state)?;
+    encoded(rt, &picture)
+}
+
 fn fault_of(rt: &HostRuntime, bytes: &[u8]) -> Option<SaveFault> {
-    match decode(rt.alloc(), bytes) {
+    match decoded(rt, bytes) {
         Err(ReadError::Fault(fault)) => Some(fault),
         _ => None,
     }
@@ -95,11 +119,21 @@ fn is_right(fault: Option<SaveFault>, i: usize) -> bool {
     }
 }
 
+// Whether each change of the byte in place i has the fault of that place.
+fn are_right(rt: &HostRuntime, bytes: &[u8], i: usize) -> Result<bool, Fail> {
+    for change in [1, 16, 128, 255] {
+        let other = changed(rt, bytes, i, change)?;
+        if !is_right(fault_of(rt, &other), i) {
+            return Ok(false);
+        }
+    }
+    Ok(true)
+}
+
 #[test]
 fn each_changed_byte_and_each_front_is_refused(rt: HostRuntime) -> Result<(), Fail> {
     let mut state = 7;
-    let picture = drawn_picture(&rt, &mut state)?;
-    let bytes = encode(rt.alloc(), &picture)?;
+    let bytes = drawn_bytes(&rt, &mut state)?;
     let bytes = bytes.as_slice();
     for i in 0..bytes.len() {
         let wanted = if i < 8 {
@@ -108,10 +142,7 @@ fn each_changed_byte_and_each_front_is_refused(rt: HostRuntime) -> Result<(), Fa
             SaveFault::Torn
         };
         assert_eq!(rt; fault_of(&rt, &bytes[..i]), Some(wanted));
-        for change in [1, 16, 128, 255] {
-            let other = changed(&rt, bytes, i, change)?;
-            assert!(rt; is_right(fault_of(&rt, &other), i));
-        }
+        assert!(rt; are_right(&rt, bytes, i)?);
     }
     Ok(())
 }
