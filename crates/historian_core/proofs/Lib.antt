@@ -1,8 +1,7 @@
-pub mod GraphSizes
-pub mod Lives
+pub mod LastOnes
+pub mod FewBlocks
 pub mod Moves
-pub mod AlarmCounts
-pub mod Rings
-pub mod Takes
+pub mod Lives
+pub mod Calls
 pub mod TextLaws
 pub mod ReportSoFar

@@ -1,495 +1,230 @@
--- What the commands of a historian do to the graph.
-use Rattle.std.proofs.Common.{◌≡◌, ℕ, zero, suc, ◌+◌, ◌-◌, ◌*◌, ◌%◌, ◌^◌, ◌<◌, ◌≤◌, nat_lt, lt-ltb, Bool, true, false, cond, List, [], ◌∷◌, ◌++◌, length, map, slice_index_or, slice_set, ne_eqb, sym, refl, ap, ◌∙◌, subst, arith}
-use Rattle.std.specs.List.{AllByRecursion}
-use Rattle.std.proofs.lemmas.List.{length-map}
-use Rattle.std.proofs.Math.Seq.{get_or-append_seam, set-append_seam}
+-- What the commands of a historian do to its graph.
+use Rattle.std.proofs.Common.{◌≡◌, ◌≢◌, ℕ, zero, suc, ◌+◌, ◌-◌, ◌<◌, ◌≤◌, inl, inr, true, false, Option, Some, None, List, [], ◌∷◌, ◌++◌, length, drop, map, slice_index_or, slice_set, sym, refl, ap, ◌∙◌, subst, arith}
+use Rattle.std.proofs.lemmas.Bool.{both_ways, cases_eq}
+use Rattle.block_store.specs.declared.Name.{Name}
 use Rattle.block_store.specs.declared.Value.{Value}
 use Rattle.block_store.specs.declared.Value.TheVariants.{Nil, Int, Ref}
 use Rattle.never_heap.specs.declared.Command.{Command}
 use Rattle.never_heap.specs.declared.Command.TheVariants as commands
-use Rattle.never_heap.specs.declared.Reply.{Reply}
-use Rattle.never_heap.specs.declared.Reply.TheVariants as replies
-use Rattle.never_heap.specs.Graphs.{Graph, Object, Record, no_object, set_field, field_of, object_of, with_field, nils, start_graph}
+use Rattle.never_heap.specs.Graphs.{Graph, Object, Record, has_name, next_name, nil_object, object_of, shared_name}
 use Rattle.never_heap.specs.Steps.{step}
-use Rattle.control_heap.specs.Controls.{Control, asked, units}
-use Rattle.operations.proofs.LiveBound as holding
-use Rattle.graph_view.specs.Shown.{IsSmall, AllAreSmall, AllFollow, HasMetNoFull, graph_behind, last_reply}
-use Rattle.graph_view.specs.Asked.{HasUsed}
-use Rattle.historian_core.specs.declared.Limits.{Limits}
-use Rattle.historian_core.specs.Kept.{heap_config, IsPlain, IsHeld, IsRing, Holds, Keeps, kept_graph, name_at, record_of, listed, listed_from, refers}
-use Rattle.historian_core.specs.Windows.{is_alarm, mark}
-use Rattle.historian_core.proofs.Rings.{ring_start, ring_more, ring_held, ring_long, place_low}
-use Rattle.historian_core.proofs.Lives.{asked_commands, fetched_commands, listed_commands, kept_units, fetched_units, listed_units, kept_objects, fetched_objects, listed_objects}
-use Rattle.historian_core.proofs.GraphSizes.{IsOne, AreOnes, object_is, small}
+use Rattle.never_heap.proofs.StepChanges.{has_field}
+use Rattle.never_heap.proofs.UnchangedBySteps.{next_is_new, step_names}
+use Rattle.operations.proofs.Effects.{Effect, makes}
+use Rattle.heap_structures.specs.Alarms.{IsAlarms, alarm_cells, value_of}
+use Rattle.heap_structures.specs.Cells.{IsCells, IsNone, Spares, held}
+use Rattle.heap_structures.specs.Circles.{last_of}
+use Rattle.heap_structures.specs.Rings.{Gives, IsRing, IsRound, ring_cells}
+use Rattle.heap_structures.specs.declared.alarms.Alarm.{Alarm}
+use Rattle.heap_structures.specs.declared.alarms.AlarmList.{AlarmList}
+use Rattle.heap_structures.specs.declared.cells.Cells.{Cells}
+use Rattle.heap_structures.specs.declared.ring.Ring.{Ring}
+use Rattle.heap_structures.proofs.CellLone.{lone_step}
+use Rattle.heap_structures.proofs.CellMoves.{IsLone, Put, Stored, cells_spared, put_puts, set_stores, spares_both, spares_wider}
+use Rattle.historian_core.specs.Kept.{HaveReadings, IsLaid, IsReading}
+use Rattle.historian_core.specs.Windows.{last_ones}
+use Rattle.historian_core.proofs.LastOnes.{length_more}
 
--- commands lead from a graph to another, by small graphs, and the last reply is y
-pub record Goes (r : Reply) (g : Graph) (ks : List Command) (z : Graph) (y : Reply) : Type 0 where
-  pub small : AllAreSmall heap_config g ks
-  pub left : graph_behind g ks ≡ z
-  pub said : last_reply r g ks ≡ y
+-- ---- references to records
 
-ends : (r : Reply) (g : Graph) → Goes r g [] g r
-ends r g = record { small = tt; left = refl; said = refl }
+module _ (g z : Graph) (stays : (b : Name) (v : Value) → (object_of g b).fields ≡ v ∷ []
+    → (object_of z b).fields ≡ v ∷ []) where
+  readings_stay : (vs : List Value) (ys : List ℕ) → HaveReadings g vs ys → HaveReadings z vs ys
+  readings_stay [] [] h = tt
+  readings_stay [] (y ∷ ys) h = h
+  readings_stay (v ∷ vs) [] h = h
+  readings_stay (Ref b ∷ vs) (y ∷ ys) h =
+      ((stays b (Int y) h.0.0, h.0.1), readings_stay vs ys h.1)
+  readings_stay (Nil ∷ vs) (y ∷ ys) h = absurd h.0
+  readings_stay (Int n ∷ vs) (y ∷ ys) h = absurd h.0
 
-goes_on : (r a : Reply) (g h z : Graph) (k : Command) (ks : List Command) (y : Reply)
-    → step g 0 k ≡ (h, a) → IsSmall heap_config h → Goes a h ks z y → Goes r g (k ∷ ks) z y
-goes_on r a g h z k ks y e s rest = record {
-  small = (
-    subst (λ (p : Graph × Reply). IsSmall heap_config p.0) (sym e) s,
-    subst (λ (p : Graph × Reply). AllAreSmall heap_config p.0 ks) (sym e) rest.small,
-  );
-  left = ap (λ (p : Graph × Reply). graph_behind p.0 ks) e ∙ rest.left;
-  said = ap (λ (p : Graph × Reply). last_reply p.1 p.0 ks) e ∙ rest.said;
+pub as_many : (g : Graph) (vs : List Value) (ys : List ℕ) → HaveReadings g vs ys
+    → length vs ≡ length ys
+as_many g [] [] h = refl
+as_many g [] (y ∷ ys) h = absurd h
+as_many g (v ∷ vs) [] h = absurd h
+as_many g (v ∷ vs) (y ∷ ys) h = omega (arith, as_many g vs ys h.1)
+
+pub readings_more : (g : Graph) (vs : List Value) (ys : List ℕ) (v : Value) (y : ℕ)
+    → HaveReadings g vs ys → IsReading g v y → HaveReadings g (vs ++ v ∷ []) (ys ++ y ∷ [])
+readings_more g [] [] v y h one = (one, tt)
+readings_more g [] (x ∷ ys) v y h one = absurd h
+readings_more g (w ∷ vs) [] v y h one = absurd h
+readings_more g (w ∷ vs) (x ∷ ys) v y h one = (h.0, readings_more g vs ys v y h.1 one)
+
+readings_drop : (g : Graph) (k : ℕ) (vs : List Value) (ys : List ℕ) → HaveReadings g vs ys
+    → HaveReadings g (drop k vs) (drop k ys)
+readings_drop g zero vs ys h = h
+readings_drop g (suc k) [] [] h = tt
+readings_drop g (suc k) [] (y ∷ ys) h = absurd h
+readings_drop g (suc k) (v ∷ vs) [] h = absurd h
+readings_drop g (suc k) (v ∷ vs) (y ∷ ys) h = readings_drop g k vs ys h.1
+
+pub last_readings : (g : Graph) (n : ℕ) (vs : List Value) (ys : List ℕ) → n ≡ 40 → HaveReadings g vs ys
+    → HaveReadings g (last_of n vs) (last_ones ys)
+last_readings g n vs ys e h =
+    let k : length vs - n ≡ length ys - 40 = omega (arith, e, as_many g vs ys h) in
+    subst (λ j. HaveReadings g (drop j vs) (last_ones ys)) (sym k)
+    (readings_drop g (length ys - 40) vs ys h)
+
+-- the record that a value of the ring refers to
+pub given : (g : Graph) (d : ℕ) (vs : List Value) (ys : List ℕ) (i : ℕ) (v : Option Value)
+    → HaveReadings g vs ys → i < length ys → Gives g d (drop i vs) v
+    → (b : Name) × (held g d ≡ Ref b) × IsReading g (Ref b) (slice_index_or ys i 0)
+given g d vs [] i v h low gives = absurd (omega arith)
+given g d [] (y ∷ ys) i v h low gives = absurd h
+given g d (w ∷ vs) (y ∷ ys) (suc i) v h low gives = given g d vs ys i v h.1 (omega arith) gives
+given g d (w ∷ vs) (y ∷ ys) zero None h low gives = absurd gives
+given g d (Nil ∷ vs) (y ∷ ys) zero (Some x) h low gives = absurd h.0
+given g d (Int n ∷ vs) (y ∷ ys) zero (Some x) h low gives = absurd h.0
+given g d (Ref b ∷ vs) (y ∷ ys) zero (Some x) h low gives = (b, gives.1, h.0)
+
+-- ---- what stays
+
+round_stays : (rs : List ℕ) (a : Name) (g z : Graph) (c : Cells) (first count : ℕ) (vs : List Value)
+    → Spares rs a g z → c.array ≢ a → IsNone rs c.base → IsRound g c first count vs
+    → IsRound z c first count vs
+round_stays rs a g z c first count vs s apart none r = record {
+  array = r.array;
+  cells = cells_spared rs a g z c r.array s apart none r.cells;
+  circle = r.circle;
+  counted = r.counted;
 }
 
--- a command on an object whose field there is
-in_range : (g : Graph) (p : Graph × Reply) (i n : ℕ) → i < n
-    → cond {A = Graph × Reply} (nat_lt i n) p (g, replies.Range) ≡ p
-in_range g p i n l = ap (λ q. cond {A = Graph × Reply} q p (g, replies.Range)) (lt-ltb i n l)
+-- what a call that may store in registers 1 and 2, and changes one object, leaves
+module _ (g z : Graph) (r : Ring) (l : AlarmList) (ys : List ℕ) (ls : List Alarm)
+    (laid : IsLaid g r l ys ls) (a : Name) (s : Spares (1 ∷ 2 ∷ []) a g z)
+    (long : (b : Name) → length (object_of g b).fields ≡ 1 → b ≢ a) where
+  stays : (b : Name) (v : Value) → (object_of g b).fields ≡ v ∷ []
+      → (object_of z b).fields ≡ v ∷ []
+  stays b v e = ap (λ (o : Object). o.fields) (s.objects b (long b (ap length e))) ∙ e
 
-module _ (b c d : Value) (os : List Object) (o : Object) (fs : List Value) where
-  abbrev last : Graph
-  last = kept_graph (Ref (name_at (length os))) b c d (os ++ o ∷ []) fs
+  pub readings_after : HaveReadings z laid.values ys
+  readings_after = readings_stay g z stays laid.values ys laid.readings
 
-  index : (length os + 1) - 1 ≡ length os
-  index = omega arith
+  pub others_laid : ((b : Name) → held z 2 ≢ Ref b) → (r2 : Ring) (l2 : AlarmList)
+      → ring_cells r2 ≡ ring_cells r → alarm_cells l2 ≡ alarm_cells l
+      → (vs : List Value) (zs : List ℕ) (ms : List Alarm) → IsRing z r2 vs → HaveReadings g vs zs
+      → IsAlarms z l2 ms → IsLaid z r2 l2 zs ms
+  others_laid two r2 l2 same also vs zs ms ring readings alarms = record {
+    ring_place = subst (λ (c : Cells). (c.base ≡ 3) × (c.spare ≡ 2) × (c.size ≡ 40)) (sym same)
+        laid.ring_place;
+    alarm_place = subst (λ (c : Cells). (c.base ≡ 4) × (c.spare ≡ 1) × (c.size ≡ 40)) (sym also)
+        laid.alarm_place;
+    apart = λ e. laid.apart
+        (sym (ap (λ (c : Cells). c.array) same) ∙ e ∙ ap (λ (c : Cells). c.array) also);
+    zero = s.registers 0 ((λ e. absurd (omega (arith, e))), ((λ e. absurd (omega (arith, e))), tt))
+        ∙ laid.zero;
+    shared = stays (shared_name 1) Nil laid.shared;
+    plain = λ q b none e. elim (cases_eq q 2) [
+      | inl is ↦ two b (ap (held z) (sym is) ∙ e)
+      | inr ne ↦ laid.plain q b none (sym (s.registers q (none.1.0, (ne, tt))) ∙ e)
+    ];
+    values = vs;
+    ring = ring;
+    readings = readings_stay g z stays vs zs readings;
+    alarms = alarms;
+  }
 
-  found : object_of last (name_at (length os)) ≡ o
-  found =
-      object_is (Ref (name_at (length os))) b c d (os ++ o ∷ []) fs (name_at (length os)) refl
-      (omega arith)
-      ∙ ap (λ k. slice_index_or (os ++ o ∷ []) k no_object) index
-      ∙ get_or-append_seam os o [] no_object
+  pub ring_stays : (ring_cells r).array ≢ a → IsRing z r laid.values
+  ring_stays apart =
+      round_stays (1 ∷ 2 ∷ []) a g z r.cells r.first r.count laid.values s apart
+      ((λ e. absurd (omega (arith, laid.ring_place.0, e))),
+      ((λ e. absurd (omega (arith, laid.ring_place.0, e))), tt)) laid.ring
 
-  stored : (i : ℕ) → with_field last (name_at (length os)) i b
-      ≡ kept_graph (Ref (name_at (length os))) b c d (os ++ set_field o i b ∷ []) fs
-  stored i =
-      ap (λ q. cond q last (kept_graph (Ref (name_at (length os))) b c d
-      (slice_set (os ++ o ∷ []) ((length os + 1) - 1)
-      (set_field (object_of last (name_at (length os))) i b)) fs))
-      (ne_eqb (length os + 1) 0 (λ z. absurd (omega arith)))
-      ∙ ap (λ l. kept_graph (Ref (name_at (length os))) b c d l fs)
-      ((λ j. slice_set (os ++ o ∷ []) (index j) (set_field (found j) i b))
-      ∙ set-append_seam os o [] (set_field o i b))
+  pub alarms_stay : (alarm_cells l).array ≢ a → IsAlarms z l ls
+  alarms_stay apart =
+      round_stays (1 ∷ 2 ∷ []) a g z l.cells 0 l.count (map value_of ls) s apart
+      ((λ e. absurd (omega (arith, laid.alarm_place.0, e))),
+      ((λ e. absurd (omega (arith, laid.alarm_place.0, e))), tt)) laid.alarms
 
-  put_last : (i : ℕ) → i < length o.fields → step last 0 (commands.Put 1 i 2)
-      ≡ (
-        kept_graph (Ref (name_at (length os))) b c d (os ++ set_field o i b ∷ []) fs,
-        replies.Stored,
-      )
-  put_last i low =
-      in_range last (with_field last (name_at (length os)) i b, replies.Stored) i
-      (length (object_of last (name_at (length os))).fields)
-      (subst (λ (p : Object). i < length p.fields) (sym found) low)
-      ∙ ap (λ (x : Graph). (x, replies.Stored)) (stored i)
+-- an object of one field is no array of 40 values
+pub not_array : (g : Graph) (c : Cells) (vs : List Value) → IsCells g c vs → c.size ≡ 40
+    → (b : Name) → length (object_of g b).fields ≡ 1 → b ≢ c.array
+not_array g c vs is size b one e =
+    absurd (omega (arith, ap (λ a. length (object_of g a).fields) e, ap length is.values, is.size, size, one))
 
-module _ (a b c d : Value) (os : List Object) (fs : List Value) where
-  abbrev g : Graph
-  g = kept_graph a b c d os fs
+-- ---- a new record
 
-  put_ring : (j : ℕ) → j < length fs → step g 0 (commands.Put 0 j 1)
-      ≡ (kept_graph a b c d os (slice_set fs j a), replies.Stored)
-  put_ring j low =
-      in_range g (kept_graph a b c d os (slice_set fs j a), replies.Stored) j (length fs) low
+module _ (g : Graph) (lone : IsLone g) (n : ℕ) where
+  abbrev pub a : Name
+  a = next_name g 0
 
-  -- the same into the list of alarms, or nil from register 5
-  put_list : (yes : Bool) (j : ℕ) → j < length fs
-      → step g 0 (commands.Put 0 j (cond yes 1 5))
-      ≡ (kept_graph a b c d os (slice_set fs j (cond yes a Nil)), replies.Stored)
-  put_list true j low = put_ring j low
-  put_list false j low =
-      in_range g (kept_graph a b c d os (slice_set fs j Nil), replies.Stored) j (length fs) low
+  abbrev pub cells : Cells
+  cells = record { array = a; base = 1; spare = 2; size = 1 }
 
-  get_ring : (j : ℕ) → j < length fs → step g 0 (commands.Get 3 0 j)
-      ≡ (kept_graph a b (slice_index_or fs j Nil) d os fs, replies.Val (slice_index_or fs j Nil))
-  get_ring j low =
-      in_range g (
-        kept_graph a b (slice_index_or fs j Nil) d os fs,
-        replies.Val (slice_index_or fs j Nil),
-      ) j (length fs) low
+  abbrev pub g1 : Graph
+  g1 = (step g 0 (commands.New 1 1)).0
 
-get_record : (a b d : Value) (os : List Object) (fs : List Value) (i : ℕ) (o : Object) (f : ℕ)
-    → slice_index_or os i no_object ≡ o → f < length o.fields
-    → step (kept_graph a b (Ref (name_at i)) d os fs) 0 (commands.Get 4 3 f)
-    ≡ (kept_graph a b (Ref (name_at i)) (field_of o f) os fs, replies.Val (field_of o f))
-get_record a b d os fs i o f is low =
-    let g = kept_graph a b (Ref (name_at i)) d os fs in
-    let at : object_of g (name_at i) ≡ o =
-    object_is a b (Ref (name_at i)) d os fs (name_at i) refl (omega arith)
-    ∙ ap (λ k. slice_index_or os k no_object) index_is ∙ is in
-    ap (λ (p : Object). cond {A = Graph × Reply} (nat_lt f (length p.fields))
-    (kept_graph a b (Ref (name_at i)) (field_of p f) os fs, replies.Val (field_of p f))
-    (g, replies.Range)) at
-    ∙ in_range g (kept_graph a b (Ref (name_at i)) (field_of o f) os fs, replies.Val (field_of o f))
-    f (length o.fields) low
-  where
-    index_is : (i + 1) - 1 ≡ i
-    index_is = omega arith
+  abbrev pub g2 : Graph
+  g2 = (step g1 0 (commands.Set 2 n)).0
 
--- ---- small objects
+  abbrev pub g3 : Graph
+  g3 = (step g2 0 (commands.Put 1 0 2)).0
 
-one_of : (v : Value) → IsPlain v → IsOne (record { kind = Record; fields = v ∷ [] })
-one_of v p = record { plain = λ j. at v p j; blocks = omega arith }
-  where
-    plain : (v : Value) → IsPlain v → holding.IsPlain v
-    plain Nil p = tt
-    plain (Int n) p = tt
-    plain (Ref a) p = absurd p
+  new : Effect g g1 0 1 (Ref a) a (nil_object Record 1) 1
+  new = makes g 0 1 (nil_object Record 1) (omega (arith, lone.threads)) (omega (arith, lone.sixteen))
 
-    at : (v : Value) → IsPlain v → (j : ℕ) → holding.IsPlain (slice_index_or (v ∷ []) j Nil)
-    at v p zero = plain v p
-    at v p (suc j) = tt
+  pub first_fields : (object_of g1 a).fields ≡ Nil ∷ []
+  first_fields = ap (λ (o : Object). o.fields) new.object
 
-ones_more : (os : List Object) (o : Object) → AreOnes os → IsOne o → AreOnes (os ++ o ∷ [])
-ones_more [] o all one zero = one
-ones_more [] o all one (suc i) = all i
-ones_more (x ∷ os) o all one zero = all 0
-ones_more (x ∷ os) o all one (suc i) = ones_more os o (λ j. all (suc j)) one i
+  pub first_register : held g1 1 ≡ Ref a
+  first_register = new.stored
 
-none_is : IsOne no_object
-none_is = record { plain = λ j. tt; blocks = omega arith }
+  pub first_spares : Spares (1 ∷ 2 ∷ []) a g g1
+  first_spares = record {
+    registers = λ q none. new.own q (λ e. none.0 (sym e));
+    objects = λ b ne. new.objects b (λ e. ne (sym e));
+    names = λ b has. step_names g 0 (commands.New 1 1) b has;
+  }
 
-ones_of : (xs : List ℕ) → AreOnes (map record_of xs)
-ones_of [] i = none_is
-ones_of (x ∷ xs) zero = one_of (Int x) tt
-ones_of (x ∷ xs) (suc i) = ones_of xs i
+  pub first_two : held g1 2 ≡ held g 2
+  first_two = new.own 2 (λ e. absurd (omega (arith, e)))
 
-at_map : (xs : List ℕ) (i : ℕ) → i < length xs
-    → slice_index_or (map record_of xs) i no_object ≡ record_of (slice_index_or xs i 0)
-at_map [] i low = absurd (omega arith)
-at_map (x ∷ xs) zero low = refl
-at_map (x ∷ xs) (suc i) low = at_map xs i (omega arith)
+  pub lone1 : IsLone g1
+  lone1 = lone_step g 0 (commands.New 1 1) lone
 
-map_more : (xs : List ℕ) (v : ℕ)
-    → map record_of (xs ++ v ∷ []) ≡ map record_of xs ++ record_of v ∷ []
-map_more [] v = refl
-map_more (x ∷ xs) v = ap (λ os. record_of x ∷ os) (map_more xs v)
+  one_cell : IsCells g1 cells (Nil ∷ [])
+  one_cell = record {
+    base = new.stored;
+    named = has_field g1 a 0 (omega (arith, ap length first_fields));
+    values = first_fields;
+    size = refl;
+    placed = record {
+      size = omega arith;
+      base = omega arith;
+      spare = omega arith;
+      apart = λ e. absurd (omega (arith, e));
+    };
+  }
 
-all_more : (xs : List ℕ) (v : ℕ) → AllByRecursion (λ (x : ℕ). x < 2 ^ 32) xs → v < 2 ^ 32
-    → AllByRecursion (λ (x : ℕ). x < 2 ^ 32) (xs ++ v ∷ [])
-all_more [] v all low = (low, tt)
-all_more (x ∷ xs) v all low = (all.0, all_more xs v all.1 low)
+  set : Stored g1 cells (Nil ∷ []) lone1 one_cell g2 2 (Int n)
+  set = set_stores g1 cells (Nil ∷ []) lone1 one_cell 2 n (omega arith) (λ e. absurd (omega (arith, e)))
 
-all_at : (xs : List ℕ) (i : ℕ) → AllByRecursion (λ (x : ℕ). x < 2 ^ 32) xs
-    → slice_index_or xs i 0 < 2 ^ 32
-all_at [] i all = omega arith
-all_at (x ∷ xs) zero all = all.0
-all_at (x ∷ xs) (suc i) all = all_at xs i all.1
-
-pub length_more : (xs : List ℕ) (v : ℕ) → length (xs ++ v ∷ []) ≡ length xs + 1
-length_more [] v = refl
-length_more (x ∷ xs) v = omega (arith, length_more xs v)
-
--- ---- a reading more
-
-abbrev pub kept_commands : Limits → ℕ → ℕ → List Command
-kept_commands l count v = asked_commands v (listed_from l v) count
-
-held_listed : (yes : Bool) (n : Value) → IsHeld n → IsHeld (cond yes n Nil)
-held_listed true n own = own
-held_listed false n own = tt
-
-module _ (l : Limits) (xs : List ℕ) (h : Control) (k : Holds h l xs) (v : ℕ) where
-  abbrev os : List Object
-  os = map record_of xs
-
-  abbrev n : Value
-  n = Ref (name_at (length os))
-
-  abbrev w : Value
-  w = listed l v (name_at (length os))
-
-  abbrev one : Value → Object
-  one x = record { kind = Record; fields = x ∷ [] }
-
-  abbrev fs : List Value
-  fs = slice_set k.fields (length xs % 40) n
-
-  abbrev both : List Value
-  both = slice_set fs (40 + length xs % 40) w
-
-  own : IsHeld n
-  own = (refl, omega arith)
-
-  ones : (x : Value) → IsPlain x → AreOnes (os ++ one x ∷ [])
-  ones x p = ones_more os (one x) (ones_of xs) (one_of x p)
-
-  named : (x : ℕ) → length os ≡ length xs
-  named x = length-map xs record_of
-
-  held_first : (i : ℕ) → IsHeld (slice_index_or fs i Nil)
-  held_first = ring_held l xs v k.fields k.ring n w own
-
-  long_first : length fs ≡ 80
-  long_first = ring_long l xs v k.fields k.ring n w
-
-  is_named : n ≡ Ref (name_at (length xs))
-  is_named = ap (λ m. Ref (name_at m)) (named 0)
-
-  is_listed : w ≡ listed l v (name_at (length xs))
-  is_listed = ap (λ m. listed l v (name_at m)) (named 0)
-
-  ring : IsRing l (xs ++ v ∷ []) both
-  ring =
-      ring_more l xs v k.fields k.ring n w is_named is_listed own (held_listed (is_alarm l v) n own)
-
-  at : (b x : Value) → IsPlain b → IsPlain x
-      → IsSmall heap_config (kept_graph n b k.c k.d (os ++ one x ∷ []) k.fields)
-  at b x p q =
-      small n b k.c k.d (os ++ one x ∷ []) k.fields own p k.c_held k.d_plain (ones x q)
-      k.ring.held k.ring.long
-
-  low_place : length xs % 40 < length k.fields
-  low_place = omega (arith, k.ring.long, place_low (length xs))
-
-  low_listed : 40 + length xs % 40 < length fs
-  low_listed = omega (arith, long_first, place_low (length xs))
-
-  keeps_going : Goes replies.Stored (kept_graph k.a k.b k.c k.d os k.fields)
-      (kept_commands l (length xs) v)
-      (kept_graph n (Int v) k.c k.d (os ++ record_of v ∷ []) both) replies.Stored
-  keeps_going =
-      let g1 = kept_graph n k.b k.c k.d (os ++ one Nil ∷ []) k.fields in
-      let g2 = kept_graph n (Int v) k.c k.d (os ++ one Nil ∷ []) k.fields in
-      let g3 = kept_graph n (Int v) k.c k.d (os ++ record_of v ∷ []) k.fields in
-      let g4 = kept_graph n (Int v) k.c k.d (os ++ record_of v ∷ []) fs in
-      let g5 = kept_graph n (Int v) k.c k.d (os ++ record_of v ∷ []) both in
-      goes_on replies.Stored (replies.New (name_at (length os))) _ g1 g5 _ _ replies.Stored refl
-      (at k.b Nil k.b_plain tt)
-      (goes_on _ replies.Stored g1 g2 g5 _ _ replies.Stored refl (at (Int v) Nil tt tt)
-      (goes_on _ replies.Stored g2 g3 g5 _ _ replies.Stored
-      (put_last (Int v) k.c k.d os (one Nil) k.fields 0 (omega arith))
-      (at (Int v) (Int v) tt tt)
-      (goes_on _ replies.Stored g3 g4 g5 _ _ replies.Stored
-      (put_ring n (Int v) k.c k.d (os ++ record_of v ∷ []) k.fields (length xs % 40) low_place)
-      (small n (Int v) k.c k.d (os ++ record_of v ∷ []) fs own tt k.c_held k.d_plain
-      (ones (Int v) tt) held_first long_first)
-      (goes_on _ replies.Stored g4 g5 g5 _ _ replies.Stored
-      (put_list n (Int v) k.c k.d (os ++ record_of v ∷ []) fs (is_alarm l v)
-      (40 + length xs % 40) low_listed)
-      (small n (Int v) k.c k.d (os ++ record_of v ∷ []) both own tt k.c_held k.d_plain
-      (ones (Int v) tt) ring.held ring.long)
-      (ends replies.Stored g5)))))
-
-  pub keeps_more : (new : Control) (a : Reply) → v < 2 ^ 32 → new.config ≡ h.config
-      → AllFollow HasMetNoFull h (kept_commands l (length xs) v) a new
-      → HasUsed h (kept_commands l (length xs) v) new → Holds new l (xs ++ v ∷ [])
-  keeps_more new a low same follows took =
-      let by = follows (kept_graph k.a k.b k.c k.d os k.fields) k.shows
-      (subst (λ q. AllAreSmall q (kept_graph k.a k.b k.c k.d os k.fields)
-      (kept_commands l (length xs) v)) (sym k.config) keeps_going.small) in
-      record {
-        config = same ∙ k.config;
-        a = n;
-        b = Int v;
-        c = k.c;
-        d = k.d;
-        fields = both;
-        a_held = own;
-        b_plain = tt;
-        c_held = k.c_held;
-        d_plain = k.d_plain;
-        ring = ring;
-        low = all_more xs v k.low low;
-        shows = subst (HasMetNoFull new)
-            (keeps_going.left
-            ∙ ap (λ o. kept_graph n (Int v) k.c k.d o both) (sym (map_more xs v))) by.1;
-        objects =
-            omega (
-              arith,
-              length_more xs v,
-              k.objects,
-              kept_objects h new v (listed_from l v) (length xs) took,
-            );
-        units = λ rate is_rate.
-            omega (
-              arith,
-              kept_units h new v (listed_from l v) (length xs) k.config took rate is_rate,
-              k.units rate is_rate,
-              ap (λ i. rate * i) (length_more xs v),
-              one_more rate (length xs),
-            );
-      }
-    where
-      one_more : (rate n : ℕ) → rate * (n + 1) ≡ rate * n + rate
-      one_more rate n = omega arith
-
-  pub keeps_told : (new : Control) (a : Reply) (value from count : ℕ) → value ≡ v
-      → from ≡ listed_from l v → length xs ≡ count → v < 2 ^ 32 → new.config ≡ h.config
-      → AllFollow HasMetNoFull h (asked_commands value from count) a new
-      → HasUsed h (asked_commands value from count) new → Holds new l (xs ++ v ∷ [])
-  keeps_told new a value from count e f s low same follows took =
-      keeps_more new a low same
-      (subst (λ ks. AllFollow HasMetNoFull h ks a new) (λ t. asked_commands (e t) (f t) (sym s t)) follows)
-      (subst (λ ks. HasUsed h ks new) (λ t. asked_commands (e t) (f t) (sym s t)) took)
-
--- ---- and one that is fetched
-
-module _ (l : Limits) (xs : List ℕ) (h : Control) (k : Holds h l xs) (i : ℕ)
-    (inside : i < length xs) (recent : length xs ≤ i + 40) where
-  abbrev records : List Object
-  records = map record_of xs
-
-  abbrev reading : ℕ
-  reading = slice_index_or xs i 0
-
-  abbrev c : Value
-  c = Ref (name_at i)
-
-  first : step (kept_graph k.a k.b k.c k.d records k.fields) 0 (commands.Get 3 0 (i % 40))
-      ≡ (kept_graph k.a k.b c k.d records k.fields, replies.Val c)
-  first =
-      get_ring k.a k.b k.c k.d records k.fields (i % 40)
-      (omega (arith, k.ring.long, place_low i))
-      ∙ ap (λ (x : Value). (kept_graph k.a k.b x k.d records k.fields, replies.Val x))
-      (k.ring.slots i inside recent)
-
-  second : step (kept_graph k.a k.b c k.d records k.fields) 0 (commands.Get 4 3 0)
-      ≡ (kept_graph k.a k.b c (Int reading) records k.fields, replies.Val (Int reading))
-  second =
-      get_record k.a k.b k.d records k.fields i (record_of reading) 0 (at_map xs i inside)
+  put : Put g2 cells (Nil ∷ []) (lone_step g1 0 (commands.Set 2 n) lone1) set.cells g3 0 (held g2 2)
+  put =
+      put_puts g2 cells (Nil ∷ []) (lone_step g1 0 (commands.Set 2 n) lone1) set.cells 0 2
       (omega arith)
 
-  held : IsHeld c
-  held = (refl, omega arith)
+  pub made_spares : Spares (1 ∷ 2 ∷ []) a g g3
+  made_spares =
+      spares_both (1 ∷ 2 ∷ []) a g g2 g3
+      (spares_both (1 ∷ 2 ∷ []) a g g1 g2 first_spares
+      (spares_wider (2 ∷ []) (1 ∷ 2 ∷ []) a g1 g2 (λ q none. none.1) set.spares))
+      (spares_wider [] (1 ∷ 2 ∷ []) a g2 g3 (λ q none. tt) put.spares)
 
-  going : Goes replies.Stored (kept_graph k.a k.b k.c k.d records k.fields) (fetched_commands i)
-      (kept_graph k.a k.b c (Int reading) records k.fields) (replies.Val (Int reading))
-  going =
-      goes_on replies.Stored (replies.Val c) _ (kept_graph k.a k.b c k.d records k.fields) _ _ _ _
-      first
-      (small k.a k.b c k.d records k.fields k.a_held k.b_plain held k.d_plain (ones_of xs)
-      k.ring.held k.ring.long)
-      (goes_on _ (replies.Val (Int reading)) _
-      (kept_graph k.a k.b c (Int reading) records k.fields) _ _ _ _ second
-      (small k.a k.b c (Int reading) records k.fields k.a_held k.b_plain held tt (ones_of xs)
-      k.ring.held k.ring.long)
-      (ends (replies.Val (Int reading)) (kept_graph k.a k.b c (Int reading) records k.fields)))
+  pub made_register : held g3 1 ≡ Ref a
+  made_register = put.cells.base
 
-  pub fetched : (new : Control) (a : Reply) → new.config ≡ h.config
-      → AllFollow HasMetNoFull h (fetched_commands i) a new → HasUsed h (fetched_commands i) new
-      → (a ≡ replies.Val (Int (slice_index_or xs i 0))) × Holds new l xs
-  fetched new a same follows took =
-      let by = follows (kept_graph k.a k.b k.c k.d records k.fields) k.shows
-      (subst (λ q. AllAreSmall q (kept_graph k.a k.b k.c k.d records k.fields)
-      (fetched_commands i)) (sym k.config) going.small) in (
-        by.0 ∙ going.said,
-        record {
-          config = same ∙ k.config;
-          a = k.a;
-          b = k.b;
-          c = c;
-          d = Int reading;
-          fields = k.fields;
-          a_held = k.a_held;
-          b_plain = k.b_plain;
-          c_held = held;
-          d_plain = tt;
-          ring = k.ring;
-          low = k.low;
-          shows = subst (HasMetNoFull new) going.left by.1;
-          objects = omega (arith, k.objects, fetched_objects h new i took);
-          units = λ rate is_rate.
-              omega (
-                arith,
-                fetched_units h new i k.config took rate is_rate,
-                k.units rate is_rate,
-              );
-        },
-      )
+  pub made_number : held g3 2 ≡ Int n
+  made_number = put.spares.registers 2 tt ∙ set.value
 
-  -- ---- and its place in the list of alarms
+  pub made_fields : (object_of g3 a).fields ≡ Int n ∷ []
+  made_fields = put.cells.values ∙ ap (λ v. slice_set (Nil ∷ []) 0 v) set.value
 
-  abbrev entry : Value
-  entry = listed l reading (name_at i)
+  -- its name is none of those before
+  pub fresh : (b : Name) → has_name g b ≡ true → b ≢ a
+  fresh b has e = both_ways (has_name g a) (next_is_new g 0) (ap (has_name g) (sym e) ∙ has)
 
-  held_entry : IsHeld entry
-  held_entry = held_listed (is_alarm l reading) c held
-
-  looks : step (kept_graph k.a k.b k.c k.d records k.fields) 0 (commands.Get 3 0 (40 + i % 40))
-      ≡ (kept_graph k.a k.b entry k.d records k.fields, replies.Val entry)
-  looks =
-      get_ring k.a k.b k.c k.d records k.fields (40 + i % 40)
-      (omega (arith, k.ring.long, place_low i))
-      ∙ ap (λ (x : Value). (kept_graph k.a k.b x k.d records k.fields, replies.Val x))
-      (k.ring.alarms i inside recent)
-
-  looking : Goes replies.Stored (kept_graph k.a k.b k.c k.d records k.fields) (listed_commands i)
-      (kept_graph k.a k.b entry k.d records k.fields) (replies.Val entry)
-  looking =
-      goes_on replies.Stored (replies.Val entry) _ (kept_graph k.a k.b entry k.d records k.fields) _ _ _ _
-      looks
-      (small k.a k.b entry k.d records k.fields k.a_held k.b_plain held_entry k.d_plain (ones_of xs)
-      k.ring.held k.ring.long)
-      (ends (replies.Val entry) (kept_graph k.a k.b entry k.d records k.fields))
-
-  refers_marked : (yes : Bool) → refers (replies.Val (cond yes c Nil)) ≡ cond yes 1 0
-  refers_marked true = refl
-  refers_marked false = refl
-
-  pub found_listed : (new : Control) (a : Reply) → new.config ≡ h.config
-      → AllFollow HasMetNoFull h (listed_commands i) a new → HasUsed h (listed_commands i) new
-      → (refers a ≡ mark l (slice_index_or xs i 0)) × Holds new l xs
-  found_listed new a same follows took =
-      let by = follows (kept_graph k.a k.b k.c k.d records k.fields) k.shows
-      (subst (λ q. AllAreSmall q (kept_graph k.a k.b k.c k.d records k.fields)
-      (listed_commands i)) (sym k.config) looking.small) in (
-        ap refers (by.0 ∙ looking.said) ∙ refers_marked (is_alarm l reading),
-        record {
-          config = same ∙ k.config;
-          a = k.a;
-          b = k.b;
-          c = entry;
-          d = k.d;
-          fields = k.fields;
-          a_held = k.a_held;
-          b_plain = k.b_plain;
-          c_held = held_entry;
-          d_plain = k.d_plain;
-          ring = k.ring;
-          low = k.low;
-          shows = subst (HasMetNoFull new) looking.left by.1;
-          objects = omega (arith, k.objects, listed_objects h new i took);
-          units = λ rate is_rate.
-              omega (
-                arith,
-                listed_units h new i k.config took rate is_rate,
-                k.units rate is_rate,
-              );
-        },
-      )
-
-pub number_low : (l : Limits) (xs : List ℕ) (h : Control) (k : Holds h l xs) (i : ℕ)
-    → slice_index_or xs i 0 < 2 ^ 32
-number_low l xs h k i = all_at xs i k.low
-
--- ---- the opening heap
-
-pub keeps_none : (l : Limits) (h : Control) → h.config ≡ heap_config
-    → HasMetNoFull h (start_graph heap_config) → (asked h ≡ 0) × (units h ≡ 0) × (h.objects ≡ 0)
-    → Keeps h l []
-keeps_none l h same shows fresh = record {
-  holds = record {
-    config = same;
-    a = Nil;
-    b = Nil;
-    c = Nil;
-    d = Nil;
-    fields = nils 80;
-    a_held = tt;
-    b_plain = tt;
-    c_held = tt;
-    d_plain = tt;
-    ring = ring_start l;
-    low = tt;
-    shows = shows;
-    objects = fresh.2;
-    units = λ rate is_rate. omega (arith, fresh.1);
-  };
-  few = omega (arith, fresh.0);
-}
-
-pub start_small : IsSmall heap_config (start_graph heap_config)
-start_small =
-    let ring = ring_start (record { low = 0; high = 0 }) in
-    small Nil Nil Nil Nil [] (nils 80) tt tt tt tt (λ i. none_is) ring.held ring.long
+  pub fresh_one : (b : Name) → length (object_of g b).fields ≡ 1 → b ≢ a
+  fresh_one b one = fresh b (has_field g b 0 (omega (arith, one)))

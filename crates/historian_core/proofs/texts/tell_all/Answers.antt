@@ -1,5 +1,5 @@
 use Rattle.std.proofs.Common.{◌++◌, ◌∷◌, [], refl, arith, rules}
-use Rattle.historian_core.proofs.Moves.{length_more}
+use Rattle.historian_core.proofs.LastOnes.{length_more}
 use Rattle.historian_core.proofs.ReportSoFar.{told_none, one_more_told, ends_told, stopped_told, full_told, breaks_told}
 use Rattle.historian_core.proofs.texts.tell_all.Goals as goal
 

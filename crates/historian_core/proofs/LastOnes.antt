@@ -1,0 +1,143 @@
+-- The last readings and their alarms, when one more comes.
+use Rattle.std.proofs.Common.{◌≡◌, ℕ, ◌+◌, ◌-◌, ◌<◌, ◌≤◌, ◌==◌, ◌||◌, ◌⊎◌, inl, inr, nat_lt, eq-eqb, ne_eqb, lt-ltb, Bool, true, false, cond, List, [], ◌∷◌, ◌++◌, length, drop, slice_index_or, sym, refl, ap, ◌∙◌, arith}
+use Rattle.std.proofs.lemmas.Bool.{cases_Bool, cases_lt, le-ltb, or_cases, both_ways}
+use Rattle.std.proofs.lemmas.List.{at_drop_more, drop-append-le, drop-drop, length-drop}
+use Rattle.heap_structures.specs.Alarms.{cleared, stands}
+use Rattle.heap_structures.specs.declared.alarms.Alarm.{Alarm}
+use Rattle.historian_core.specs.declared.Limits.{Limits}
+use Rattle.historian_core.specs.Kept.{standing, with_alarm}
+use Rattle.historian_core.specs.Windows.{alarms_in, is_alarm, last_ones}
+
+pub length_more : (xs : List ℕ) (v : ℕ) → length (xs ++ v ∷ []) ≡ length xs + 1
+length_more [] v = refl
+length_more (x ∷ xs) v = omega (arith, length_more xs v)
+
+pub last_more : (xs : List ℕ) (x : ℕ) → last_ones (last_ones xs ++ x ∷ []) ≡ last_ones (xs ++ x ∷ [])
+last_more xs x =
+    let n : ℕ = length xs - 40 in
+    let all : List ℕ = xs ++ x ∷ [] in
+    let inner : last_ones xs ++ x ∷ [] ≡ drop n all =
+    sym (drop-append-le n xs (x ∷ []) (omega arith)) in
+    let long : length (drop n all) ≡ length all - n = length-drop n all in
+    let from : n + (length (drop n all) - 40) ≡ length all - 40 =
+    omega (arith, long, length_more xs x) in
+    ap last_ones inner ∙ drop-drop (length (drop n all) - 40) n all ∙ ap (λ k. drop k all) from
+
+-- ---- alarms
+
+not_with : (b : Bool) (n i : ℕ) (ls : List Alarm) → (i == n) ≡ false → stands n ls ≡ false
+    → stands n (with_alarm b i ls) ≡ false
+not_with true n i ls ne none = ap (λ t. t || stands n ls) ne ∙ none
+not_with false n i ls ne none = none
+
+-- no reading before or after these
+none_of : (l : Limits) (n i : ℕ) (ys : List ℕ) → (n < i) ⊎ (i + length ys ≤ n)
+    → stands n (standing l i ys) ≡ false
+none_of l n i [] out = refl
+none_of l n i (y ∷ ys) (inl low) =
+    not_with (is_alarm l y) n i (standing l (i + 1) ys) (ne_eqb i n (λ e. absurd (omega (arith, e))))
+    (none_of l n (i + 1) ys (inl (omega arith)))
+none_of l n i (y ∷ ys) (inr high) =
+    not_with (is_alarm l y) n i (standing l (i + 1) ys) (ne_eqb i n (λ e. absurd (omega (arith, e))))
+    (none_of l n (i + 1) ys (inr (omega arith)))
+
+none_cleared : (n : ℕ) (ls : List Alarm) → stands n ls ≡ false → cleared n ls ≡ ls
+none_cleared n [] none = refl
+none_cleared n (x ∷ ls) none = elim (cases_Bool (x.number == n)) [
+  | inl is ↦ absurd (both_ways (stands n (x ∷ ls)) none (ap (λ b. b || stands n ls) is))
+  | inr not ↦ ap (λ b. cond b ls (x ∷ cleared n ls)) not
+      ∙ ap (λ zs. x ∷ zs) (none_cleared n ls (sym (ap (λ b. b || stands n ls) not) ∙ none))
+]
+
+first_cleared : (b : Bool) (i : ℕ) (ls : List Alarm) → stands i ls ≡ false
+    → cleared i (with_alarm b i ls) ≡ ls
+first_cleared true i ls none =
+    ap (λ t. cond t ls (record { number = i; acknowledged = false } ∷ cleared i ls)) (eq-eqb i i refl)
+first_cleared false i ls none = none_cleared i ls none
+
+with_more : (b : Bool) (i : ℕ) (ls ms : List Alarm)
+    → with_alarm b i (ls ++ ms) ≡ with_alarm b i ls ++ ms
+with_more true i ls ms = refl
+with_more false i ls ms = refl
+
+standing_more : (l : Limits) (i : ℕ) (ys : List ℕ) (y n : ℕ) → n ≡ i + length ys
+    → standing l i (ys ++ y ∷ []) ≡ standing l i ys ++ with_alarm (is_alarm l y) n []
+standing_more l i [] y n e =
+    ap (λ k. with_alarm (is_alarm l y) k []) (let same : i ≡ n = omega (arith, e) in same)
+standing_more l i (x ∷ ys) y n e =
+    ap (with_alarm (is_alarm l x) i) (standing_more l (i + 1) ys y n (omega (arith, e)))
+    ∙ with_more (is_alarm l x) i (standing l (i + 1) ys) (with_alarm (is_alarm l y) n [])
+
+counts_with : (b : Bool) (i : ℕ) (ls : List Alarm)
+    → length (with_alarm b i ls) ≡ cond b 1 0 + length ls
+counts_with true i ls = omega arith
+counts_with false i ls = omega arith
+
+pub alarms_counted : (l : Limits) (i : ℕ) (ys : List ℕ) → length (standing l i ys) ≡ alarms_in l ys
+alarms_counted l i [] = refl
+alarms_counted l i (y ∷ ys) =
+    counts_with (is_alarm l y) i (standing l (i + 1) ys)
+    ∙ ap (λ n. cond (is_alarm l y) 1 0 + n) (alarms_counted l (i + 1) ys)
+
+few_standing : (l : Limits) (i : ℕ) (ys : List ℕ) → length (standing l i ys) ≤ length ys
+few_standing l i [] = omega arith
+few_standing l i (y ∷ ys) =
+    let rest = few_standing l (i + 1) ys in
+    let here = counts_with (is_alarm l y) i (standing l (i + 1) ys) in
+    let one = one_at_most (is_alarm l y) in omega (arith, rest, here, one)
+  where
+    one_at_most : (b : Bool) → cond b 1 0 ≤ 1
+    one_at_most true = omega arith
+    one_at_most false = omega arith
+
+module _ (l : Limits) (xs : List ℕ) (x n : ℕ) (long : length xs ≡ n) where
+  abbrev pub old : List Alarm
+  old = standing l (length xs - 40) (last_ones xs)
+
+  -- after the alarm of the reading that goes is cleared
+  abbrev pub left : List Alarm
+  left = cond (nat_lt n 40) old (cleared (n - 40) old)
+
+  abbrev from : ℕ
+  from = (length xs + 1) - 40
+
+  left_is : left ≡ standing l from (drop from xs)
+  left_is = elim (cases_lt n 40) [
+    | inl few ↦
+        let e : length xs - 40 ≡ from = omega (arith, few, long) in
+        ap (λ b. cond b old (cleared (n - 40) old)) (lt-ltb n 40 few)
+        ∙ ap (λ k. standing l k (drop k xs)) e
+    | inr many ↦
+        let first : ℕ = length xs - 40 in
+        let e : n - 40 ≡ first = omega (arith, long) in
+        let f : first + 1 ≡ from = omega (arith, many, long) in
+        ap (λ b. cond b old (cleared (n - 40) old)) (le-ltb n 40 many)
+        ∙ ap (λ k. cleared k old) e
+        ∙ at_drop_more (λ zs. cleared first (standing l first zs)) xs first 0 (omega (arith, many, long))
+        ∙ first_cleared (is_alarm l (slice_index_or xs first 0)) first
+        (standing l (first + 1) (drop (first + 1) xs))
+        (none_of l first (first + 1) (drop (first + 1) xs) (inl (omega arith)))
+        ∙ ap (λ k. standing l k (drop k xs)) f
+  ]
+
+  few_left : length (drop from xs) + from ≡ length xs
+  few_left = omega (arith, length-drop from xs)
+
+  pub not_left : stands n left ≡ false
+  not_left =
+      ap (stands n) left_is
+      ∙ none_of l n from (drop from xs) (inr (omega (arith, few_left, long)))
+
+  pub room_left : length left < 40
+  room_left =
+      omega (arith, ap length left_is, few_standing l from (drop from xs), few_left)
+
+  -- and the alarm of the one that comes is raised
+  pub next : left ++ with_alarm (is_alarm l x) n []
+      ≡ standing l (length (xs ++ x ∷ []) - 40) (last_ones (xs ++ x ∷ []))
+  next =
+      let e : from ≡ length (xs ++ x ∷ []) - 40 = omega (arith, length_more xs x) in
+      ap (λ ls. ls ++ with_alarm (is_alarm l x) n []) left_is
+      ∙ sym (standing_more l from (drop from xs) x n (omega (arith, few_left, long)))
+      ∙ ap (standing l from) (sym (drop-append-le from xs (x ∷ []) (omega arith)))
+      ∙ ap (λ k. standing l k (drop k (xs ++ x ∷ []))) e
