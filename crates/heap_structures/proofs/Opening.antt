@@ -10,6 +10,7 @@ use Rattle.never_heap.specs.declared.Command.{Command}
 use Rattle.never_heap.specs.declared.Command.TheVariants.{Arr}
 use Rattle.never_heap.specs.declared.Reply.{Reply}
 use Rattle.never_heap.specs.declared.Reply.TheVariants as replies
+use Rattle.never_heap.specs.Bounds.{IsCommandInBounds}
 use Rattle.never_heap.specs.Graphs.{Array, Graph, has_name, next_name, nil_object}
 use Rattle.never_heap.specs.Histories.{Legal, is_full}
 use Rattle.never_heap.specs.Licensed.{Licensed}
@@ -21,7 +22,7 @@ use Rattle.never_heap.proofs.StepChanges.{with_object_threads}
 use Rattle.heap_machine.specs.Memories.{Acts}
 use Rattle.heap_system.specs.Machines.{Run}
 use Rattle.control_heap.specs.Calls.{HasAsked, HasTold}
-use Rattle.control_heap.specs.Controls.{Control, Stands, units}
+use Rattle.control_heap.specs.Controls.{Control, HasLeft, Stands, units}
 use Rattle.control_heap.specs.declared.faults.Fault.{Fault}
 use Rattle.control_heap.specs.declared.faults.Fault.TheVariants as faults
 use Rattle.graph_view.specs.Asked.{HasDone, HasDoneAll, HasUsed}
@@ -134,6 +135,9 @@ module _ (legal : (h : Control) (r : Run) → Stands h r → Legal h.config r.or
             let o : rate * array_blocks h.config.width n ≡ rate * array_blocks h.config.width c.size =
             ap (λ q. rate * array_blocks h.config.width q) (sym size) in
             omega (arith, e, o);
+        live = subst (λ q. live_blocks h.config.width (step g 0 k).0
+            ≤ live_blocks h.config.width g + array_blocks h.config.width q) (sym size)
+            (grows h.config.width g 0 k);
       }
 
   -- what the call returns
@@ -188,4 +192,21 @@ opens_as s h z c g P Q o f = record {
   commands = o.commands;
   objects = o.objects;
   units = o.units;
+  live = o.live;
 }
+
+-- it is made where a thread can be given one, and the life has room
+pub not_refused : (h z : Control) (base spare n : ℕ) (g : Graph) (f : Fault) → spare < 16
+    → spare ≢ base → 1 ≤ n → IsCommandInBounds h.config (Arr base n) → HasLeft h (Arr base n)
+    → NotOpened Always h z base spare n g f → ⊥
+not_refused h z base spare n g faults.OutOfBounds low apart some bounds left why = elim why.0 [
+  | inl past ↦ absurd (omega (arith, past, low))
+  | inr (inl same) ↦ apart same
+  | inr (inr (inl none)) ↦ absurd (omega (arith, some, none))
+  | inr (inr (inr out)) ↦ out bounds
+]
+not_refused h z base spare n g faults.NoLifeLeft low apart some bounds left why = why.0 left
+not_refused h z base spare n g (faults.Full c) low apart some bounds left why = why
+not_refused h z base spare n g faults.Null low apart some bounds left why = why
+not_refused h z base spare n g faults.Kind low apart some bounds left why = why
+not_refused h z base spare n g faults.Range low apart some bounds left why = why

@@ -23,7 +23,8 @@ MayOpen Any c g n = Unit {0}
 MayOpen s c g n = live_blocks c.width g + array_blocks c.width n ≤ c.live
 
 -- The heap did one command, which made a new array: this holds of the graph, and of the rest of the
--- graph only the base register is another. The units are those of the array's blocks.
+-- graph only the base register is another. The units are those of the array's blocks, and no more
+-- blocks are live than those and the ones before.
 pub record Opens (s : Sight) (h z : Control) (c : Cells) (g : Graph) (Q : Graph → Type 0)
     : Type 0 where
   pub graph : Graph
@@ -36,6 +37,8 @@ pub record Opens (s : Sight) (h z : Control) (c : Cells) (g : Graph) (Q : Graph 
   pub objects : z.objects ≡ h.objects + 1
   pub units : (rate : ℕ) → IsRate h.config rate
       → units z ≡ units h + rate * array_blocks h.config.width c.size
+  pub live : live_blocks h.config.width graph
+      ≤ live_blocks h.config.width g + array_blocks h.config.width c.size
 
 -- the new array has this name and so many nils, whichever other register it is given
 abbrev pub OpensNils : Sight → Control → Control → Graph → ℕ → ℕ → Name → Type 0

@@ -1,12 +1,13 @@
 -- The last readings and their alarms, when one more comes.
-use Rattle.std.proofs.Common.{◌≡◌, ℕ, ◌+◌, ◌-◌, ◌<◌, ◌≤◌, ◌==◌, ◌||◌, ◌⊎◌, inl, inr, nat_lt, eq-eqb, ne_eqb, lt-ltb, Bool, true, false, cond, List, [], ◌∷◌, ◌++◌, length, drop, slice_index_or, sym, refl, ap, ◌∙◌, arith}
+use Rattle.std.proofs.Common.{◌≡◌, ℕ, ◌+◌, ◌-◌, ◌<◌, ◌≤◌, ◌==◌, ◌||◌, ◌⊎◌, inl, inr, nat_lt, eq-eqb, ne_eqb, lt-ltb, Bool, true, false, cond, min, max, List, [], ◌∷◌, ◌++◌, length, drop, slice_index_or, sym, refl, ap, ◌∙◌, arith}
 use Rattle.std.proofs.lemmas.Bool.{cases_Bool, cases_lt, le-ltb, or_cases, both_ways}
 use Rattle.std.proofs.lemmas.List.{at_drop_more, drop-append-le, drop-drop, length-drop}
 use Rattle.heap_structures.specs.Alarms.{cleared, stands}
 use Rattle.heap_structures.specs.declared.alarms.Alarm.{Alarm}
 use Rattle.historian_core.specs.declared.Limits.{Limits}
-use Rattle.historian_core.specs.Kept.{standing, with_alarm}
-use Rattle.historian_core.specs.Windows.{alarms_in, is_alarm, last_ones}
+use Rattle.historian_core.specs.declared.Figures.{Figures}
+use Rattle.historian_core.specs.Kept.{counted, standing, with_alarm}
+use Rattle.historian_core.specs.Windows.{alarms_in, greatest_in, is_alarm, last_ones, least_in, total_in}
 
 pub length_more : (xs : List ℕ) (v : ℕ) → length (xs ++ v ∷ []) ≡ length xs + 1
 length_more [] v = refl
@@ -141,3 +142,37 @@ module _ (l : Limits) (xs : List ℕ) (x n : ℕ) (long : length xs ≡ n) where
       ∙ sym (standing_more l from (drop from xs) x n (omega (arith, few_left, long)))
       ∙ ap (standing l from) (sym (drop-append-le from xs (x ∷ []) (omega arith)))
       ∙ ap (λ k. standing l k (drop k (xs ++ x ∷ []))) e
+
+-- ---- figures, the newest reading first
+
+abbrev pub grown : Figures → ℕ → Figures
+grown f v = record {
+  least = min v f.least;
+  greatest = max v f.greatest;
+  total = v + f.total;
+  count = f.count + 1;
+  alarms = f.alarms;
+}
+
+counted_one : (n y : ℕ) (ys : List ℕ) → grown (counted n ys) y ≡ counted n (y ∷ ys)
+counted_one n y ys =
+    let long : length ys + 1 ≡ length (y ∷ ys) = omega arith in
+    ap (λ k. record {
+      least = min y (least_in ys);
+      greatest = max y (greatest_in ys);
+      total = y + total_in ys;
+      count = k;
+      alarms = n;
+    }) long
+
+pub counted_next : (n kept back v : ℕ) (ys : List ℕ) (f : Figures) → kept ≡ length ys → back < kept
+    → v ≡ slice_index_or ys ((kept - 1) - back) 0 → f ≡ counted n (drop (kept - back) ys)
+    → grown f v ≡ counted n (drop (kept - (back + 1)) ys)
+counted_next n kept back v ys f long low is e =
+    let k : ℕ = (kept - 1) - back in
+    let now : kept - back ≡ k + 1 = omega (arith, low) in
+    let next : k ≡ kept - (back + 1) = omega (arith, low) in
+    (λ t. grown (e t) (is t)) ∙ ap (λ j. grown (counted n (drop j ys)) (slice_index_or ys k 0)) now
+    ∙ counted_one n (slice_index_or ys k 0) (drop (k + 1) ys)
+    ∙ sym (at_drop_more (counted n) ys k 0 (omega (arith, long, low)))
+    ∙ ap (λ j. counted n (drop j ys)) next

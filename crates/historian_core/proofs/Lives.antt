@@ -72,7 +72,7 @@ module _ (h : Historian) (most made : ℕ) (ys : List ℕ) (ls : List Alarm)
   }
 
   -- room for a record
-  pub room_for : (n : ℕ) → n < 2 ^ 62 → most < 2 ^ 59 → made < life
+  pub room_for : (n : ℕ) → n < 2 ^ 62 → most + 3 ≤ 2 ^ 60 → made < life
       → HasRoomFor h.heap (new_commands n)
   room_for n small few low = record {
     bounds = subst (λ c. AllByRecursion (IsCommandInBounds c) (new_commands n)) (sym s.config) (

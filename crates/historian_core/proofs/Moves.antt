@@ -81,7 +81,7 @@ given g d (Ref b ∷ vs) (y ∷ ys) zero (Some x) h low gives = (b, gives.1, h.0
 
 -- ---- what stays
 
-round_stays : (rs : List ℕ) (a : Name) (g z : Graph) (c : Cells) (first count : ℕ) (vs : List Value)
+pub round_stays : (rs : List ℕ) (a : Name) (g z : Graph) (c : Cells) (first count : ℕ) (vs : List Value)
     → Spares rs a g z → c.array ≢ a → IsNone rs c.base → IsRound g c first count vs
     → IsRound z c first count vs
 round_stays rs a g z c first count vs s apart none r = record {

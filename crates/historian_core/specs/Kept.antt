@@ -18,6 +18,7 @@ use Rattle.heap_structures.specs.declared.ring.Ring.{Ring}
 use Rattle.historian_core.specs.declared.Figures.{Figures}
 use Rattle.historian_core.specs.declared.Historian.{Historian}
 use Rattle.historian_core.specs.declared.Limits.{Limits}
+use Rattle.historian_core.specs.Texts.{life}
 use Rattle.historian_core.specs.Windows.{is_alarm, last_ones, least_in, greatest_in, total_in}
 
 abbrev pub heap_config : Config
@@ -78,6 +79,16 @@ pub record Stores (h : Historian) (most made : ℕ) (ys : List ℕ) (ls : List A
   pub commands : asked h.heap ≤ most
   pub objects : h.heap.objects ≡ 2 + made
   pub units : (rate : ℕ) → IsRate heap_config rate → units h.heap ≡ rate * (12 + made)
+
+-- a historian, with room in the life of its heap for n more commands
+pub record IsOpen (n : ℕ) (h : Historian) : Type 0 where
+  pub most : ℕ
+  pub made : ℕ
+  pub ys : List ℕ
+  pub ls : List Alarm
+  pub stores : Stores h most made ys ls
+  pub few : most + n ≤ 2 ^ 60
+  pub low : made ≤ life
 
 -- A historian that was given these readings has the last 40 of them and their alarms. It has made a
 -- record of each reading, by at most 207 commands.

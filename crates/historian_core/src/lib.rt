@@ -2,7 +2,6 @@
 #![tactic(auto)]
 
 ghost use Rattle.std.specs.Prelude.{◌≡◌, ◌≤◌, ◌<◌, ◌+◌, ◌-◌, ◌*◌, ◌^◌, ◌∷◌, ◌++◌, ◌↔◌, ℕ, false, min, max, nat_lt, if◌then◌else◌, List, [], length, slice_index_or, IfOk, IfErr, OnOk, OnErr};
-ghost use Rattle.block_store.specs.declared.Value.TheVariants.{Int};
 ghost use Rattle.never_heap.specs.declared.Command.TheVariants.{New};
 ghost use Rattle.never_heap.specs.Licensed.{NoFulls};
 ghost use Rattle.control_heap.specs.Controls.{HasLeft};
@@ -13,7 +12,7 @@ ghost use Rattle.trace_text.specs.Faults.{Rose};
 ghost use Rattle.trace_text.specs.Streams.{Appends, AppendsPrefix};
 ghost use Rattle.historian_core.specs.declared.Historian.{Historian};
 ghost use Rattle.historian_core.specs.declared.Limits.{Limits};
-ghost use Rattle.historian_core.specs.Kept.{Keeps, Stores, counted, heap_config, with_alarm};
+ghost use Rattle.historian_core.specs.Kept.{IsOpen, Keeps, Stores, counted, heap_config, with_alarm};
 ghost use Rattle.historian_core.specs.Windows as windows;
 
 mod stops;
@@ -238,8 +237,7 @@ pub fn take(historian: &mut Historian, limits: &Limits, count: u64, reading: u32
 impl Historian {
     /// Adds a reading as a record, which takes the place of the one 40 before.
     fn record(&mut self, reading: u32)
-        requires { (most made : ℕ) (ys : List ℕ) (ls : List Alarm) × Stores self.old most made ys ls
-            × (most < 2 ^ 59) × (made < LIFE) }
+        requires { (o : IsOpen 4 self.old) × (o.made < LIFE) }
         ensures { (most made : ℕ) (ys : List ℕ) (ls : List Alarm) → Stores self.old most made ys ls
             → Stores self.new (most + 4) (made + 1) (windows.last_ones (ys ++ reading ∷ [])) ls }
     {
@@ -268,16 +266,15 @@ impl Historian {
 
     /// Clears the alarm of the reading that reading number `count` replaces.
     fn forget(&mut self, count: u64)
-        requires room { (most made : ℕ) (ys : List ℕ) (ls : List Alarm)
-            × Stores self.old most made ys ls × (most < 2 ^ 59) × (made ≤ LIFE) }
+        requires life { IsOpen 81 self.old }
         requires low { count < LIFE }
         ensures { (most made : ℕ) (ys : List ℕ) (ls : List Alarm) → Stores self.old most made ys ls
             → Stores self.new (most + 81) made ys
             (if nat_lt count 40 then ls else cleared (count - 40) ls) }
     {
-        if count >= u64::from(KEPT) {
-            let gone = count - u64::from(KEPT);
-            let Ok(_) = self.alarms.clear(&mut self.heap, gone) else {
+        let kept = u64::from(KEPT);
+        if count >= kept {
+            let Ok(_) = self.alarms.clear(&mut self.heap, count - kept) else {
                 unreachable!();
             };
         }
@@ -285,8 +282,7 @@ impl Historian {
 
     /// Raises the alarm of reading number `count`, if it is one.
     fn judge(&mut self, count: u64, is_alarm: bool)
-        requires room { (most made : ℕ) (ys : List ℕ) (ls : List Alarm)
-            × Stores self.old most made ys ls × (most < 2 ^ 59) × (made ≤ LIFE) }
+        requires life { IsOpen 42 self.old }
         requires low { count < LIFE }
         ensures { (most made : ℕ) (ys : List ℕ) (ls : List Alarm) → Stores self.old most made ys ls
             → stands count ls ≡ false → length ls < 40
@@ -301,8 +297,7 @@ impl Historian {
 
     /// The figures of the readings that are kept.
     fn figures(&mut self) -> Figures
-        requires { (most made : ℕ) (ys : List ℕ) (ls : List Alarm) × Stores self.old most made ys ls
-            × (most < 2 ^ 59) × (made ≤ LIFE) }
+        requires { IsOpen 80 self.old }
         ensures { (most made : ℕ) (ys : List ℕ) (ls : List Alarm) → Stores self.old most made ys ls
             → (result ≡ counted (length ls) ys) × Stores self.new (most + 80) made ys ls }
     {
@@ -317,31 +312,19 @@ impl Historian {
 
     /// Reading `i` of those that are kept, the oldest first.
     fn reading_at(&mut self, i: u32) -> u64
-        requires { (most made : ℕ) (ys : List ℕ) (ls : List Alarm) × Stores self.old most made ys ls
-            × (most < 2 ^ 60 - 2) × (made ≤ LIFE) × (i < length ys) }
-        ensures kept { (most made : ℕ) (ys : List ℕ) (ls : List Alarm)
-            → Stores self.old most made ys ls
-            → (result ≡ slice_index_or ys i 0) × Stores self.new (most + 2) made ys ls }
-        ensures small { result < 2 ^ 32 }
+        requires { (o : IsOpen 2 self.old) × (i < length o.ys) }
+        ensures { (most made : ℕ) (ys : List ℕ) (ls : List Alarm)
+            → Stores self.old most made ys ls → i < length ys
+            → (result ≡ slice_index_or ys i 0) × (result < 2 ^ 32)
+            × Stores self.new (most + 2) made ys ls }
     {
         quiet_commands_keep_graphs();
         let Ok(_) = self.ring.get(&mut self.heap, i, RECORD) else {
             unreachable!();
         };
-        let Ok(value) = self.heap.get(NUMBER, RECORD, 0) else {
+        let Ok(Value::Int(number)) = self.heap.get(NUMBER, RECORD, 0) else {
             unreachable!();
         };
-        number_in(value)
-    }
-}
-
-/// The number that a value is.
-fn number_in(value: Value) -> u64
-    requires { (n : ℕ) × (value ≡ Int n) }
-    ensures { value ≡ Int result }
-{
-    match value {
-        Value::Int(number) => number,
-        _ => unreachable!(),
+        number
     }
 }
