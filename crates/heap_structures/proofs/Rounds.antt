@@ -79,22 +79,22 @@ module _ (g : Graph) (c : Cells) (first count : ℕ) (xs : List Value)
       let start = r.circle.start in
       elim (cases_lt p c.size) [
         | inr past ↦ (
-            c.size,
-            field ∙ get_or_past r.array p Nil (omega (arith, r.circle.long, past))
-                ∙ sym (get_or_past xs c.size Nil r.circle.few),
-          )
+          c.size,
+          field ∙ get_or_past r.array p Nil (omega (arith, r.circle.long, past))
+              ∙ sym (get_or_past xs c.size Nil r.circle.few),
+        )
         | inl here ↦ elim (cases_lt p first) [
           | inl before ↦ (
-              (p + c.size) - first,
-              at ((p + c.size) - first) (omega (arith, start, before))
-                  (around_high c.size (first + ((p + c.size) - first)) (omega (arith, start, before))
-                  ∙ omega (arith, start, before)),
-            )
+            (p + c.size) - first,
+            at ((p + c.size) - first) (omega (arith, start, before))
+                (around_high c.size (first + ((p + c.size) - first)) (omega (arith, start, before))
+                ∙ omega (arith, start, before)),
+          )
           | inr after ↦ (
-              p - first,
-              at (p - first) (omega (arith, here)) (around_low c.size (first + (p - first))
-              (omega (arith, after, here)) ∙ omega (arith, after)),
-            )
+            p - first,
+            at (p - first) (omega (arith, here)) (around_low c.size (first + (p - first))
+                (omega (arith, after, here)) ∙ omega (arith, after)),
+          )
         ]
       ]
 

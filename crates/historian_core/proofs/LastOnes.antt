@@ -1,17 +1,17 @@
 -- The last readings and their alarms, when one more comes.
-use Rattle.std.proofs.Common.{◌≡◌, ℕ, ◌+◌, ◌-◌, ◌<◌, ◌≤◌, ◌==◌, ◌||◌, ◌⊎◌, inl, inr, nat_lt, eq-eqb, ne_eqb, lt-ltb, Bool, true, false, cond, min, max, List, [], ◌∷◌, ◌++◌, length, drop, slice_index_or, sym, refl, ap, ◌∙◌, arith}
+use Rattle.std.proofs.Common.{◌≡◌, ℕ, ◌+◌, ◌-◌, ◌*◌, ◌<◌, ◌≤◌, ◌==◌, ◌||◌, ◌⊎◌, inl, inr, nat_lt, eq-eqb, ne_eqb, lt-ltb, Bool, true, false, cond, min, max, List, [], ◌∷◌, ◌++◌, length, drop, slice_index_or, sym, refl, ap, ◌∙◌, subst, arith}
 use Rattle.std.proofs.lemmas.Bool.{cases_Bool, cases_lt, le-ltb, or_cases, both_ways}
-use Rattle.std.proofs.lemmas.List.{at_drop_more, drop-append-le, drop-drop, length-drop}
+use Rattle.std.proofs.lemmas.List.{at_drop_more, drop-append-le, drop-drop, length-drop, length_push}
 use Rattle.heap_structures.specs.Alarms.{cleared, stands}
 use Rattle.heap_structures.specs.declared.alarms.Alarm.{Alarm}
 use Rattle.historian_core.specs.declared.Limits.{Limits}
 use Rattle.historian_core.specs.declared.Figures.{Figures}
-use Rattle.historian_core.specs.Kept.{counted, standing, with_alarm}
-use Rattle.historian_core.specs.Windows.{alarms_in, greatest_in, is_alarm, last_ones, least_in, total_in}
+use Rattle.historian_core.specs.declared.Historian.{Historian}
+use Rattle.historian_core.specs.Kept.{Keeps, Stores, counted, standing, with_alarm}
+use Rattle.historian_core.specs.Windows.{alarms_in, figures_of, greatest_in, is_alarm, last_ones, least_in, total_in}
 
 pub length_more : (xs : List ℕ) (v : ℕ) → length (xs ++ v ∷ []) ≡ length xs + 1
-length_more [] v = refl
-length_more (x ∷ xs) v = omega (arith, length_more xs v)
+length_more xs v = length_push xs v
 
 pub last_more : (xs : List ℕ) (x : ℕ) → last_ones (last_ones xs ++ x ∷ []) ≡ last_ones (xs ++ x ∷ [])
 last_more xs x =
@@ -142,6 +142,23 @@ module _ (l : Limits) (xs : List ℕ) (x n : ℕ) (long : length xs ≡ n) where
       ∙ sym (standing_more l from (drop from xs) x n (omega (arith, few_left, long)))
       ∙ ap (standing l from) (sym (drop-append-le from xs (x ∷ []) (omega arith)))
       ∙ ap (λ k. standing l k (drop k (xs ++ x ∷ []))) e
+
+  -- so the historian keeps these readings
+  pub keeps_on : (b : Bool) → b ≡ is_alarm l x → (h : Historian) (most : ℕ) (f : Figures)
+      → most ≡ (2 + 207 * length xs) + 207
+      → (f ≡ counted (length (left ++ with_alarm b n [])) (last_ones (last_ones xs ++ x ∷ [])))
+      × Stores h most (length xs + 1) (last_ones (last_ones xs ++ x ∷ [])) (left ++ with_alarm b n [])
+      → (f ≡ figures_of l (last_ones (xs ++ x ∷ []))) × Keeps h l (xs ++ x ∷ [])
+  keeps_on b is h most f few by =
+      let more = length_more xs x in
+      let all : List ℕ = xs ++ x ∷ [] in
+      let e : most ≡ 2 + 207 * length all = omega (arith, few, more) in
+      let alarms = ap (λ t. left ++ with_alarm t n []) is ∙ next in (
+        by.0 ∙ (λ i. counted (length (alarms i)) (last_more xs x i))
+            ∙ ap (λ k. counted k (last_ones all)) (alarms_counted l (length all - 40) (last_ones all)),
+        subst (λ (p : ℕ × ℕ × List ℕ × List Alarm). Stores h p.0 p.1 p.2 p.3)
+            (λ i. (e i, sym more i, last_more xs x i, alarms i)) by.1,
+      )
 
 -- ---- figures, the newest reading first
 

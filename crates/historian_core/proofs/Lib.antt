@@ -1,8 +1,6 @@
 pub mod LastOnes
-pub mod FewBlocks
-pub mod Moves
-pub mod Lives
-pub mod Calls
+pub mod Graphs
+pub mod Keeping
 pub mod Opening
 pub mod TextLaws
 pub mod ReportSoFar

@@ -1,5 +1,5 @@
 -- A heap that keeps readings.
-use Rattle.std.specs.Prelude.{ℕ, ◌+◌, ◌-◌, ◌*◌, ◌<◌, ◌≤◌, ◌≡◌, ◌≢◌, ◌^◌, Bool, false, if◌then◌else◌, List, [], ◌∷◌, length}
+use Rattle.std.specs.Prelude.{ℕ, ◌+◌, ◌-◌, ◌*◌, ◌<◌, ◌≤◌, ◌≡◌, ◌≢◌, ◌^◌, Bool, false, if◌then◌else◌, List, [], ◌∷◌, length, slice_index_or}
 use Rattle.block_store.specs.declared.Config.{Config}
 use Rattle.block_store.specs.declared.Name.{Name}
 use Rattle.block_store.specs.declared.Value.{Value}
@@ -44,15 +44,11 @@ standing l i [] = []
 standing l i (y ∷ ys) = with_alarm (is_alarm l y) i (standing l (i + 1) ys)
 
 -- a value refers to an object with this reading alone
-abbrev pub IsReading : Graph → Value → ℕ → Type 0
-IsReading g (Ref a) y = ((object_of g a).fields ≡ Int y ∷ []) × (y < 2 ^ 32)
-IsReading g v y = ⊥
-
--- these values to objects with these readings, in their order
-abbrev pub HaveReadings : Graph → List Value → List ℕ → Type 0
-HaveReadings g [] [] = Unit {0}
-HaveReadings g (v ∷ vs) (y ∷ ys) = IsReading g v y × HaveReadings g vs ys
-HaveReadings g vs ys = ⊥
+pub record IsReading (g : Graph) (v : Value) (y : ℕ) : Type 0 where
+  pub name : Name
+  pub is : v ≡ Ref name
+  pub fields : (object_of g name).fields ≡ Int y ∷ []
+  pub low : y < 2 ^ 32
 
 -- The ring has the records of these readings, and the list these alarms. The shared array is empty,
 -- and no register but those of the structures and register 1 refers to an object.
@@ -66,7 +62,9 @@ pub record IsLaid (g : Graph) (r : Ring) (a : AlarmList) (ys : List ℕ) (ls : L
     pub plain : (q : ℕ) (b : Name) → IsNone (0 ∷ 1 ∷ 3 ∷ 4 ∷ []) q → held g q ≢ Ref b
     pub values : List Value
     pub ring : IsRing g r values
-    pub readings : HaveReadings g values ys
+    pub long : length values ≡ length ys
+    pub readings : (i : ℕ) → i < length ys
+        → IsReading g (slice_index_or values i Nil) (slice_index_or ys i 0)
     pub alarms : IsAlarms g a ls
 
 -- A historian with these readings and alarms. Its heap has met no `Full`, has done at most so many
@@ -80,15 +78,17 @@ pub record Stores (h : Historian) (most made : ℕ) (ys : List ℕ) (ls : List A
   pub objects : h.heap.objects ≡ 2 + made
   pub units : (rate : ℕ) → IsRate heap_config rate → units h.heap ≡ rate * (12 + made)
 
--- a historian, with room in the life of its heap for n more commands
-pub record IsOpen (n : ℕ) (h : Historian) : Type 0 where
+-- the same, with these numbers and lists as fields
+pub record State (h : Historian) : Type 0 where
   pub most : ℕ
   pub made : ℕ
   pub ys : List ℕ
   pub ls : List Alarm
   pub stores : Stores h most made ys ls
-  pub few : most + n ≤ 2 ^ 60
-  pub low : made ≤ life
+
+-- there is room in the life of the heap for n more commands
+abbrev pub Fits : {h : Historian} → State h → ℕ → Type 0
+Fits s n = (s.most + n ≤ 2 ^ 60) × (s.made ≤ life)
 
 -- A historian that was given these readings has the last 40 of them and their alarms. It has made a
 -- record of each reading, by at most 207 commands.

@@ -1,7 +1,8 @@
 //! The last 40 readings of a number, kept as records on a garbage-collected heap.
 #![tactic(auto)]
 
-ghost use Rattle.std.specs.Prelude.{◌≡◌, ◌≤◌, ◌<◌, ◌+◌, ◌-◌, ◌*◌, ◌^◌, ◌∷◌, ◌++◌, ◌↔◌, ℕ, false, min, max, nat_lt, if◌then◌else◌, List, [], length, slice_index_or, IfOk, IfErr, OnOk, OnErr};
+ghost use Rattle.std.specs.Prelude.{◌≡◌, ◌≤◌, ◌<◌, ◌+◌, ◌-◌, ◌*◌, ◌^◌, ◌∷◌, ◌++◌, ◌↔◌, ℕ, false, min, max, nat_lt, if◌then◌else◌, List, [], length, slice_index_or, IfOk, IfErr, OnOk, OnErr, IsOkAnd};
+ghost use Rattle.block_store.specs.declared.Value.TheVariants.{Int};
 ghost use Rattle.never_heap.specs.declared.Command.TheVariants.{New};
 ghost use Rattle.never_heap.specs.Licensed.{NoFulls};
 ghost use Rattle.control_heap.specs.Controls.{HasLeft};
@@ -12,7 +13,7 @@ ghost use Rattle.trace_text.specs.Faults.{Rose};
 ghost use Rattle.trace_text.specs.Streams.{Appends, AppendsPrefix};
 ghost use Rattle.historian_core.specs.declared.Historian.{Historian};
 ghost use Rattle.historian_core.specs.declared.Limits.{Limits};
-ghost use Rattle.historian_core.specs.Kept.{IsOpen, Keeps, Stores, counted, heap_config, with_alarm};
+ghost use Rattle.historian_core.specs.Kept.{Fits, Keeps, State, Stores, counted, heap_config, with_alarm};
 ghost use Rattle.historian_core.specs.Windows as windows;
 
 mod stops;
@@ -21,7 +22,7 @@ mod tests;
 mod texts;
 
 use block_store::{Config, Value, Width};
-use control_heap::{ControlHeap, OpenFault};
+use control_heap::{ControlHeap, Fault, OpenFault};
 use graph_view::{ask_all, lives_add_up, open, shown_heaps_met_no_full};
 use heap_structures::{AlarmList, Ring, quiet_commands_keep_graphs};
 use never_heap::Command;
@@ -170,11 +171,7 @@ pub fn start(alloc: Global) -> Result<Historian, OpenFault>
     let Ok(alarms) = AlarmList::new(&mut heap, ALARMS, RECORD, KEPT) else {
         unreachable!();
     };
-    Ok(Historian {
-        heap,
-        ring,
-        alarms,
-    })
+    Ok(Historian { heap, ring, alarms })
 }
 
 /// Adds a reading to `count` others, and writes the line of the last 40 by one `put`.
@@ -228,18 +225,31 @@ pub fn take(historian: &mut Historian, limits: &Limits, count: u64, reading: u32
         → (result ≡ windows.figures_of limits.now (windows.last_ones (xs ++ reading ∷ [])))
         × Keeps historian.new limits.now (xs ++ reading ∷ []) }
 {
-    historian.record(reading);
-    historian.forget(count);
-    historian.judge(count, limits.has_alarm(reading));
-    historian.figures()
+    let Ok(figures) = historian.add(limits, count, reading) else {
+        unreachable!();
+    };
+    figures
 }
 
 impl Historian {
+    /// Does `take`. No command is refused.
+    fn add(&mut self, limits: &Limits, count: u64, reading: u32) -> Result<Figures, Fault>
+        ensures { (xs : List ℕ) → Keeps self.old limits.now xs → length xs ≡ count → count < LIFE
+            → IsOkAnd result (λ f.
+            (f ≡ windows.figures_of limits.now (windows.last_ones (xs ++ reading ∷ [])))
+            × Keeps self.new limits.now (xs ++ reading ∷ [])) }
+    {
+        self.record(reading)?;
+        self.forget(count)?;
+        self.judge(count, limits.has_alarm(reading))?;
+        self.figures()
+    }
+
     /// Adds a reading as a record, which takes the place of the one 40 before.
-    fn record(&mut self, reading: u32)
-        requires { (o : IsOpen 4 self.old) × (o.made < LIFE) }
-        ensures { (most made : ℕ) (ys : List ℕ) (ls : List Alarm) → Stores self.old most made ys ls
-            → Stores self.new (most + 4) (made + 1) (windows.last_ones (ys ++ reading ∷ [])) ls }
+    fn record(&mut self, reading: u32) -> Result<(), Fault>
+        ensures { (s : State self.old) → Fits s 4 → s.made < LIFE
+            → IsOkAnd result (λ _. Stores self.new (s.most + 4) (s.made + 1)
+            (windows.last_ones (s.ys ++ reading ∷ [])) s.ls) }
     {
         let value = u64::from(reading);
         let commands = [
@@ -257,74 +267,73 @@ impl Historian {
         lives_add_up();
         live_grows();
         let Ok(_) = ask_all(&mut self.heap, &commands) else {
-            unreachable!();
+            return Err(Fault::NoLifeLeft);
         };
-        let Ok(()) = self.ring.push(&mut self.heap, RECORD) else {
-            unreachable!();
-        };
+        self.ring.push(&mut self.heap, RECORD)
     }
 
     /// Clears the alarm of the reading that reading number `count` replaces.
-    fn forget(&mut self, count: u64)
-        requires life { IsOpen 81 self.old }
-        requires low { count < LIFE }
-        ensures { (most made : ℕ) (ys : List ℕ) (ls : List Alarm) → Stores self.old most made ys ls
-            → Stores self.new (most + 81) made ys
-            (if nat_lt count 40 then ls else cleared (count - 40) ls) }
+    fn forget(&mut self, count: u64) -> Result<(), Fault>
+        ensures { (s : State self.old) → Fits s 81 → count < LIFE
+            → IsOkAnd result (λ _. Stores self.new (s.most + 81) s.made s.ys
+            (if nat_lt count 40 then s.ls else cleared (count - 40) s.ls)) }
     {
         let kept = u64::from(KEPT);
-        if count >= kept {
-            let Ok(_) = self.alarms.clear(&mut self.heap, count - kept) else {
-                unreachable!();
-            };
+        if count < kept {
+            return Ok(());
         }
+        self.alarms.clear(&mut self.heap, count - kept)?;
+        Ok(())
     }
 
     /// Raises the alarm of reading number `count`, if it is one.
-    fn judge(&mut self, count: u64, is_alarm: bool)
-        requires life { IsOpen 42 self.old }
-        requires low { count < LIFE }
-        ensures { (most made : ℕ) (ys : List ℕ) (ls : List Alarm) → Stores self.old most made ys ls
-            → stands count ls ≡ false → length ls < 40
-            → Stores self.new (most + 42) made ys (ls ++ with_alarm is_alarm count []) }
+    fn judge(&mut self, count: u64, is_alarm: bool) -> Result<(), Fault>
+        ensures { (s : State self.old) → Fits s 42 → count < LIFE → stands count s.ls ≡ false
+            → length s.ls < 40
+            → IsOkAnd result (λ _. Stores self.new (s.most + 42) s.made s.ys
+            (s.ls ++ with_alarm is_alarm count [])) }
     {
-        if is_alarm {
-            let Ok(_) = self.alarms.raise(&mut self.heap, count) else {
-                unreachable!();
-            };
+        if !is_alarm {
+            return Ok(());
         }
+        self.alarms.raise(&mut self.heap, count)?;
+        Ok(())
     }
 
     /// The figures of the readings that are kept.
-    fn figures(&mut self) -> Figures
-        requires { IsOpen 80 self.old }
-        ensures { (most made : ℕ) (ys : List ℕ) (ls : List Alarm) → Stores self.old most made ys ls
-            → (result ≡ counted (length ls) ys) × Stores self.new (most + 80) made ys ls }
+    fn figures(&mut self) -> Result<Figures, Fault>
+        ensures { (s : State self.old) → Fits s 80
+            → IsOkAnd result (λ f. (f ≡ counted (length s.ls) s.ys)
+            × Stores self.new (s.most + 80) s.made s.ys s.ls) }
     {
         let mut figures = Figures::of_alarms(u64::from(self.alarms.len()));
         let kept = self.ring.len();
         for back in 0..kept {
-            let number = self.reading_at(kept - 1 - back);
-            figures = figures.with(number);
+            let number = self.reading_at(kept - 1 - back)?;
+            figures = figures.with(u64::from(number));
         }
-        figures
+        Ok(figures)
     }
 
     /// Reading `i` of those that are kept, the oldest first.
-    fn reading_at(&mut self, i: u32) -> u64
-        requires { (o : IsOpen 2 self.old) × (i < length o.ys) }
-        ensures { (most made : ℕ) (ys : List ℕ) (ls : List Alarm)
-            → Stores self.old most made ys ls → i < length ys
-            → (result ≡ slice_index_or ys i 0) × (result < 2 ^ 32)
-            × Stores self.new (most + 2) made ys ls }
+    fn reading_at(&mut self, i: u32) -> Result<u32, Fault>
+        ensures { (s : State self.old) → Fits s 2 → i < length s.ys
+            → IsOkAnd result (λ y. (y ≡ slice_index_or s.ys i 0)
+            × Stores self.new (s.most + 2) s.made s.ys s.ls) }
     {
         quiet_commands_keep_graphs();
-        let Ok(_) = self.ring.get(&mut self.heap, i, RECORD) else {
-            unreachable!();
-        };
-        let Ok(Value::Int(number)) = self.heap.get(NUMBER, RECORD, 0) else {
-            unreachable!();
-        };
-        number
+        self.ring.get(&mut self.heap, i, RECORD)?;
+        let value = self.heap.get(NUMBER, RECORD, 0)?;
+        Ok(number_in(value))
+    }
+}
+
+/// The number that a value is, below 2^32.
+fn number_in(value: Value) -> u32
+    ensures { (n : ℕ) → value ≡ Int n → n < 2 ^ 32 → result ≡ n }
+{
+    match value {
+        Value::Int(number) if number < 1 << 32 => number as u32,
+        _ => 0,
     }
 }

@@ -1,9 +1,9 @@
 use Rattle.std.proofs.Common.{arith}
-use Rattle.historian_core.proofs.Lives.{life_left}
-use Rattle.historian_core.proofs.LastOnes.{next}
-use Rattle.historian_core.proofs.FewBlocks.{laid_few}
-use Rattle.historian_core.proofs.Calls.{recorded}
+use Rattle.historian_core.proofs.Keeping.{life_left}
+use Rattle.historian_core.proofs.LastOnes.{keeps_on}
+use Rattle.historian_core.proofs.Opening.{started}
 use Rattle.historian_core.proofs.lives_end_with_the_heap.Goals as goal
 
 pub returns : goal.returns
-returns _ h l xs k = life_left h _ _ _ _ k (omega arith)
+returns _ h l xs k =
+    life_left h (record { most = _; made = _; ys = _; ls = _; stores = k }) (omega arith)
