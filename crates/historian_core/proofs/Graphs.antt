@@ -117,8 +117,7 @@ readings_more g n vs ys v y e many are one =
             (ap (λ m. slice_index_or (vs ++ v ∷ []) (m + i) Nil) (sym same)
                 ∙ sym (get_or-drop k (vs ++ v ∷ []) i Nil)) t,
             sym (get_or-drop j (ys ++ y ∷ []) i 0) t,
-          ))
-          (all (j + i) (omega (arith, low, also, length_push ys y))),
+          )) (all (j + i) (omega (arith, low, also, length_push ys y))),
     )
   where
     all : (i : ℕ) → i < length ys + 1
@@ -241,7 +240,8 @@ one Record = omega arith
 one Array = omega arith
 
 -- the one field
-only : (fs : List Value) (v : Value) (i : ℕ) (b : Name) → fs ≡ v ∷ [] → slice_index_or fs i Nil ≡ Ref b
+only : (fs : List Value) (v : Value) (i : ℕ) (b : Name) → fs ≡ v ∷ []
+    → slice_index_or fs i Nil ≡ Ref b
     → v ≡ Ref b
 only fs v zero b e is = sym (ap (λ vs. slice_index_or vs 0 Nil) e) ∙ is
 only fs v (suc i) b e is =
@@ -289,7 +289,8 @@ module _ (g : Graph) (r : Ring) (l : AlarmList) (ys : List ℕ) (ls : List Alarm
   abbrev some : List Name
   some = shared_name 1 ∷ a ∷ r.cells.array ∷ l.cells.array ∷ refs laid.values
 
-  base : (c : Cells) (q : ℕ) (vs : List Value) → IsCells g c vs → c.base ≡ q → held g q ≡ Ref c.array
+  base : (c : Cells) (q : ℕ) (vs : List Value) → IsCells g c vs → c.base ≡ q
+      → held g q ≡ Ref c.array
   base c q vs is e = sym (ap (held g) e) ∙ is.base
 
   by_register : (t q : ℕ) (b : Name) → register_of g t q ≡ Ref b → IsIn b some
@@ -326,7 +327,8 @@ module _ (g : Graph) (r : Ring) (l : AlarmList) (ys : List ℕ) (ls : List Alarm
 
   by_field : (b x : Name) (i : ℕ) → IsIn b some → field_of (object_of g b) i ≡ Ref x → IsIn x some
   by_field b x i (inl is) e =
-      let bad = only _ Nil i x (ap (λ n. (object_of g n).fields) (sym is) ∙ laid.shared) e in absurd cc
+      let bad = only _ Nil i x (ap (λ n. (object_of g n).fields) (sym is) ∙ laid.shared) e in absurd
+      cc
   by_field b x i (inr (inl is)) e =
       let bad = only _ Nil i x (ap (λ n. (object_of g n).fields) (sym is) ∙ fields) e in absurd cc
   by_field b x i (inr (inr (inl is))) e =
@@ -357,7 +359,8 @@ module _ (g : Graph) (r : Ring) (l : AlarmList) (ys : List ℕ) (ls : List Alarm
       let s3 = sum_by-cons f l.cells.array (refs laid.values) in
       let s2 = sum_by-cons f r.cells.array (l.cells.array ∷ refs laid.values) in
       let s1 = sum_by-cons f a (r.cells.array ∷ l.cells.array ∷ refs laid.values) in
-      let s0 = sum_by-cons f (shared_name 1) (a ∷ r.cells.array ∷ l.cells.array ∷ refs laid.values) in
+      let s0 = sum_by-cons f (shared_name 1)
+      (a ∷ r.cells.array ∷ l.cells.array ∷ refs laid.values) in
       let records = refs_weigh f laid.values 1 (λ i b e. ones b (ap length (reading i b e).1)) in
       let ring = sixes r.cells _ laid.ring.cells laid.ring_place.2 in
       let list = sixes l.cells _ laid.alarms.cells laid.alarm_place.2 in

@@ -109,9 +109,11 @@ module _ (h : Historian) (s : State h) where
   }
 
   -- room for a record
-  pub room_for : (n : ℕ) → n < 2 ^ 62 → Fits s 4 → s.made < life → HasRoomFor h.heap (new_commands n)
+  pub room_for : (n : ℕ) → n < 2 ^ 62 → Fits s 4 → s.made < life
+      → HasRoomFor h.heap (new_commands n)
   room_for n small fits low = record {
-    bounds = subst (λ c. AllByRecursion (IsCommandInBounds c) (new_commands n)) (sym s.stores.config) (
+    bounds = subst (λ c. AllByRecursion (IsCommandInBounds c) (new_commands n))
+    (sym s.stores.config) (
       record {
         range = (omega arith, omega arith);
         blocks = omega arith;
@@ -205,8 +207,8 @@ module _ (h : Historian) (s : State h) where
       (zs : List ℕ) → IsRing z r vs → length vs ≡ length zs → AreReadings g vs zs
       → IsLaid z r h.alarms zs s.ls
   ring_moved z spares two r same vs zs ring many are =
-      moved g z h.ring h.alarms s.ys s.ls laid h.ring.cells.array spares off_ring two r same h.alarms
-      refl vs zs s.ls ring many are
+      moved g z h.ring h.alarms s.ys s.ls laid h.ring.cells.array spares off_ring two r same
+      h.alarms refl vs zs s.ls ring many are
       (alarms_stay g z h.ring h.alarms s.ys s.ls laid h.ring.cells.array spares off_ring
       (λ e. laid.apart (sym e)))
 
@@ -237,8 +239,8 @@ module _ (h : Historian) (s : State h) where
       (λ q none. ((λ e. none.0 (e ∙ laid.alarm_place.1)), tt)) d.spares in
       let two = d.spares.registers 2 ((λ e. absurd (omega (arith, e, laid.alarm_place.1))), tt) in
       after n all few z h.ring l s.ys ms d.graph d.has d.took
-      (moved g d.graph h.ring h.alarms s.ys s.ls laid a spares off_list (two_stays d.graph two) h.ring
-      refl l same laid.values s.ys ms
+      (moved g d.graph h.ring h.alarms s.ys s.ls laid a spares off_list (two_stays d.graph two)
+      h.ring refl l same laid.values s.ys ms
       (ring_stays g d.graph h.ring h.alarms s.ys s.ls laid a spares off_list laid.apart) laid.long
       laid.readings alarms)
 
@@ -283,12 +285,14 @@ module _ (h : Historian) (s : State h) where
         let second = grows Eight g1 0 (commands.Set 2 n) in
         let third = grows Eight (graphs.g2 g lone n) 0 (commands.Put 1 0 2) in
         subst (λ c. AllAreSmall c g (new_commands n)) (sym s.stores.config)
-        (omega (arith, first), (omega (arith, first, second), (omega (arith, first, second, third), tt)))
+        (omega (arith, first), (omega (arith, first, second),
+        (omega (arith, first, second, third), tt)))
 
     pub recorded : (z : Control) (reply : Reply) → n < 2 ^ 32
         → AllFollow HasMetNoFull h.heap (new_commands n) reply z
         → HasUsed h.heap (new_commands n) z
-        → (t : Stores (record { heap = z; ring = h.ring; alarms = h.alarms }) (s.most + 3) (s.made + 1) s.ys s.ls)
+        → (t : Stores (record { heap = z; ring = h.ring; alarms = h.alarms }) (s.most + 3)
+        (s.made + 1) s.ys s.ls)
         × IsReading t.graph (held t.graph 1) n
     recorded z reply low follows took =
         let t = graphs.third g lone n in (
@@ -326,7 +330,8 @@ module _ (h : Historian) (s : State h) where
       → Gives k 1 (drop i laid.values) v → IsReading k (held k 1) (slice_index_or s.ys i 0)
   given k i v low are gives =
       subst (λ w. IsReading k w (slice_index_or s.ys i 0)) (sym (loaded v
-      (subst (λ xs. Gives k 1 xs v) (at_drop_more (λ xs. xs) laid.values i Nil (omega (arith, low, laid.long))) gives)))
+      (subst (λ xs. Gives k 1 xs v)
+      (at_drop_more (λ xs. xs) laid.values i Nil (omega (arith, low, laid.long))) gives)))
       (are i low)
     where
       loaded : (v : Option Value)
@@ -341,14 +346,16 @@ module _ (h : Historian) (s : State h) where
       (λ k. IsRing k h.ring laid.values × Gives k 1 (drop i laid.values) v)
       → Fits s 2 → z.config ≡ y.config → HasTold replies.Val acts y (commands.Get 2 1 0) z x
       → IsOkAnd x (λ w. (w ≡ Int (slice_index_or s.ys i 0)) × (slice_index_or s.ys i 0 < 2 ^ 32)
-      × Stores (record { heap = z; ring = h.ring; alarms = h.alarms }) (s.most + 2) s.made s.ys s.ls)
+      × Stores (record { heap = z; ring = h.ring; alarms = h.alarms }) (s.most + 2) s.made s.ys
+      s.ls)
   read law i v y z acts x low d fits same told =
       let arr : Name = h.ring.cells.array in
       let n : ℕ = slice_index_or s.ys i 0 in
-      let first = spares_wider (1 ∷ []) (1 ∷ 2 ∷ []) arr g d.graph (λ q none. (none.0, tt)) d.spares in
+      let first = spares_wider (1 ∷ []) (1 ∷ 2 ∷ []) arr g d.graph (λ q none. (none.0, tt))
+      d.spares in
       let at = given d.graph i v low
-      (graphs.readings_stay g d.graph h.ring h.alarms s.ys s.ls laid arr first off_ring laid.values s.ys
-      laid.readings) d.holds.1 in
+      (graphs.readings_stay g d.graph h.ring h.alarms s.ys s.ls laid arr first off_ring laid.values
+      s.ys laid.readings) d.holds.1 in
       let one : IsCells d.graph (record { array = at.name; base = 1; spare = 2; size = 1 })
       (Int n ∷ []) = record {
         base = at.is;
@@ -383,8 +390,7 @@ module _ (h : Historian) (s : State h) where
               circle = d.holds.0.circle;
               counted = d.holds.0.counted;
             }) laid.long laid.readings),
-      ))
-      (told_ok law replies.Val Always y z d.graph (commands.Get 2 1 0) (refl, refl) d.has
+      )) (told_ok law replies.Val Always y z d.graph (commands.Get 2 1 0) (refl, refl) d.has
       (room_after 1 1 h.heap y d.took (room 2 fits))
       (plain_fits refl refl tt (omega arith, omega arith, omega arith)) same (replies.Val (Int n))
       (ap (λ (q : Graph × Reply). q.1) is) refl acts x told)

@@ -13,7 +13,8 @@ use Rattle.historian_core.specs.Windows.{alarms_in, figures_of, greatest_in, is_
 pub length_more : (xs : List ℕ) (v : ℕ) → length (xs ++ v ∷ []) ≡ length xs + 1
 length_more xs v = length_push xs v
 
-pub last_more : (xs : List ℕ) (x : ℕ) → last_ones (last_ones xs ++ x ∷ []) ≡ last_ones (xs ++ x ∷ [])
+pub last_more : (xs : List ℕ) (x : ℕ)
+    → last_ones (last_ones xs ++ x ∷ []) ≡ last_ones (xs ++ x ∷ [])
 last_more xs x =
     let n : ℕ = length xs - 40 in
     let all : List ℕ = xs ++ x ∷ [] in
@@ -36,10 +37,12 @@ none_of : (l : Limits) (n i : ℕ) (ys : List ℕ) → (n < i) ⊎ (i + length y
     → stands n (standing l i ys) ≡ false
 none_of l n i [] out = refl
 none_of l n i (y ∷ ys) (inl low) =
-    not_with (is_alarm l y) n i (standing l (i + 1) ys) (ne_eqb i n (λ e. absurd (omega (arith, e))))
+    not_with (is_alarm l y) n i (standing l (i + 1) ys)
+    (ne_eqb i n (λ e. absurd (omega (arith, e))))
     (none_of l n (i + 1) ys (inl (omega arith)))
 none_of l n i (y ∷ ys) (inr high) =
-    not_with (is_alarm l y) n i (standing l (i + 1) ys) (ne_eqb i n (λ e. absurd (omega (arith, e))))
+    not_with (is_alarm l y) n i (standing l (i + 1) ys)
+    (ne_eqb i n (λ e. absurd (omega (arith, e))))
     (none_of l n (i + 1) ys (inr (omega arith)))
 
 none_cleared : (n : ℕ) (ls : List Alarm) → stands n ls ≡ false → cleared n ls ≡ ls
@@ -53,7 +56,8 @@ none_cleared n (x ∷ ls) none = elim (cases_Bool (x.number == n)) [
 first_cleared : (b : Bool) (i : ℕ) (ls : List Alarm) → stands i ls ≡ false
     → cleared i (with_alarm b i ls) ≡ ls
 first_cleared true i ls none =
-    ap (λ t. cond t ls (record { number = i; acknowledged = false } ∷ cleared i ls)) (eq-eqb i i refl)
+    ap (λ t. cond t ls (record { number = i; acknowledged = false } ∷ cleared i ls))
+    (eq-eqb i i refl)
 first_cleared false i ls none = none_cleared i ls none
 
 with_more : (b : Bool) (i : ℕ) (ls ms : List Alarm)
@@ -114,7 +118,8 @@ module _ (l : Limits) (xs : List ℕ) (x n : ℕ) (long : length xs ≡ n) where
         let f : first + 1 ≡ from = omega (arith, many, long) in
         ap (λ b. cond b old (cleared (n - 40) old)) (le-ltb n 40 many)
         ∙ ap (λ k. cleared k old) e
-        ∙ at_drop_more (λ zs. cleared first (standing l first zs)) xs first 0 (omega (arith, many, long))
+        ∙ at_drop_more (λ zs. cleared first (standing l first zs)) xs first 0
+        (omega (arith, many, long))
         ∙ first_cleared (is_alarm l (slice_index_or xs first 0)) first
         (standing l (first + 1) (drop (first + 1) xs))
         (none_of l first (first + 1) (drop (first + 1) xs) (inl (omega arith)))
@@ -147,7 +152,8 @@ module _ (l : Limits) (xs : List ℕ) (x n : ℕ) (long : length xs ≡ n) where
   pub keeps_on : (b : Bool) → b ≡ is_alarm l x → (h : Historian) (most : ℕ) (f : Figures)
       → most ≡ (2 + 207 * length xs) + 207
       → (f ≡ counted (length (left ++ with_alarm b n [])) (last_ones (last_ones xs ++ x ∷ [])))
-      × Stores h most (length xs + 1) (last_ones (last_ones xs ++ x ∷ [])) (left ++ with_alarm b n [])
+      × Stores h most (length xs + 1) (last_ones (last_ones xs ++ x ∷ []))
+      (left ++ with_alarm b n [])
       → (f ≡ figures_of l (last_ones (xs ++ x ∷ []))) × Keeps h l (xs ++ x ∷ [])
   keeps_on b is h most f few by =
       let more = length_more xs x in
@@ -155,7 +161,8 @@ module _ (l : Limits) (xs : List ℕ) (x n : ℕ) (long : length xs ≡ n) where
       let e : most ≡ 2 + 207 * length all = omega (arith, few, more) in
       let alarms = ap (λ t. left ++ with_alarm t n []) is ∙ next in (
         by.0 ∙ (λ i. counted (length (alarms i)) (last_more xs x i))
-            ∙ ap (λ k. counted k (last_ones all)) (alarms_counted l (length all - 40) (last_ones all)),
+            ∙ ap (λ k. counted k (last_ones all))
+            (alarms_counted l (length all - 40) (last_ones all)),
         subst (λ (p : ℕ × ℕ × List ℕ × List Alarm). Stores h p.0 p.1 p.2 p.3)
             (λ i. (e i, sym more i, last_more xs x i, alarms i)) by.1,
       )

@@ -138,7 +138,8 @@ module _ (h : Control) (same : h.config ≡ heap_config) where
             shared = ap (λ (x : Object). x.fields) (p.spares.objects (shared_name 1)
                 (λ e. both_ways (has_name o.graph l.cells.array) p.fresh
                 (ap (has_name o.graph) (sym e) ∙ o.spares.names (shared_name 1) refl))
-                ∙ o.spares.objects (shared_name 1) (λ e. both_ways (has_name g0 r.cells.array) o.fresh
+                ∙ o.spares.objects (shared_name 1)
+                (λ e. both_ways (has_name g0 r.cells.array) o.fresh
                 (ap (has_name g0) (sym e))));
             plain = λ q b none e.
                 no_start q b none.0 (sym (stays q none.1.1.0 none.1.1.1.0) ∙ e);
@@ -157,6 +158,7 @@ module _ (h : Control) (same : h.config ≡ heap_config) where
               let by : units z ≡ units y + rate * array_blocks y.config.width l.cells.size =
               p.units rate (subst (λ c. IsRate c rate) (sym (o.config ∙ same)) is) in
               let e : rate * array_blocks y.config.width l.cells.size ≡ rate * 6 =
-              (λ i. rate * array_blocks ((o.config ∙ same) i).width (own.2 i)) ∙ ap (λ n. rate * n) six in
+              (λ i. rate * array_blocks ((o.config ∙ same) i).width (own.2 i))
+              ∙ ap (λ n. rate * n) six in
               omega (arith, by, e, made_units rate is, new.1);
         }

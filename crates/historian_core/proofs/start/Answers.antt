@@ -11,8 +11,10 @@ unreachable-requires c =
     let fresh = c.in_ok-heap.ensures.fresh in
     not_refused h c.new.new.heap 3 2 40 g0 c.in_default.field-0 (omega arith)
     (λ e. absurd (omega (arith, e))) (omega arith) (in_bounds h same 3 (omega arith))
-    (is_left h same 3 (omega (arith, fresh.0)) (omega (arith, fresh.2)) (λ rate is. omega (arith, fresh.1)))
-    (c.in_default.ensures.opens Always g0 (c.in_ok-heap.ensures.shown start_small) (start_may h same))
+    (is_left h same 3 (omega (arith, fresh.0)) (omega (arith, fresh.2))
+    (λ rate is. omega (arith, fresh.1)))
+    (c.in_default.ensures.opens Always g0 (c.in_ok-heap.ensures.shown start_small)
+    (start_may h same))
 
 pub unreachable-requires-in_default-new : goal.unreachable-requires-in_default-new
 unreachable-requires-in_default-new c =
@@ -25,7 +27,8 @@ unreachable-requires-in_default-new c =
     let units = made_units h same y c.in-Ok.ring c.in-Ok.ensures.placed o in
     not_refused y c.new-2.new.heap 4 1 40 o.graph c.in_default-new.field-0 (omega arith)
     (λ e. absurd (omega (arith, e))) (omega arith) (in_bounds y (o.config ∙ same) 4 (omega arith))
-    (is_left y (o.config ∙ same) 4 (omega (arith, o.commands, fresh.0)) (omega (arith, o.objects, fresh.2))
+    (is_left y (o.config ∙ same) 4 (omega (arith, o.commands, fresh.0))
+    (omega (arith, o.objects, fresh.2))
     (λ rate is. omega (arith, units rate is, fresh.1)))
     (c.in_default-new.ensures.opens Always o.graph o.has
     (next_may h same y c.in-Ok.ring c.in-Ok.ensures.placed o))

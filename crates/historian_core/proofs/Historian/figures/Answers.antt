@@ -12,8 +12,10 @@ loop-back-init c = record {
       let kept = c.len-kept.ensures s.stores.graph s.stores.laid.values s.stores.laid.ring in (
         widened c.args.self.now s (s.most + 2 * 0) (omega arith),
         c.of_alarms-figures.ensures
-            ∙ (λ i. counted ((c.from.ensures ∙ c.len.ensures s.stores.graph s.ls s.stores.laid.alarms) i)
-            (sym (drop_all (c.len-kept.result - 0) s.ys (omega (arith, s.stores.laid.long, kept))) i)),
+            ∙ (λ i. counted ((c.from.ensures
+            ∙ c.len.ensures s.stores.graph s.ls s.stores.laid.alarms) i)
+            (sym (drop_all (c.len-kept.result - 0) s.ys (omega (arith, s.stores.laid.long, kept)))
+            i)),
       );
   total = omega (arith, ap (λ (f : Figures). f.total) c.of_alarms-figures.ensures);
   count = ap (λ (f : Figures). f.count) c.of_alarms-figures.ensures;
@@ -23,7 +25,8 @@ pub returns-in_err-number : goal.returns-in_err-number
 returns-in_err-number c = λ s fits.
     let kept = c.len-kept.ensures s.stores.graph s.stores.laid.values s.stores.laid.ring in
     absurd (c.in_err-number.ensures (state (c.loop-back.invariant.told s fits).0)
-    (omega (arith, fits.0, c.loop-back-test.true, kept, s.stores.laid.ring.circle.few, s.stores.laid.ring_place.2), fits.1)
+    (omega (arith, fits.0, c.loop-back-test.true, kept, s.stores.laid.ring.circle.few,
+    s.stores.laid.ring_place.2), fits.1)
     (omega (arith, c.loop-back-test.true, kept, s.stores.laid.long)))
 
 pub loop-back-preserved : goal.loop-back-preserved
@@ -32,11 +35,13 @@ loop-back-preserved c = record {
       let kept = c.len-kept.ensures s.stores.graph s.stores.laid.values s.stores.laid.ring in
       let old = c.loop-back.invariant.told s fits in
       let by = c.in_ok-number.ensures (state old.0)
-      (omega (arith, fits.0, c.loop-back-test.true, kept, s.stores.laid.ring.circle.few, s.stores.laid.ring_place.2), fits.1)
+      (omega (arith, fits.0, c.loop-back-test.true, kept, s.stores.laid.ring.circle.few,
+      s.stores.laid.ring_place.2), fits.1)
       (omega (arith, c.loop-back-test.true, kept, s.stores.laid.long)) in (
         widened _ (state by.1) (s.most + 2 * (c.loop-back.back + 1)) (omega arith),
         c.with-figures.ensures
-            ∙ counted_next (length s.ls) c.len-kept.result c.loop-back.back c.from-in-loop-back.result s.ys
+            ∙ counted_next (length s.ls) c.len-kept.result c.loop-back.back
+            c.from-in-loop-back.result s.ys
             c.loop-back.figures (omega (arith, kept, s.stores.laid.long)) c.loop-back-test.true
             (c.from-in-loop-back.ensures ∙ by.0) old.1,
       );
@@ -51,5 +56,6 @@ returns c = λ s fits.
     let none : c.len-kept.result - c.loop-back.back ≡ 0 = omega (arith, c.loop-back-test.false) in (
       old.1 ∙ ap (λ k. counted (length s.ls) (drop k s.ys)) none,
       widened c.loop-back.self (state old.0) (s.most + 80)
-          (omega (arith, kept, s.stores.laid.ring.circle.few, s.stores.laid.ring_place.2, c.loop-back.auto.back-end)),
+          (omega (arith, kept, s.stores.laid.ring.circle.few, s.stores.laid.ring_place.2,
+          c.loop-back.auto.back-end)),
     )

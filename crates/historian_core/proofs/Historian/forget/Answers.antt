@@ -21,12 +21,16 @@ pub returns : goal.returns
 returns c = λ s fits low.
     let h = c.args.self.now in
     let n = c.args.count in
-    let z : Historian = record { heap = c.clear.new.heap; ring = h.ring; alarms = c.clear.new.self } in
-    let d = c.in_ok-clear.ensures.shows Always s.stores.graph s.ls s.stores.has s.stores.laid.alarms in
-    let many : nat_lt n 40 ≡ false = le-ltb n 40 (omega (arith, c.if-count-kept.false, c.from-kept.ensures)) in
+    let z : Historian = record
+    { heap = c.clear.new.heap; ring = h.ring; alarms = c.clear.new.self } in
+    let d = c.in_ok-clear.ensures.shows Always s.stores.graph s.ls s.stores.has
+    s.stores.laid.alarms in
+    let many : nat_lt n 40 ≡ false = le-ltb n 40
+    (omega (arith, c.if-count-kept.false, c.from-kept.ensures)) in
     subst (Stores z (s.most + 81) s.made s.ys)
     (ap (λ k. cleared (n - k) s.ls) c.from-kept.ensures
     ∙ ap (λ b. cond b s.ls (cleared (n - 40) s.ls)) (sym many))
-    (alarmed h s (2 * alarm_size h.alarms + 1) (s.most + 81) (omega (arith, s.stores.laid.alarm_place.2))
-    c.clear.new.heap c.clear.new.self (cleared (n - c.from-kept.result) s.ls) _ c.clear.ensures.same d
-    d.holds.1)
+    (alarmed h s (2 * alarm_size h.alarms + 1) (s.most + 81)
+    (omega (arith, s.stores.laid.alarm_place.2))
+    c.clear.new.heap c.clear.new.self (cleared (n - c.from-kept.result) s.ls) _ c.clear.ensures.same
+    d d.holds.1)

@@ -21,9 +21,12 @@ returns c = λ s fits low none few.
     let h = c.args.self.now in
     let n = c.args.count in
     let size = s.stores.laid.alarm_place.2 in
-    let z : Historian = record { heap = c.raise.new.heap; ring = h.ring; alarms = c.raise.new.self } in
-    let d = c.in_ok-raise.ensures.shows Always s.stores.graph s.ls s.stores.has s.stores.laid.alarms in
-    subst (λ b. Stores z (s.most + 42) s.made s.ys (s.ls ++ with_alarm b n [])) (sym c.if-not-is_alarm.false)
+    let z : Historian = record
+    { heap = c.raise.new.heap; ring = h.ring; alarms = c.raise.new.self } in
+    let d = c.in_ok-raise.ensures.shows Always s.stores.graph s.ls s.stores.has
+    s.stores.laid.alarms in
+    subst (λ b. Stores z (s.most + 42) s.made s.ys (s.ls ++ with_alarm b n []))
+    (sym c.if-not-is_alarm.false)
     (alarmed h s (alarm_size h.alarms + 2) (s.most + 42) (omega (arith, size)) c.raise.new.heap
     c.raise.new.self (s.ls ++ with_alarm true n []) _ c.raise.ensures.same d
     (raises h s (alarm_size h.alarms) (IsAlarms d.graph c.raise.new.self) n c.in_ok-raise.field-0

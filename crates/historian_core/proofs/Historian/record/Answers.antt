@@ -12,7 +12,8 @@ returns-in_default c = λ s fits low.
     c.lives_add_up.ensures.fits c.args.self.now.heap c.ask_all.new.heap _ s.stores.has.shows.run
     c.in_default.field-0 s.stores.has.shows.stands
     (room_for c.args.self.now s c.from-value.result
-    (omega (arith, c.from-value.ensures, c.ranges.reading.fits)) fits low) c.in_default.ensures.refused
+    (omega (arith, c.from-value.ensures, c.ranges.reading.fits)) fits low)
+    c.in_default.ensures.refused
 
 pub returns : goal.returns
 returns c = λ s fits low.
@@ -25,7 +26,8 @@ returns c = λ s fits low.
     done c.push.result
     (c.push.ensures.shows Always t.0.graph t.0.laid.values t.0.has t.0.laid.ring)
     (λ f stop. not_stopped 1 _ y.heap c.push.new.heap f
-    (room y (state t.0) 1 (omega (arith, fits.0), omega (arith, low))) (λ e. absurd (omega (arith, e))) stop.0)
+    (room y (state t.0) 1 (omega (arith, fits.0), omega (arith, low)))
+    (λ e. absurd (omega (arith, e))) stop.0)
     (λ u d. pushed y (state t.0) c.args.reading (s.most + 4) (omega arith)
     (subst (IsReading t.0.graph (held t.0.graph 1)) c.from-value.ensures t.1) c.push.new.heap
     c.push.new.self c.push.ensures.same d)
