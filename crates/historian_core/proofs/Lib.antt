@@ -2,5 +2,5 @@ pub mod LastOnes
 pub mod Graphs
 pub mod Keeping
 pub mod Opening
-pub mod TextLaws
-pub mod ReportSoFar
+pub mod LongLines
+pub mod ReportLaws

@@ -1,47 +1,41 @@
 -- How a report of a text ends, and the cause of each end but success.
-use Rattle.std.specs.Prelude.{ℕ, ◌≡◌, ◌≤◌, ◌⊎◌, ◌++◌, List, [], ◌∷◌, length, take, drop, Option, None, Some, Result, Ok, Err}
+use Rattle.std.specs.Prelude.{ℕ, ◌≡◌, ◌<◌, ◌≤◌, ◌⊎◌, ◌++◌, List, [], ◌∷◌, length, Option, None, Some, Result, Ok, Err}
 use Rattle.trace_text.specs.Faults.{Rose}
 use Rattle.trace_text.specs.Lines.{lines_of}
-use Rattle.trace_text.specs.Streams.{Appends}
+use Rattle.trace_text.specs.Streams.{Appends, AppendsPrefix}
 use Rattle.short_lines.specs.Found.{IsCut}
 use Rattle.historian_core.specs.declared.Limits.{Limits}
 use Rattle.historian_core.specs.declared.stops.Stop.{Stop}
 use Rattle.historian_core.specs.declared.stops.Stop.TheVariants.{ReadFault, WriteFault}
-use Rattle.historian_core.specs.Texts.{life, reading_at, limits_at, stop_in, told_in, stop_behind, told_behind, limits_in, readings_in}
-use Rattle.historian_core.specs.Windows.{told_line, told_lines}
+use Rattle.historian_core.specs.Texts.{Due, life, reading_at, limits_at}
+use Rattle.historian_core.specs.Windows.{told_lines}
 
 -- The source failed: these lines were read and reported. Some bytes of the next line may be lost.
-pub record FailsBehind (bytes : List ℕ) (left held held_now : Option (List ℕ)) : Type 0 where
+pub record FailsBehind (due : List (List ℕ) → Due) (bytes : List ℕ)
+    (left held held_now : Option (List ℕ)) : Type 0 where
   pub lines : List (List ℕ)
   pub rest : List ℕ
   pub split : lines_of bytes ≡ lines ++ lines_of rest
-  pub fine : (lines ≡ []) ⊎ (stop_in lines ≡ None)
-  pub told : Appends held held_now (told_in lines)
+  pub fine : (lines ≡ []) ⊎ ((due lines).stop ≡ None)
+  pub told : Appends held held_now (due lines).text
   pub cut : IsCut rest left
 
--- The sink failed in the line of a reading: the lines before it and a prefix of it are written.
-pub record BreaksOff (bytes : List ℕ) (held held_now : Option (List ℕ)) : Type 0 where
-  pub limits : Limits
-  pub past : List ℕ
-  pub reading : ℕ
-  pub more : List ℕ
-  pub prefix : ℕ
-  pub first : limits_in (lines_of bytes) ≡ Ok limits
-  pub split : readings_in (drop 1 (lines_of bytes)) ≡ past ++ reading ∷ more
-  pub told : Appends held held_now
-      (told_lines limits [] past ++ take prefix (told_line limits (past ++ reading ∷ [])))
-
--- What is left of a text and what the sink holds, for each result. Where no stream fails, each text
--- has one result.
-abbrev pub IsReport : List ℕ → Option (List ℕ) → Option (List ℕ) → Option (List ℕ)
-    → Result (Unit {0}) Stop → Type 0
-IsReport bytes left held held_now (Ok done) =
-    (stop_in (lines_of bytes) ≡ None) × (left ≡ Some [])
-    × Appends held held_now (told_in (lines_of bytes))
-IsReport bytes left held held_now (Err ReadFault) = FailsBehind bytes left held held_now
-IsReport bytes left held held_now (Err WriteFault) = BreaksOff bytes held held_now
-IsReport bytes left held held_now (Err stop) =
-    (stop_in (lines_of bytes) ≡ Some stop) × Appends held held_now (told_in (lines_of bytes))
+-- What is left of a text and what the sink holds, for each result, by what is due for its lines.
+-- Where no stream fails, each text has one result. Where the sink fails, something is due, and a
+-- prefix of it is written.
+abbrev pub IsReport : (List (List ℕ) → Due) → List ℕ → Option (List ℕ) → Option (List ℕ)
+    → Option (List ℕ) → Result (Unit {0}) Stop → Type 0
+IsReport due bytes left held held_now (Ok done) =
+    ((due (lines_of bytes)).stop ≡ None) × (left ≡ Some [])
+    × Appends held held_now (due (lines_of bytes)).text
+IsReport due bytes left held held_now (Err ReadFault) =
+    FailsBehind due bytes left held held_now
+IsReport due bytes left held held_now (Err WriteFault) =
+    (0 < length (due (lines_of bytes)).text)
+    × AppendsPrefix held held_now (due (lines_of bytes)).text
+IsReport due bytes left held held_now (Err stop) =
+    ((due (lines_of bytes)).stop ≡ Some stop)
+    × Appends held held_now (due (lines_of bytes)).text
 
 -- these lines spell these readings
 abbrev pub AreReadings : List (List ℕ) → List ℕ → Type 0
@@ -75,42 +69,3 @@ AreCounted read read_now written written_now (Err ReadFault) =
 AreCounted read read_now written written_now (Err WriteFault) =
     (read_now ≡ read) × Rose written written_now
 AreCounted read read_now written written_now r = (read_now ≡ read) × (written_now ≡ written)
-
--- ---- the same for the lines after the limits
-
--- these readings were read, and this is left
-pub record IsReadTo (bytes : List ℕ) (past : List ℕ) (left : Option (List ℕ)) : Type 0 where
-  pub done : List (List ℕ)
-  pub rest : List ℕ
-  pub split : lines_of bytes ≡ done ++ lines_of rest
-  pub spelled : AreReadings done past
-  pub now : left ≡ Some rest
-
-pub record FailsAt (l : Limits) (bytes : List ℕ) (left held held_now : Option (List ℕ)) : Type 0
-  where
-    pub past : List ℕ
-    pub before : Option (List ℕ)
-    pub few : length past ≤ life
-    pub read : IsReadTo bytes past before
-    pub cut : IsCut read.rest left
-    pub told : Appends held held_now (told_lines l [] past)
-
-pub record BreaksAt (l : Limits) (bytes : List ℕ) (held held_now : Option (List ℕ)) : Type 0 where
-  pub past : List ℕ
-  pub reading : ℕ
-  pub more : List ℕ
-  pub prefix : ℕ
-  pub split : readings_in (lines_of bytes) ≡ past ++ reading ∷ more
-  pub told : Appends held held_now
-      (told_lines l [] past ++ take prefix (told_line l (past ++ reading ∷ [])))
-
-abbrev pub IsReportBehind : Limits → List ℕ → Option (List ℕ) → Option (List ℕ)
-    → Option (List ℕ) → Result (Unit {0}) Stop → Type 0
-IsReportBehind l bytes left held held_now (Ok done) =
-    (stop_behind (Ok l) (lines_of bytes) ≡ None) × (left ≡ Some [])
-    × Appends held held_now (told_behind (Ok l) (lines_of bytes))
-IsReportBehind l bytes left held held_now (Err ReadFault) = FailsAt l bytes left held held_now
-IsReportBehind l bytes left held held_now (Err WriteFault) = BreaksAt l bytes held held_now
-IsReportBehind l bytes left held held_now (Err stop) =
-    (stop_behind (Ok l) (lines_of bytes) ≡ Some stop)
-    × Appends held held_now (told_behind (Ok l) (lines_of bytes))

@@ -8,6 +8,7 @@ use Rattle.historian_core.specs.declared.stops.Stop.TheVariants.{BadLine, NoLife
 use Rattle.historian_core.specs.declared.stops.Why.{Why}
 use Rattle.historian_core.specs.declared.stops.Why.TheVariants.{Limits, Order, Reading}
 use Rattle.historian_core.specs.Reports.{IsReport, AreCounted}
+use Rattle.historian_core.specs.Texts.{due_in}
 
 -- the exit status of each stop
 abbrev pub status_of : Stop → ℕ
@@ -54,6 +55,6 @@ pub record IsEnded (all left held held_now : Option (List ℕ))
   pub result : Result (Unit {0}) Stop
   pub middle : Option (List ℕ)
   pub faults : ℕ
-  pub report : IfSome all (λ bytes. IsReport bytes left held middle result)
+  pub report : IfSome all (λ bytes. IsReport due_in bytes left held middle result)
   pub counted : AreCounted read read_now written faults result
   pub ended : EndsSo result middle held_now faults written_now status

@@ -1,5 +1,5 @@
 -- A text of limits and readings: what is written for it, and where the report stops.
-use Rattle.std.specs.Prelude.{ℕ, ◌+◌, ◌-◌, ◌/◌, ◌^◌, nat_lt, if◌then◌else◌, List, [], ◌∷◌, length, take, drop, Option, None, Some, Result, Ok, Err}
+use Rattle.std.specs.Prelude.{ℕ, ◌+◌, ◌-◌, ◌/◌, ◌^◌, nat_lt, if◌then◌else◌, List, [], ◌∷◌, ◌++◌, length, Option, None, Some, Result, Ok, Err}
 use Rattle.trace_text.specs.Lines.{tokens_of}
 use Rattle.trace_text.specs.Reading.{◌>>=◌, number_at, two_tokens_of}
 use Rattle.historian_core.specs.declared.Limits.{Limits}
@@ -7,7 +7,7 @@ use Rattle.historian_core.specs.declared.stops.Stop.{Stop}
 use Rattle.historian_core.specs.declared.stops.Stop.TheVariants.{BadLine, NoLifeLeft}
 use Rattle.historian_core.specs.declared.stops.Why.{Why}
 use Rattle.historian_core.specs.declared.stops.Why.TheVariants as whys
-use Rattle.historian_core.specs.Windows.{told_lines}
+use Rattle.historian_core.specs.Windows.{told_line}
 
 -- How many readings a heap keeps in its life: as many as its own life has units for, which are
 -- 2^45, at 5 for each reading and for each of 12 blocks (`lives_end_with_the_heap`).
@@ -28,16 +28,6 @@ limits_at line = do
   high ← reading_at p.1
   Some (record { low = low; high = high })
 
--- a reading in front of others, or none at all
-abbrev pub with_reading : Option ℕ → List ℕ → List ℕ
-with_reading (Some r) rs = r ∷ rs
-with_reading None rs = []
-
--- the readings of these lines, up to the first line that spells none
-abbrev pub readings_in : List (List ℕ) → List ℕ
-readings_in [] = []
-readings_in (line ∷ lines) = with_reading (reading_at line) (readings_in lines)
-
 -- the limits that a first line spells, the low one first, or what is wrong with the line
 abbrev pub checked : Option Limits → Result Limits Why
 checked None = Err whys.Limits
@@ -46,27 +36,38 @@ checked (Some l) = if nat_lt l.high l.low then Err whys.Order else Ok l
 abbrev pub first_at : List ℕ → Result Limits Why
 first_at line = checked (limits_at line)
 
--- the limits of a text, which are in its first line, or what is wrong with it
-abbrev pub limits_in : List (List ℕ) → Result Limits Why
-limits_in [] = Err whys.Limits
-limits_in (first ∷ others) = first_at first
+-- what is written for some lines, and where the report stops, if before their end
+pub record Due : Type 0 where
+  pub text : List ℕ
+  pub stop : Option Stop
 
--- where the report stops, by the limits and the lines after them
-abbrev pub stop_behind : Result Limits Why → List (List ℕ) → Option Stop
-stop_behind (Err why) lines = Some (BadLine 1 why)
-stop_behind (Ok l) lines =
-    if nat_lt life (length (readings_in lines)) then Some NoLifeLeft
-    else if nat_lt (length (readings_in lines)) (length lines)
-    then Some (BadLine (length (readings_in lines) + 2) whys.Reading) else None
+-- nothing is written, and the report stops so
+abbrev pub stops : Stop → Due
+stops stop = record { text = []; stop = Some stop }
 
--- and what is written for them
-abbrev pub told_behind : Result Limits Why → List (List ℕ) → List ℕ
-told_behind (Err why) lines = []
-told_behind (Ok l) lines = told_lines l [] (take life (readings_in lines))
+-- this text, and then what is due after it
+abbrev pub first_told : List ℕ → Due → Due
+first_told text due = record { text = text ++ due.text; stop = due.stop }
 
--- the same for the lines of a text
-abbrev pub stop_in : List (List ℕ) → Option Stop
-stop_in lines = stop_behind (limits_in lines) (drop 1 lines)
+-- what is due for a line after these limits and readings, and for the lines after it: the line of
+-- its reading, if it spells one and the heap's life has room for it
+abbrev pub due_at : Limits → List ℕ → Option ℕ → (List ℕ → Due) → Due
+due_at l past None others = stops (BadLine (length past + 2) whys.Reading)
+due_at l past (Some r) others =
+    if nat_lt (length past) life
+    then first_told (told_line l (past ++ r ∷ [])) (others (past ++ r ∷ [])) else stops NoLifeLeft
 
-abbrev pub told_in : List (List ℕ) → List ℕ
-told_in lines = told_behind (limits_in lines) (drop 1 lines)
+-- what is due for some lines after these limits and readings
+abbrev pub due_after : Limits → List ℕ → List (List ℕ) → Due
+due_after l past [] = record { text = []; stop = None }
+due_after l past (line ∷ lines) = due_at l past (reading_at line) (λ xs. due_after l xs lines)
+
+-- what is due for the lines after a first line, which has limits or is wrong
+abbrev pub due_from : Result Limits Why → List (List ℕ) → Due
+due_from (Err why) lines = stops (BadLine 1 why)
+due_from (Ok l) lines = due_after l [] lines
+
+-- what is due for the lines of a text
+abbrev pub due_in : List (List ℕ) → Due
+due_in [] = stops (BadLine 1 whys.Limits)
+due_in (first ∷ lines) = due_from (first_at first) lines

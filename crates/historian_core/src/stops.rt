@@ -3,7 +3,7 @@
 ghost use Rattle.std.specs.Prelude.{◌≡◌, ◌≤◌, ◌++◌, [], length};
 ghost use Rattle.historian_core.specs.declared.Limits.{Limits};
 ghost use Rattle.historian_core.specs.Kept.{Keeps};
-ghost use Rattle.historian_core.specs.Stops.{IsEnded, IsSaid, status_of, stop_line, stop_text, why_text};
+ghost use Rattle.historian_core.specs.Stops.{EndsSo, IsEnded, IsSaid, status_of, stop_line, stop_text, why_text};
 
 use crate::{Historian, report};
 use trace_text::{LineBuffer, Sink, Source, WRITE_FAULT, put_line};
@@ -100,7 +100,16 @@ pub fn report_with_status<S: Source, K: Sink>(
     ensures { IsEnded (S.left source.old) (S.left source.new) (K.held sink.old) (K.held sink.new)
         (S.faults source.old) (S.faults source.new) (K.faults sink.old) (K.faults sink.new) result }
 {
-    match report(historian, source, sink) {
+    let end = report(historian, source, sink);
+    say_end(end, sink)
+}
+
+/// Writes the line of the stop where the report has one, and returns the exit status.
+fn say_end<K: Sink>(end: Result<(), Stop>, sink: &mut K) -> u8
+    ensures { EndsSo end (K.held sink.old) (K.held sink.new) (K.faults sink.old)
+        (K.faults sink.new) result }
+{
+    match end {
         Ok(()) => 0,
         Err(stop) => say_stop(stop, sink),
     }

@@ -1,12 +1,12 @@
 //! Readings as a text: the limits in its first line, and a reading in each other line.
 
-ghost use Rattle.std.specs.Prelude.{◌≡◌, ◌<◌, ◌+◌, ◌∷◌, ◌++◌, ℕ, List, [], length, IfSome};
+ghost use Rattle.std.specs.Prelude.{◌≡◌, ◌<◌, ◌≤◌, ◌+◌, ◌∷◌, ◌++◌, ℕ, List, [], length, IfOk, IfSome};
 ghost use Rattle.trace_text.specs.Streams.{Appends};
 ghost use Rattle.historian_core.specs.declared.Limits.{Limits};
 ghost use Rattle.historian_core.specs.Kept.{Keeps};
-ghost use Rattle.historian_core.specs.Lines.{IsFirstLine, IsNextLine, CountsRead};
-ghost use Rattle.historian_core.specs.Reports.{IsReport, IsReportBehind, IsFineText, IsToldOrFails, AreCounted};
-ghost use Rattle.historian_core.specs.Texts.{reading_at, limits_at, first_at};
+ghost use Rattle.historian_core.specs.Lines.{IsFirstLine, IsNextLine, CountsRead, CountsNext};
+ghost use Rattle.historian_core.specs.Reports.{IsReport, IsFineText, IsToldOrFails, AreCounted};
+ghost use Rattle.historian_core.specs.Texts.{reading_at, limits_at, first_at, due_after, due_in};
 
 use crate::{Historian, LIFE, Limits, Stop, Why, tell};
 use short_lines::{Next, ShortLine, next_line};
@@ -66,7 +66,7 @@ pub fn report<S: Source, K: Sink>(
 ) -> Result<(), Stop>
     requires { (l : Limits) → Keeps historian.old l [] }
     ensures report { IfSome (S.left source.old) (λ bytes.
-        IsReport bytes (S.left source.new) (K.held sink.old) (K.held sink.new) result) }
+        IsReport due_in bytes (S.left source.new) (K.held sink.old) (K.held sink.new) result) }
     ensures fine { IfSome (S.left source.old) (λ bytes. (l : Limits) (xs : List ℕ)
         → IsFineText bytes l xs
         → IsToldOrFails l xs (K.held sink.old) (K.held sink.new) result) }
@@ -82,6 +82,7 @@ pub fn report<S: Source, K: Sink>(
 }
 
 /// Reads the limits from the first line of a source.
+#[tactic(auto, using(crate::proofs::LongLines::limits_long))]
 fn first_limits<S: Source>(source: &mut S, line: &mut ShortLine) -> Result<Limits, Stop>
     ensures first { IfSome (S.left source.old) (λ bytes.
         IsFirstLine bytes (S.left source.new) result) }
@@ -104,29 +105,37 @@ fn first_limits<S: Source>(source: &mut S, line: &mut ShortLine) -> Result<Limit
     }
 }
 
-/// Reads the reading from the next line, whose number is `number`, or returns `None` at the end.
+/// Reads the next line after `count` readings, which spells one more reading for which the heap's
+/// life has room.
+///
+/// # Errors
+///
+/// The result of the report, where it ends here: at the end of the text, at a wrong line, without
+/// room, or with a fault.
+#[tactic(auto, using(crate::proofs::LongLines::reading_long))]
 fn next_reading<S: Source>(
     source: &mut S,
     line: &mut ShortLine,
-    number: u64,
-) -> Result<Option<u32>, Stop>
-    ensures next { IfSome (S.left source.old) (λ bytes.
-        IsNextLine bytes (S.left source.new) number result) }
-    ensures counted { CountsRead (S.faults source.old) (S.faults source.new) result }
+    count: u64,
+) -> Result<u32, Result<(), Stop>>
+    requires { count ≤ LIFE }
+    ensures next { (l : Limits) (past : List ℕ) → length past ≡ count
+        → IfSome (S.left source.old) (λ bytes. IsNextLine l past bytes (S.left source.new) result) }
+    ensures room { IfOk result (λ r. count < LIFE) }
+    ensures counted { CountsNext (S.faults source.old) (S.faults source.new) result }
 {
+    let bad_line = Err(Stop::BadLine {
+        line: count + 2,
+        why: Why::Reading,
+    });
     match next_line(source, line) {
-        Err(_) => Err(Stop::ReadFault),
-        Ok(Next::End) => Ok(None),
-        Ok(Next::Long) => Err(Stop::BadLine {
-            line: number,
-            why: Why::Reading,
-        }),
+        Err(_) => Err(Err(Stop::ReadFault)),
+        Ok(Next::End) => Err(Ok(())),
+        Ok(Next::Long) => Err(bad_line),
         Ok(Next::Line) => match reading_of(line.bytes()) {
-            Some(reading) => Ok(Some(reading)),
-            None => Err(Stop::BadLine {
-                line: number,
-                why: Why::Reading,
-            }),
+            None => Err(bad_line),
+            Some(reading) if count < LIFE => Ok(reading),
+            Some(_) => Err(Err(Stop::NoLifeLeft)),
         },
     }
 }
@@ -140,26 +149,19 @@ fn tell_all<S: Source, K: Sink>(
     sink: &mut K,
 ) -> Result<(), Stop>
     requires { Keeps historian.old limits.now [] }
-    ensures report { IfSome (S.left source.old) (λ bytes. IsReportBehind limits.now bytes
+    ensures report { IfSome (S.left source.old) (λ bytes. IsReport (due_after limits.now []) bytes
         (S.left source.new) (K.held sink.old) (K.held sink.new) result) }
     ensures counted { AreCounted (S.faults source.old) (S.faults source.new) (K.faults sink.old)
         (K.faults sink.new) result }
 {
-    for count in 0..LIFE {
-        let next = match next_reading(source, line, count + 2) {
-            Ok(next) => next,
-            Err(stop) => return Err(stop),
-        };
-        let Some(reading) = next else {
-            return Ok(());
+    for count in 0..=LIFE {
+        let reading = match next_reading(source, line, count) {
+            Ok(reading) => reading,
+            Err(end) => return end,
         };
         let Ok(()) = tell(historian, limits, count, reading, sink) else {
             return Err(Stop::WriteFault);
         };
     }
-    match next_reading(source, line, LIFE + 2) {
-        Err(stop) => Err(stop),
-        Ok(None) => Ok(()),
-        Ok(Some(_)) => Err(Stop::NoLifeLeft),
-    }
+    unreachable!()
 }

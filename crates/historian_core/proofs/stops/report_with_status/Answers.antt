@@ -1,22 +1,11 @@
-use Rattle.std.proofs.Common.{Ok, Err, refl}
 use Rattle.historian_core.proofs.stops.report_with_status.Goals as goal
 
-pub returns-in-Ok : goal.returns-in-Ok
-returns-in-Ok g c = record {
-  result = Ok tt;
-  middle = g.K.Sink.held c.report.new.sink;
-  faults = g.K.Sink.faults c.report.new.sink;
-  report = c.in-Ok.ensures.report;
-  counted = c.in-Ok.ensures.counted;
-  ended = (refl, refl, refl);
-}
-
-pub returns-in-Err : goal.returns-in-Err
-returns-in-Err g c = record {
-  result = Err c.in-Err.stop;
-  middle = g.K.Sink.held c.report.new.sink;
-  faults = g.K.Sink.faults c.report.new.sink;
-  report = c.in-Err.ensures.report;
-  counted = c.in-Err.ensures.counted;
-  ended = c.say_stop.ensures;
+pub returns : goal.returns
+returns g c = record {
+  result = c.report-end.result;
+  middle = g.K.Sink.held c.report-end.new.sink;
+  faults = g.K.Sink.faults c.report-end.new.sink;
+  report = c.report-end.ensures.report;
+  counted = c.report-end.ensures.counted;
+  ended = c.say_end.ensures;
 }
