@@ -5,10 +5,10 @@ use Rattle.trace_text.specs.Streams.{Appends, AppendsPrefix}
 use Rattle.trace_text.proofs.AppendedTexts.{appends_none, appends_in_turn, front_in_turn, front_longer}
 use Rattle.historian_core.specs.declared.Limits.{Limits}
 use Rattle.historian_core.specs.declared.stops.Stop.{Stop}
-use Rattle.historian_core.specs.declared.stops.Stop.TheVariants.{BadLine, NoLifeLeft, ReadFault, WriteFault}
+use Rattle.historian_core.specs.declared.stops.Stop.TheVariants.{ReadFault, WriteFault}
 use Rattle.historian_core.specs.Lines.{Spells, EndsHere}
 use Rattle.historian_core.specs.Reports.{AreReadings, IsReport, IsFineText, IsToldOrFails}
-use Rattle.historian_core.specs.Texts.{Due, life, reading_at, first_at, checked, first_told, due_after, due_from, due_in}
+use Rattle.historian_core.specs.Texts.{Due, life, reading_at, checked, with_text, due_after, due_from, due_in}
 use Rattle.historian_core.specs.Windows.{told_line, told_lines}
 
 -- nothing more is written
@@ -32,9 +32,9 @@ ends_here due none (Some bytes) left held (Err stop) by = rw by (refl, appends_n
 -- a line that spells x, for which a text is due, and the lines after it
 module _ {X : Type 0} (at : List ℕ → X) (x : X) (due others : List (List ℕ) → Due) (text : List ℕ)
     (is : (line : List ℕ) (ls : List (List ℕ)) → at line ≡ x
-    → due (line ∷ ls) ≡ first_told text (others ls)) where
+    → due (line ∷ ls) ≡ with_text text (others ls)) where
   module _ (bytes : List ℕ) (left : Option (List ℕ)) (by : Spells at x bytes left) where
-    all_due : due (lines_of bytes) ≡ first_told text (others (lines_of by.rest))
+    all_due : due (lines_of bytes) ≡ with_text text (others (lines_of by.rest))
     all_due = ap due by.lines ∙ is by.line (lines_of by.rest) by.spelled
 
     in_front : (new held mid now : Option (List ℕ)) (r : Result (Unit {0}) Stop)
@@ -85,7 +85,8 @@ module _ {X : Type 0} (at : List ℕ → X) (x : X) (due others : List (List ℕ
       )
 
 -- a report of what is left, after what is written, makes one of the whole
-abbrev pub LeadsOn : (due others : List (List ℕ) → Due) (all left held now : Option (List ℕ)) → Type 0
+abbrev pub LeadsOn : (due others : List (List ℕ) → Due) (all left held now : Option (List ℕ))
+    → Type 0
 LeadsOn due others all left held now = (new last : Option (List ℕ)) (r : Result (Unit {0}) Stop)
     → IfSome left (λ bytes. IsReport others bytes new now last r)
     → IfSome all (λ bytes. IsReport due bytes new held last r)
@@ -93,7 +94,8 @@ LeadsOn due others all left held now = (new last : Option (List ℕ)) (r : Resul
 -- what is due for a line that spells a reading
 pub due_more : (l : Limits) (past : List ℕ) (r : ℕ) → length past < life → (line : List ℕ)
     (ls : List (List ℕ)) → reading_at line ≡ Some r
-    → due_after l past (line ∷ ls) ≡ first_told (told_line l (past ++ r ∷ [])) (due_after l (past ++ r ∷ []) ls)
+    → due_after l past (line ∷ ls)
+    ≡ with_text (told_line l (past ++ r ∷ [])) (due_after l (past ++ r ∷ []) ls)
 due_more l past r room line ls is = rw (is, lt-ltb (length past) life room) refl
 
 -- ---- a text of limits and readings
@@ -102,16 +104,15 @@ due_readings : (l : Limits) (past xs : List ℕ) (lines : List (List ℕ)) → A
     → length past + length xs ≤ life
     → due_after l past lines ≡ record { text = told_lines l past xs; stop = None }
 due_readings l past [] [] are few = refl
-due_readings l past (x ∷ xs) [] are few = absurd are
-due_readings l past [] (line ∷ lines) are few = absurd are
 due_readings l past (x ∷ xs) (line ∷ lines) are few =
     due_more l past x (omega arith) line lines are.0
-    ∙ ap (first_told (told_line l (past ++ x ∷ []))) (due_readings l (past ++ x ∷ []) xs lines are.1
+    ∙ ap (with_text (told_line l (past ++ x ∷ []))) (due_readings l (past ++ x ∷ []) xs lines are.1
     (omega (arith, length-append past (x ∷ []))))
+due_readings l past xs lines are few = absurd are
 
-all_told : (bytes : List ℕ) (l : Limits) (xs : List ℕ) → IsFineText bytes l xs
+fine_due : (bytes : List ℕ) (l : Limits) (xs : List ℕ) → IsFineText bytes l xs
     → due_in (lines_of bytes) ≡ record { text = told_lines l [] xs; stop = None }
-all_told bytes l xs fine =
+fine_due bytes l xs fine =
     ap due_in fine.lines ∙ ap (λ o. due_from (checked o) fine.others) fine.limits
     ∙ rw (le-ltb l.high l.low fine.in_order)
     (due_readings l [] xs fine.others fine.readings (omega (arith, fine.few)))
@@ -122,10 +123,10 @@ pub fine_reported : (all left held now : Option (List ℕ)) (r : Result (Unit {0
     → IsToldOrFails l xs held now r)
 fine_reported None left held now r by = tt
 fine_reported (Some bytes) left held now (Ok done) by =
-    λ l xs fine. subst (λ (d : Due). Appends held now d.text) (all_told bytes l xs fine) by.2
+    λ l xs fine. subst (λ (d : Due). Appends held now d.text) (fine_due bytes l xs fine) by.2
 fine_reported (Some bytes) left held now (Err ReadFault) by = λ l xs fine. tt
 fine_reported (Some bytes) left held now (Err WriteFault) by = λ l xs fine. tt
 fine_reported (Some bytes) left held now (Err stop) by = λ l xs fine.
     let told : (due_in (lines_of bytes)).stop ≡ None =
-    ap (λ (d : Due). d.stop) (all_told bytes l xs fine) in
+    ap (λ (d : Due). d.stop) (fine_due bytes l xs fine) in
     let e : None ≡ Some stop = sym told ∙ by.0 in absurd cc

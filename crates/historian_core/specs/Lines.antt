@@ -5,7 +5,7 @@ use Rattle.trace_text.specs.Lines.{lines_of}
 use Rattle.short_lines.specs.Found.{IsCut}
 use Rattle.historian_core.specs.declared.Limits.{Limits}
 use Rattle.historian_core.specs.declared.stops.Stop.{Stop}
-use Rattle.historian_core.specs.declared.stops.Stop.TheVariants.{BadLine, ReadFault, WriteFault}
+use Rattle.historian_core.specs.declared.stops.Stop.TheVariants.{ReadFault, WriteFault}
 use Rattle.historian_core.specs.Texts.{Due, stops, reading_at, first_at, due_after, due_in}
 
 -- the first line spells this, and what is left are the lines after it
@@ -17,7 +17,7 @@ pub record Spells {X : Type 0} (at : List ℕ → X) (x : X) (bytes : List ℕ)
   pub spelled : at line ≡ x
   pub now : left ≡ Some rest
 
--- the report of these bytes ends here, without one more line of output
+-- the report of these bytes ends here, and writes nothing more
 abbrev pub EndsHere : (List (List ℕ) → Due) → List ℕ → Option (List ℕ)
     → Result (Unit {0}) Stop → Type 0
 EndsHere due bytes left (Ok done) =

@@ -11,7 +11,7 @@ use Rattle.historian_core.specs.Texts.{Due, life, reading_at, limits_at}
 use Rattle.historian_core.specs.Windows.{told_lines}
 
 -- The source failed: these lines were read and reported. Some bytes of the next line may be lost.
-pub record FailsBehind (due : List (List ℕ) → Due) (bytes : List ℕ)
+pub record FailsAfter (due : List (List ℕ) → Due) (bytes : List ℕ)
     (left held held_now : Option (List ℕ)) : Type 0 where
   pub lines : List (List ℕ)
   pub rest : List ℕ
@@ -29,7 +29,7 @@ IsReport due bytes left held held_now (Ok done) =
     ((due (lines_of bytes)).stop ≡ None) × (left ≡ Some [])
     × Appends held held_now (due (lines_of bytes)).text
 IsReport due bytes left held held_now (Err ReadFault) =
-    FailsBehind due bytes left held held_now
+    FailsAfter due bytes left held held_now
 IsReport due bytes left held held_now (Err WriteFault) =
     (0 < length (due (lines_of bytes)).text)
     × AppendsPrefix held held_now (due (lines_of bytes)).text

@@ -45,9 +45,9 @@ pub record Due : Type 0 where
 abbrev pub stops : Stop → Due
 stops stop = record { text = []; stop = Some stop }
 
--- this text, and then what is due after it
-abbrev pub first_told : List ℕ → Due → Due
-first_told text due = record { text = text ++ due.text; stop = due.stop }
+-- this text, and then what is due
+abbrev pub with_text : List ℕ → Due → Due
+with_text text due = record { text = text ++ due.text; stop = due.stop }
 
 -- what is due for a line after these limits and readings, and for the lines after it: the line of
 -- its reading, if it spells one and the heap's life has room for it
@@ -55,7 +55,7 @@ abbrev pub due_at : Limits → List ℕ → Option ℕ → (List ℕ → Due) �
 due_at l past None others = stops (BadLine (length past + 2) whys.Reading)
 due_at l past (Some r) others =
     if nat_lt (length past) life
-    then first_told (told_line l (past ++ r ∷ [])) (others (past ++ r ∷ [])) else stops NoLifeLeft
+    then with_text (told_line l (past ++ r ∷ [])) (others (past ++ r ∷ [])) else stops NoLifeLeft
 
 -- what is due for some lines after these limits and readings
 abbrev pub due_after : Limits → List ℕ → List (List ℕ) → Due

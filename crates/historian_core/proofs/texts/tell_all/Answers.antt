@@ -9,8 +9,7 @@ pub loop-count-init : goal.loop-count-init
 loop-count-init g c = record {
   told = ([], c.requires, refl, λ new last r by. by);
   room = omega arith;
-  read = refl;
-  written = refl;
+  counted = (refl, refl);
 }
 
 pub returns-in-Err-clause-report : goal.returns-in-Err-clause-report
@@ -52,6 +51,5 @@ loop-count-preserved g c =
             (c.in-Ok-tell.ensures.written t.0 t.1 t.2) refl by),
       );
       room = omega (arith, c.in-Ok.ensures.room);
-      read = search rules;
-      written = search rules;
+      counted = search rules;
     }

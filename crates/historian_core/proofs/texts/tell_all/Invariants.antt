@@ -11,6 +11,6 @@ invariant-loop-count g l = record {
       × LeadsOn (due_after l.limits []) (due_after l.limits past) (g.S.Source.left l.fn.source)
       (g.S.Source.left l.source) (g.K.Sink.held l.fn.sink) (g.K.Sink.held l.sink);
   room : l.count ≤ life;
-  read : g.S.Source.faults l.source ≡ g.S.Source.faults l.fn.source;
-  written : g.K.Sink.faults l.sink ≡ g.K.Sink.faults l.fn.sink;
+  counted : (g.S.Source.faults l.source ≡ g.S.Source.faults l.fn.source)
+      × (g.K.Sink.faults l.sink ≡ g.K.Sink.faults l.fn.sink);
 }
