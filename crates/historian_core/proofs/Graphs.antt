@@ -1,6 +1,5 @@
 -- The graph of a historian: what moves leave of it, and how few blocks of it are live.
-use Rattle.std.proofs.Common.{◌≡◌, ◌≢◌, ℕ, zero, suc, ◌+◌, ◌-◌, ◌*◌, ◌^◌, ◌<◌, ◌≤◌, inl, inr, true, false, List, [], ◌∷◌, ◌++◌, length, drop, map, slice_index_or, slice_set, sym, refl, ap, ◌∙◌, subst, arith}
-use Rattle.std.specs.List.{sum_by}
+use Rattle.std.proofs.Common.{◌≡◌, ◌≢◌, ℕ, zero, suc, ◌+◌, ◌-◌, ◌<◌, ◌≤◌, inl, inr, true, List, [], ◌∷◌, ◌++◌, length, map, slice_index_or, slice_set, sym, refl, ap, ◌∙◌, subst, arith}
 use Rattle.std.proofs.lemmas.Bool.{both_ways, cases_eq, cases_lt, or_cases, or_left, or_right}
 use Rattle.std.proofs.lemmas.List.{get_or_append_left, get_or-drop, get_or_past, get_or_push, length-drop, length_push}
 use Rattle.std.proofs.lemmas.List.Sums.{sum_by-cons}
@@ -13,7 +12,7 @@ use Rattle.array_trees.specs.Trees.{tree}
 use Rattle.never_heap.specs.declared.Command.TheVariants as commands
 use Rattle.never_heap.specs.Graphs.{Graph, Object, ObjectKind, Record, Array, field_of, has_name, next_name, nil_object, object_of, register_of, same_name, shared_name}
 use Rattle.never_heap.specs.LiveBlocks.{blocks_of_kind, live_blocks, object_blocks}
-use Rattle.never_heap.specs.Reach.{IsClosed, is_among}
+use Rattle.never_heap.specs.Reach.{is_among}
 use Rattle.never_heap.specs.Steps.{step}
 use Rattle.never_heap.proofs.LiveBlocksBound.{within}
 use Rattle.never_heap.proofs.NameLists.{one_name}
@@ -25,7 +24,7 @@ use Rattle.operations.proofs.LiveBound.{IsIn}
 use Rattle.heap_structures.specs.Alarms.{IsAlarms, value_of}
 use Rattle.heap_structures.specs.Cells.{IsCells, Spares, held}
 use Rattle.heap_structures.specs.Circles.{last_of}
-use Rattle.heap_structures.specs.Rings.{IsRing, IsRound}
+use Rattle.heap_structures.specs.Rings.{IsRing}
 use Rattle.heap_structures.specs.declared.alarms.Alarm.{Alarm}
 use Rattle.heap_structures.specs.declared.alarms.AlarmList.{AlarmList}
 use Rattle.heap_structures.specs.declared.cells.Cells.{Cells}

@@ -1,5 +1,5 @@
 -- What the calls of a historian do to its heap, and use of its life.
-use Rattle.std.proofs.Common.{◌≡◌, ◌≢◌, ◌↔◌, ℕ, zero, suc, ◌+◌, ◌-◌, ◌*◌, ◌^◌, ◌<◌, ◌≤◌, inl, inr, Bool, true, false, Option, Some, None, Result, Ok, Err, List, [], ◌∷◌, ◌++◌, length, drop, slice_index_or, sym, refl, ap, ◌∙◌, subst, arith}
+use Rattle.std.proofs.Common.{◌≡◌, ◌≢◌, ◌↔◌, ℕ, zero, suc, ◌+◌, ◌-◌, ◌*◌, ◌^◌, ◌<◌, ◌≤◌, inl, inr, true, false, Option, Some, None, Result, Ok, Err, List, [], ◌∷◌, ◌++◌, length, drop, slice_index_or, sym, refl, ap, ◌∙◌, subst, arith}
 use Rattle.std.specs.Prelude.{IsOkAnd, MatchResult}
 use Rattle.std.specs.List.{AllByRecursion}
 use Rattle.std.proofs.lemmas.Bool.{both_ways}
@@ -25,7 +25,7 @@ use Rattle.never_heap.proofs.StepChanges.{has_field}
 use Rattle.heap_machine.specs.Memories.{Acts}
 use Rattle.heap_system.specs.Lives.{sum_after}
 use Rattle.control_heap.specs.Calls.{HasTold}
-use Rattle.control_heap.specs.Controls.{Control, HasLeft, asked, units}
+use Rattle.control_heap.specs.Controls.{Control, HasLeft, units}
 use Rattle.control_heap.specs.declared.faults.Fault.{Fault}
 use Rattle.graph_view.specs.Asked.{HasRoomFor, HasUsed}
 use Rattle.graph_view.specs.Shown.{AllAreSmall, AllFollow, HasMetNoFull}
@@ -113,18 +113,18 @@ module _ (h : Historian) (s : State h) where
       → HasRoomFor h.heap (new_commands n)
   room_for n small fits low = record {
     bounds = subst (λ c. AllByRecursion (IsCommandInBounds c) (new_commands n))
-    (sym s.stores.config) (
-      record {
-        range = (omega arith, omega arith);
-        blocks = omega arith;
-        units = omega arith;
-        version = tt;
-      },
-      (
-        plain_fits refl refl tt (omega arith, small),
-        (plain_fits refl refl tt (omega arith, omega arith, omega arith), tt),
-      ),
-    );
+        (sym s.stores.config) (
+          record {
+            range = (omega arith, omega arith);
+            blocks = omega arith;
+            units = omega arith;
+            version = tt;
+          },
+          (
+            plain_fits refl refl tt (omega arith, small),
+            (plain_fits refl refl tt (omega arith, omega arith, omega arith), tt),
+          ),
+        );
     count = omega (arith, s.stores.commands, fits.0);
     objects = objects;
     units = λ rate is.
@@ -284,9 +284,13 @@ module _ (h : Historian) (s : State h) where
         f.lone1.threads a f.register f.fields in
         let second = grows Eight g1 0 (commands.Set 2 n) in
         let third = grows Eight (graphs.g2 g lone n) 0 (commands.Put 1 0 2) in
-        subst (λ c. AllAreSmall c g (new_commands n)) (sym s.stores.config)
-        (omega (arith, first), (omega (arith, first, second),
-        (omega (arith, first, second, third), tt)))
+        subst (λ c. AllAreSmall c g (new_commands n)) (sym s.stores.config) (
+          omega (arith, first),
+          (
+            omega (arith, first, second),
+            (omega (arith, first, second, third), tt),
+          ),
+        )
 
     pub recorded : (z : Control) (reply : Reply) → n < 2 ^ 32
         → AllFollow HasMetNoFull h.heap (new_commands n) reply z

@@ -1,6 +1,6 @@
 -- The last readings and their alarms, when one more comes.
 use Rattle.std.proofs.Common.{◌≡◌, ℕ, ◌+◌, ◌-◌, ◌*◌, ◌<◌, ◌≤◌, ◌==◌, ◌||◌, ◌⊎◌, inl, inr, nat_lt, eq-eqb, ne_eqb, lt-ltb, Bool, true, false, cond, min, max, List, [], ◌∷◌, ◌++◌, length, drop, slice_index_or, sym, refl, ap, ◌∙◌, subst, arith}
-use Rattle.std.proofs.lemmas.Bool.{cases_Bool, cases_lt, le-ltb, or_cases, both_ways}
+use Rattle.std.proofs.lemmas.Bool.{cases_Bool, cases_lt, le-ltb, both_ways}
 use Rattle.std.proofs.lemmas.List.{at_drop_more, drop-append-le, drop-drop, length-drop, length_push}
 use Rattle.heap_structures.specs.Alarms.{cleared, stands}
 use Rattle.heap_structures.specs.declared.alarms.Alarm.{Alarm}

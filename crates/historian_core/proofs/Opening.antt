@@ -1,5 +1,5 @@
 -- A historian that has kept no reading.
-use Rattle.std.proofs.Common.{◌≡◌, ◌≢◌, ℕ, zero, suc, ◌+◌, ◌*◌, ◌^◌, ◌<◌, ◌≤◌, inl, inr, List, [], ◌∷◌, slice_index_or, refl, sym, ap, ◌∙◌, subst, arith}
+use Rattle.std.proofs.Common.{◌≡◌, ◌≢◌, ℕ, zero, suc, ◌+◌, ◌*◌, ◌^◌, ◌<◌, ◌≤◌, inl, inr, [], ◌∷◌, slice_index_or, refl, sym, ap, ◌∙◌, subst, arith}
 use Rattle.std.proofs.lemmas.Bool.{both_ways, cases_lt}
 use Rattle.std.proofs.lemmas.List.{get_or_past, get_or-replicate}
 use Rattle.block_store.specs.declared.Config.{Config}
@@ -10,7 +10,7 @@ use Rattle.rate_plan.specs.Rates.{IsRate}
 use Rattle.array_trees.specs.Trees.{array_blocks, tree}
 use Rattle.never_heap.specs.declared.Command.TheVariants.{Arr}
 use Rattle.never_heap.specs.Bounds.{IsCommandInBounds}
-use Rattle.never_heap.specs.Graphs.{Graph, Object, has_name, nils, object_of, shared_name, start_graph}
+use Rattle.never_heap.specs.Graphs.{Graph, Object, has_name, nils, shared_name, start_graph}
 use Rattle.never_heap.specs.LiveBlocks.{live_blocks}
 use Rattle.never_heap.specs.RightWork.{units_owed}
 use Rattle.never_heap.proofs.OpeningLiveBlocks.{opening_live}

@@ -1,7 +1,5 @@
 use Rattle.std.proofs.Common.{arith}
 use Rattle.historian_core.proofs.Keeping.{life_left}
-use Rattle.historian_core.proofs.LastOnes.{keeps_on}
-use Rattle.historian_core.proofs.Opening.{started}
 use Rattle.historian_core.proofs.lives_end_with_the_heap.Goals as goal
 
 pub returns : goal.returns

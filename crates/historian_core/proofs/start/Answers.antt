@@ -1,4 +1,4 @@
-use Rattle.std.proofs.Common.{◌*◌, ◌∙◌, arith}
+use Rattle.std.proofs.Common.{◌∙◌, arith}
 use Rattle.heap_structures.specs.Heaps.{Always}
 use Rattle.heap_structures.proofs.Opening.{not_refused}
 use Rattle.historian_core.proofs.Opening.{g0, in_bounds, is_left, made_units, next_may, start_may, start_small, started}

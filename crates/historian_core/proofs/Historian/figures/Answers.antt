@@ -1,4 +1,4 @@
-use Rattle.std.proofs.Common.{◌≡◌, ◌<◌, ◌+◌, ◌-◌, ◌*◌, length, drop, sym, ap, ◌∙◌, rules, arith}
+use Rattle.std.proofs.Common.{◌≡◌, ◌+◌, ◌-◌, ◌*◌, length, drop, sym, ap, ◌∙◌, rules, arith}
 use Rattle.std.proofs.lemmas.List.{drop_all}
 use Rattle.historian_core.specs.declared.Figures.{Figures}
 use Rattle.historian_core.specs.Kept.{counted}
@@ -24,9 +24,17 @@ loop-back-init c = record {
 pub returns-in_err-number : goal.returns-in_err-number
 returns-in_err-number c = λ s fits.
     let kept = c.len-kept.ensures s.stores.graph s.stores.laid.values s.stores.laid.ring in
-    absurd (c.in_err-number.ensures (state (c.loop-back.invariant.told s fits).0)
-    (omega (arith, fits.0, c.loop-back-test.true, kept, s.stores.laid.ring.circle.few,
-    s.stores.laid.ring_place.2), fits.1)
+    absurd (c.in_err-number.ensures (state (c.loop-back.invariant.told s fits).0) (
+      omega (
+        arith,
+        fits.0,
+        c.loop-back-test.true,
+        kept,
+        s.stores.laid.ring.circle.few,
+        s.stores.laid.ring_place.2,
+      ),
+      fits.1,
+    )
     (omega (arith, c.loop-back-test.true, kept, s.stores.laid.long)))
 
 pub loop-back-preserved : goal.loop-back-preserved
@@ -34,9 +42,17 @@ loop-back-preserved c = record {
   told = λ s fits.
       let kept = c.len-kept.ensures s.stores.graph s.stores.laid.values s.stores.laid.ring in
       let old = c.loop-back.invariant.told s fits in
-      let by = c.in_ok-number.ensures (state old.0)
-      (omega (arith, fits.0, c.loop-back-test.true, kept, s.stores.laid.ring.circle.few,
-      s.stores.laid.ring_place.2), fits.1)
+      let by = c.in_ok-number.ensures (state old.0) (
+        omega (
+          arith,
+          fits.0,
+          c.loop-back-test.true,
+          kept,
+          s.stores.laid.ring.circle.few,
+          s.stores.laid.ring_place.2,
+        ),
+        fits.1,
+      )
       (omega (arith, c.loop-back-test.true, kept, s.stores.laid.long)) in (
         widened _ (state by.1) (s.most + 2 * (c.loop-back.back + 1)) (omega arith),
         c.with-figures.ensures
@@ -56,6 +72,11 @@ returns c = λ s fits.
     let none : c.len-kept.result - c.loop-back.back ≡ 0 = omega (arith, c.loop-back-test.false) in (
       old.1 ∙ ap (λ k. counted (length s.ls) (drop k s.ys)) none,
       widened c.loop-back.self (state old.0) (s.most + 80)
-          (omega (arith, kept, s.stores.laid.ring.circle.few, s.stores.laid.ring_place.2,
-          c.loop-back.auto.back-end)),
+          (omega (
+            arith,
+            kept,
+            s.stores.laid.ring.circle.few,
+            s.stores.laid.ring_place.2,
+            c.loop-back.auto.back-end,
+          )),
     )

@@ -1,11 +1,11 @@
-use Rattle.std.proofs.Common.{◌≡◌, ◌+◌, ◌-◌, ◌*◌, nat_lt, false, true, cond, lt-ltb, sym, ap, ◌∙◌, subst, arith}
+use Rattle.std.proofs.Common.{◌≡◌, ◌+◌, ◌-◌, ◌*◌, nat_lt, false, cond, sym, ap, ◌∙◌, subst, arith}
 use Rattle.std.proofs.lemmas.Bool.{le-ltb}
 use Rattle.heap_structures.specs.Alarms.{alarm_size, cleared}
 use Rattle.heap_structures.specs.Heaps.{Always}
 use Rattle.heap_structures.proofs.Rounds.{not_stopped}
 use Rattle.historian_core.specs.declared.Historian.{Historian}
 use Rattle.historian_core.specs.Kept.{Stores}
-use Rattle.historian_core.proofs.Keeping.{alarmed, room, widened}
+use Rattle.historian_core.proofs.Keeping.{alarmed, room}
 use Rattle.historian_core.proofs.Historian.forget.Goals as goal
 
 pub returns-in_err-clear : goal.returns-in_err-clear

@@ -1,4 +1,4 @@
-use Rattle.std.proofs.Common.{◌+◌, ◌++◌, true, [], sym, ap, ◌∙◌, subst, arith}
+use Rattle.std.proofs.Common.{◌+◌, ◌++◌, true, [], sym, subst, arith}
 use Rattle.heap_structures.specs.Alarms.{IsAlarms, alarm_size}
 use Rattle.heap_structures.specs.Heaps.{Always}
 use Rattle.heap_structures.proofs.Rounds.{not_stopped}
