@@ -11,6 +11,7 @@ mod map;
 mod map_tests;
 mod places;
 mod queue;
+mod records;
 mod ring;
 mod table;
 #[cfg(test)]
@@ -21,4 +22,5 @@ pub use cells::Cells;
 pub use laws::{blocks_of, others_stay, quiet_commands_keep_graphs};
 pub use map::{Insertion, Map, other_maps_stay};
 pub use queue::Queue;
+pub use records::{Records, few_blocks_live};
 pub use ring::Ring;
