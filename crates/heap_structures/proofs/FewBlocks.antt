@@ -1,5 +1,5 @@
 -- How many blocks can be live beside a ring of numbers.
-use Rattle.std.proofs.Common.{◌≡◌, ℕ, zero, suc, ◌+◌, ◌<◌, ◌≤◌, ◌||◌, inl, inr, true, List, [], ◌∷◌, ◌++◌, length, map, slice_index_or, sym, ap, ◌∙◌, subst, arith}
+use Rattle.std.proofs.Common.{◌≡◌, ◌≢◌, ℕ, zero, suc, ◌+◌, ◌<◌, ◌≤◌, ◌||◌, inl, inr, true, List, [], ◌∷◌, ◌++◌, length, map, slice_index_or, sym, ap, ◌∙◌, subst, arith}
 use Rattle.std.specs.List.{sum_by}
 use Rattle.std.proofs.lemmas.Bool.{or_cases, or_left, or_right}
 use Rattle.std.proofs.lemmas.List.Folds.{list_any-append}
@@ -17,9 +17,10 @@ use Rattle.never_heap.specs.Reach.{is_among}
 use Rattle.never_heap.proofs.LiveBlocksBound.{within}
 use Rattle.never_heap.proofs.NameLists.{one_name}
 use Rattle.operations.proofs.Among.{name_self, thread_of}
-use Rattle.heap_structures.specs.declared.cells.Cells.{Cells}
+use Rattle.heap_structures.specs.declared.alarms.Alarm.{Alarm}
+use Rattle.heap_structures.specs.declared.alarms.AlarmList.{AlarmList}
 use Rattle.heap_structures.specs.declared.records.Records.{Records}
-use Rattle.heap_structures.specs.Cells.{IsCells}
+use Rattle.heap_structures.specs.Alarms.{IsAlarms, value_of}
 use Rattle.heap_structures.specs.Records.{AreNumbers, ArePlain, IsRecords, ReferOnly}
 use Rattle.heap_structures.proofs.Rounds.{at_place}
 
@@ -47,7 +48,17 @@ not_ref fs v zero x e plain is = plain (sym (ap (λ vs. slice_index_or vs 0 Nil)
 not_ref fs v (suc i) x e plain is =
     let bad : Nil ≡ Ref x = sym (ap (λ vs. slice_index_or vs (suc i) Nil) e) ∙ is in absurd cc
 
-in_names : (bs : List Name) (i : ℕ) (x : Name) → slice_index_or (map Ref bs) i Nil ≡ Ref x
+no_alarm : (xs : List Alarm) (i : ℕ) (x : Name) → slice_index_or (map value_of xs) i Nil ≢ Ref x
+no_alarm [] i x e = absurd cc
+no_alarm (y ∷ xs) zero x e = absurd cc
+no_alarm (y ∷ xs) (suc i) x e = no_alarm xs i x e
+
+pub alarms_plain : (g : Graph) (l : AlarmList) (xs : List Alarm) → IsAlarms g l xs → (i : ℕ) (x : Name)
+    → field_of (object_of g l.cells.array) i ≢ Ref x
+alarms_plain g l xs is i x e =
+    let at = at_place g l.cells 0 l.count (map value_of xs) is i in no_alarm xs at.0 x (sym at.1 ∙ e)
+
+pub in_names : (bs : List Name) (i : ℕ) (x : Name) → slice_index_or (map Ref bs) i Nil ≡ Ref x
     → is_among bs x ≡ true
 in_names [] i x e = absurd cc
 in_names (b ∷ bs) zero x e =

@@ -33,6 +33,7 @@ use Rattle.heap_structures.specs.Opened.{NotOpened, Opens, OpensNils, StaysSmall
 use Rattle.heap_structures.specs.Records.{AreNumbers, Grows, HasBox, IsRecords, MayPush, NotPushed, first_of}
 use Rattle.heap_structures.specs.Rings.{Gives, IsNoTarget, IsRing}
 use Rattle.heap_structures.proofs.Answered.{QuietLaw, ok_map, room_after, told_ok, took_both, value_in}
+use Rattle.heap_structures.proofs.CellLone.{lone_step}
 use Rattle.heap_structures.proofs.CellMoves.{IsLone, get_step, makes_cells, set_stores, spares_both, spares_wider}
 use Rattle.heap_structures.proofs.Opening.{new_named}
 use Rattle.heap_structures.proofs.Quiet.{lone_of}
@@ -97,6 +98,11 @@ not_ring g r bs is b n one same =
     no_int bs at.0 n (sym at.1 ∙ ap (λ m. field_of (object_of g m) 0) (sym same)
     ∙ ap (λ fs. slice_index_or fs 0 Nil) one)
 
+pub few_numbers : (g : Graph) (r : Records) (ns : List ℕ) → IsRecords g r ns
+    → length ns ≤ r.ring.cells.size
+few_numbers g r ns is =
+    omega (arith, is.ring.circle.few, length-map is.names Ref, numbers_long g is.names ns is.numbers)
+
 -- ---- where calls leave it
 
 -- a call that changes another object
@@ -155,6 +161,7 @@ module _ (s : Sight) (h y : Control) (g : Graph) (r : Records) (ns : List ℕ) (
             fields = is_box.values;
             fresh = m.fresh;
             spares = m.spares;
+            threads = (lone_step g 0 (commands.Arr d 1) lone).threads ∙ sym lone.threads;
           }
 
       by : (s : Sight) → MayPush s h.config g d → StaysSmall s h.config g d 1

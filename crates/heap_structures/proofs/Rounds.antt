@@ -11,12 +11,12 @@ use Rattle.control_heap.specs.Controls.{Control}
 use Rattle.control_heap.specs.declared.faults.Fault.{Fault}
 use Rattle.control_heap.specs.declared.faults.Fault.TheVariants as faults
 use Rattle.heap_structures.specs.declared.cells.Cells.{Cells}
-use Rattle.heap_structures.specs.Cells.{IsCells, IsNone, Spares, held}
+use Rattle.heap_structures.specs.Cells.{IsCells, IsNone, Saves, Spares, held}
 use Rattle.heap_structures.specs.Circles.{around, last_of, IsCircle}
 use Rattle.heap_structures.specs.Heaps.{Does, Has, HasRoom, Ready, Sight, Stops}
 use Rattle.heap_structures.specs.Rings.{Gives, IsRound}
 use Rattle.heap_structures.proofs.Circling.{around_in, around_low, around_high, circle_at, circle_fewer, circle_more, circle_over, empty_circle, length_drop, last_fewer, last_over}
-use Rattle.heap_structures.proofs.CellMoves.{cells_spared, spares_none, spares_wider}
+use Rattle.heap_structures.proofs.CellMoves.{cells_spared, saves_of, spares_none, spares_wider}
 use Rattle.heap_structures.proofs.Chained.{does_wider}
 
 -- a cause that implies another
@@ -58,14 +58,18 @@ does_none s n h rs a g Q has holds = record {
 module _ (g : Graph) (c : Cells) (first count : ℕ) (xs : List Value)
     (r : IsRound g c first count xs) where
   -- it stays where its array and its base register do
-  pub round_stays : (rs : List ℕ) (a : Name) (z : Graph) → Spares rs a g z → c.array ≢ a
+  pub round_saved : (rs : List ℕ) (a : Name) (z : Graph) → Saves rs a g z → c.array ≢ a
       → IsNone rs c.base → IsRound z c first count xs
-  round_stays rs a z s apart none = record {
+  round_saved rs a z s apart none = record {
     array = r.array;
     cells = cells_spared rs a g z c r.array s apart none r.cells;
     circle = r.circle;
     counted = r.counted;
   }
+
+  pub round_stays : (rs : List ℕ) (a : Name) (z : Graph) → Spares rs a g z → c.array ≢ a
+      → IsNone rs c.base → IsRound z c first count xs
+  round_stays rs a z s = round_saved rs a z (saves_of rs rs a g z (λ q none. none) s)
 
   -- value p of the array is one of those that are shown, or nil
   pub at_place : (p : ℕ) → (i : ℕ)

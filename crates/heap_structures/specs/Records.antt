@@ -1,5 +1,5 @@
 -- Rings of numbers, each in an object of its own.
-use Rattle.std.specs.Prelude.{ℕ, ◌+◌, ◌*◌, ◌^◌, ◌<◌, ◌≤◌, ◌≡◌, ◌≢◌, ◌⊎◌, true, false, Option, Some, None, List, [], ◌∷◌, map}
+use Rattle.std.specs.Prelude.{ℕ, ◌+◌, ◌*◌, ◌^◌, ◌<◌, ◌≤◌, ◌≡◌, ◌≢◌, ◌⊎◌, true, false, Option, Some, None, List, [], ◌∷◌, length, map}
 use Rattle.block_store.specs.declared.Config.{Config}
 use Rattle.block_store.specs.declared.Name.{Name}
 use Rattle.block_store.specs.declared.Value.TheVariants.{Int, Nil, Ref}
@@ -47,6 +47,7 @@ pub record HasBox (g k : Graph) (d : ℕ) (a : Name) : Type 0 where
   pub fields : (object_of k a).fields ≡ Nil ∷ []
   pub fresh : has_name g a ≡ false
   pub spares : Spares (d ∷ []) a g k
+  pub threads : length k.mutators ≡ length g.mutators
 
 -- There is room for such an object. Where any `Full` may have been answered, nothing is asked.
 abbrev pub MayPush : Sight → Config → Graph → ℕ → Type 0
