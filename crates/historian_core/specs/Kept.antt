@@ -1,9 +1,8 @@
 -- A heap that keeps readings.
-use Rattle.std.specs.Prelude.{ℕ, ◌+◌, ◌-◌, ◌*◌, ◌<◌, ◌≤◌, ◌≡◌, ◌≢◌, ◌^◌, Bool, false, if◌then◌else◌, List, [], ◌∷◌, length, slice_index_or}
+use Rattle.std.specs.Prelude.{ℕ, ◌+◌, ◌-◌, ◌*◌, ◌<◌, ◌≤◌, ◌≡◌, ◌≢◌, ◌^◌, Bool, false, if◌then◌else◌, List, [], ◌∷◌, length}
 use Rattle.block_store.specs.declared.Config.{Config}
 use Rattle.block_store.specs.declared.Name.{Name}
-use Rattle.block_store.specs.declared.Value.{Value}
-use Rattle.block_store.specs.declared.Value.TheVariants.{Nil, Int, Ref}
+use Rattle.block_store.specs.declared.Value.TheVariants.{Nil, Ref}
 use Rattle.block_store.specs.declared.Width.TheVariants.{Eight}
 use Rattle.rate_plan.specs.Rates.{IsRate}
 use Rattle.never_heap.specs.Graphs.{Graph, object_of, shared_name}
@@ -11,10 +10,10 @@ use Rattle.control_heap.specs.Controls.{asked, units}
 use Rattle.graph_view.specs.Shown.{HasMetNoFull}
 use Rattle.heap_structures.specs.Alarms.{IsAlarms, alarm_cells}
 use Rattle.heap_structures.specs.Cells.{HasPlace, IsNone, held}
-use Rattle.heap_structures.specs.Rings.{IsRing, ring_cells}
+use Rattle.heap_structures.specs.Records.{IsRecords, records_cells}
 use Rattle.heap_structures.specs.declared.alarms.Alarm.{Alarm}
 use Rattle.heap_structures.specs.declared.alarms.AlarmList.{AlarmList}
-use Rattle.heap_structures.specs.declared.ring.Ring.{Ring}
+use Rattle.heap_structures.specs.declared.records.Records.{Records}
 use Rattle.historian_core.specs.declared.Figures.{Figures}
 use Rattle.historian_core.specs.declared.Historian.{Historian}
 use Rattle.historian_core.specs.declared.Limits.{Limits}
@@ -43,36 +42,25 @@ abbrev pub standing : Limits → ℕ → List ℕ → List Alarm
 standing l i [] = []
 standing l i (y ∷ ys) = with_alarm (is_alarm l y) i (standing l (i + 1) ys)
 
--- a value refers to an object with this reading alone
-pub record IsReading (g : Graph) (v : Value) (y : ℕ) : Type 0 where
-  pub name : Name
-  pub is : v ≡ Ref name
-  pub fields : (object_of g name).fields ≡ Int y ∷ []
-  pub low : y < 2 ^ 32
-
--- The ring has the records of these readings, and the list these alarms. The shared array is empty,
--- and no register but those of the structures and register 1 refers to an object.
-pub record IsLaid (g : Graph) (r : Ring) (a : AlarmList) (ys : List ℕ) (ls : List Alarm) : Type 0
-  where
-    pub ring_place : HasPlace (ring_cells r) 3 2 40
-    pub alarm_place : HasPlace (alarm_cells a) 4 1 40
-    pub apart : (ring_cells r).array ≢ (alarm_cells a).array
-    pub zero : held g 0 ≡ Ref (shared_name 1)
-    pub shared : (object_of g (shared_name 1)).fields ≡ Nil ∷ []
-    pub plain : (q : ℕ) (b : Name) → IsNone (0 ∷ 1 ∷ 3 ∷ 4 ∷ []) q → held g q ≢ Ref b
-    pub values : List Value
-    pub ring : IsRing g r values
-    pub long : length values ≡ length ys
-    pub readings : (i : ℕ) → i < length ys
-        → IsReading g (slice_index_or values i Nil) (slice_index_or ys i 0)
-    pub alarms : IsAlarms g a ls
+-- The ring has these readings, and the list these alarms. The shared array is empty, and no register
+-- but those of the structures and of a record refers to an object.
+pub record IsLaid (g : Graph) (r : Records) (a : AlarmList) (ys : List ℕ) (ls : List Alarm)
+    : Type 0 where
+  pub ring_place : HasPlace (records_cells r) 3 2 40
+  pub alarm_place : HasPlace (alarm_cells a) 4 1 40
+  pub apart : (records_cells r).array ≢ (alarm_cells a).array
+  pub zero : held g 0 ≡ Ref (shared_name 1)
+  pub shared : (object_of g (shared_name 1)).fields ≡ Nil ∷ []
+  pub plain : (q : ℕ) (b : Name) → IsNone (0 ∷ 1 ∷ 2 ∷ 3 ∷ 4 ∷ []) q → held g q ≢ Ref b
+  pub readings : IsRecords g r ys
+  pub alarms : IsAlarms g a ls
 
 -- A historian with these readings and alarms. Its heap has met no `Full`, has done at most so many
 -- commands, and has made the two structures, of 6 blocks each, and so many records.
 pub record Stores (h : Historian) (most made : ℕ) (ys : List ℕ) (ls : List Alarm) : Type 0 where
   pub graph : Graph
   pub has : HasMetNoFull h.heap graph
-  pub laid : IsLaid graph h.ring h.alarms ys ls
+  pub laid : IsLaid graph h.readings h.alarms ys ls
   pub config : h.heap.config ≡ heap_config
   pub commands : asked h.heap ≤ most
   pub objects : h.heap.objects ≡ 2 + made

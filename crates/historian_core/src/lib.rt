@@ -2,7 +2,6 @@
 #![tactic(auto)]
 
 ghost use Rattle.std.specs.Prelude.{◌≡◌, ◌≤◌, ◌<◌, ◌+◌, ◌-◌, ◌*◌, ◌^◌, ◌∷◌, ◌++◌, ◌↔◌, ℕ, false, min, max, nat_lt, if◌then◌else◌, List, [], length, slice_index_or, IfOk, IfErr, OnOk, OnErr, IsOkAnd};
-ghost use Rattle.block_store.specs.declared.Value.TheVariants.{Int};
 ghost use Rattle.never_heap.specs.declared.Command.TheVariants.{New};
 ghost use Rattle.never_heap.specs.Licensed.{NoFulls};
 ghost use Rattle.control_heap.specs.Controls.{HasLeft};
@@ -21,12 +20,10 @@ mod stops;
 mod tests;
 mod texts;
 
-use block_store::{Config, Value, Width};
+use block_store::{Config, Width};
 use control_heap::{ControlHeap, Fault, OpenFault};
-use graph_view::{ask_all, lives_add_up, open, shown_heaps_met_no_full};
-use heap_structures::{AlarmList, Ring, quiet_commands_keep_graphs};
-use never_heap::Command;
-use rt_limit::live_grows;
+use graph_view::{open, shown_heaps_met_no_full};
+use heap_structures::{AlarmList, Records};
 use std::alloc::Global;
 pub use stops::{Stop, Why, report_with_status, say_stop};
 pub use texts::{limits_of, reading_of, report};
@@ -50,13 +47,13 @@ const HEAP: Config = Config {
     shared: 1,
 };
 
-// The registers of a record and of its number, which are also the spare registers of the
-// structures: neither has to stay from one call to the next.
+// The registers of a record and of its number. The former is also the spare register of the alarms:
+// what it holds does not have to stay from one call to the next.
 const RECORD: u8 = 1;
 
 const NUMBER: u8 = 2;
 
-const RING: u8 = 3;
+const READINGS: u8 = 3;
 
 const ALARMS: u8 = 4;
 
@@ -82,8 +79,8 @@ pub struct Figures {
 #[derive(Drop)]
 pub struct Historian {
     heap: ControlHeap,
-    // References to the records of these readings, the oldest first.
-    ring: Ring,
+    // These readings, the oldest first.
+    readings: Records,
     // The numbers of those that are alarms. Readings are counted from 0.
     alarms: AlarmList,
 }
@@ -165,13 +162,13 @@ pub fn start(alloc: Global) -> Result<Historian, OpenFault>
     ensures refused { IfErr result (IsOpenFault heap_config) }
 {
     let mut heap = open(alloc, HEAP)?;
-    let Ok(ring) = Ring::new(&mut heap, RING, NUMBER, KEPT) else {
+    let Ok(readings) = Records::new(&mut heap, READINGS, NUMBER, KEPT) else {
         unreachable!();
     };
     let Ok(alarms) = AlarmList::new(&mut heap, ALARMS, RECORD, KEPT) else {
         unreachable!();
     };
-    Ok(Historian { heap, ring, alarms })
+    Ok(Historian { heap, readings, alarms })
 }
 
 /// Adds a reading to `count` others, and writes the line of the last 40 by one `put`.
@@ -251,25 +248,7 @@ impl Historian {
             → IsOkAnd result (λ _. Stores self.new (s.most + 4) (s.made + 1)
             (windows.last_ones (s.ys ++ reading ∷ [])) s.ls) }
     {
-        let value = u64::from(reading);
-        let commands = [
-            Command::New {
-                d: RECORD,
-                fields: 1,
-            },
-            Command::Set { d: NUMBER, value },
-            Command::Put {
-                s: RECORD,
-                i: 0,
-                v: NUMBER,
-            },
-        ];
-        lives_add_up();
-        live_grows();
-        let Ok(_) = ask_all(&mut self.heap, &commands) else {
-            return Err(Fault::NoLifeLeft);
-        };
-        self.ring.push(&mut self.heap, RECORD)
+        self.readings.push(&mut self.heap, reading, RECORD)
     }
 
     /// Clears the alarm of the reading that reading number `count` replaces.
@@ -307,7 +286,7 @@ impl Historian {
             × Stores self.new (s.most + 80) s.made s.ys s.ls) }
     {
         let mut figures = Figures::of_alarms(u64::from(self.alarms.len()));
-        let kept = self.ring.len();
+        let kept = self.readings.len();
         for back in 0..kept {
             let number = self.reading_at(kept - 1 - back)?;
             figures = figures.with(u64::from(number));
@@ -317,23 +296,11 @@ impl Historian {
 
     /// Reading `i` of those that are kept, the oldest first.
     fn reading_at(&mut self, i: u32) -> Result<u32, Fault>
-        ensures { (s : State self.old) → Fits s 2 → i < length s.ys
+        ensures { (s : State self.old) → Fits s 2
             → IsOkAnd result (λ y. (y ≡ slice_index_or s.ys i 0)
             × Stores self.new (s.most + 2) s.made s.ys s.ls) }
     {
-        quiet_commands_keep_graphs();
-        self.ring.get(&mut self.heap, i, RECORD)?;
-        let value = self.heap.get(NUMBER, RECORD, 0)?;
-        Ok(number_in(value))
-    }
-}
-
-/// The number that a value is, below 2^32.
-fn number_in(value: Value) -> u32
-    ensures { (n : ℕ) → value ≡ Int n → n < 2 ^ 32 → result ≡ n }
-{
-    match value {
-        Value::Int(number) if number < 1 << 32 => number as u32,
-        _ => 0,
+        let reading = self.readings.get(&mut self.heap, i, RECORD)?;
+        Ok(reading.unwrap_or(0))
     }
 }

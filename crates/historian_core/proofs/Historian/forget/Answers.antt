@@ -22,7 +22,7 @@ returns c = λ s fits low.
     let h = c.args.self.now in
     let n = c.args.count in
     let z : Historian = record
-    { heap = c.clear.new.heap; ring = h.ring; alarms = c.clear.new.self } in
+    { heap = c.clear.new.heap; readings = h.readings; alarms = c.clear.new.self } in
     let d = c.in_ok-clear.ensures.shows Always s.stores.graph s.ls s.stores.has
     s.stores.laid.alarms in
     let many : nat_lt n 40 ≡ false = le-ltb n 40

@@ -22,7 +22,7 @@ returns c = λ s fits low none few.
     let n = c.args.count in
     let size = s.stores.laid.alarm_place.2 in
     let z : Historian = record
-    { heap = c.raise.new.heap; ring = h.ring; alarms = c.raise.new.self } in
+    { heap = c.raise.new.heap; readings = h.readings; alarms = c.raise.new.self } in
     let d = c.in_ok-raise.ensures.shows Always s.stores.graph s.ls s.stores.has
     s.stores.laid.alarms in
     subst (λ b. Stores z (s.most + 42) s.made s.ys (s.ls ++ with_alarm b n []))
