@@ -1,7 +1,7 @@
 -- How many blocks can be live beside a ring of numbers.
 use Rattle.std.proofs.Common.{◌≡◌, ◌≢◌, ℕ, zero, suc, ◌+◌, ◌<◌, ◌≤◌, ◌||◌, inl, inr, true, List, [], ◌∷◌, ◌++◌, length, map, slice_index_or, sym, ap, ◌∙◌, subst, arith}
-use Rattle.std.specs.List.{sum_by}
-use Rattle.std.proofs.lemmas.Bool.{or_cases, or_left, or_right}
+use Rattle.std.specs.List.{AllByRecursion, sum_by}
+use Rattle.std.proofs.lemmas.Bool.{cases_eq, or_cases, or_left, or_right}
 use Rattle.std.proofs.lemmas.List.Folds.{list_any-append}
 use Rattle.std.proofs.lemmas.List.Sums.{sum_by-append, sum_by-cons}
 use Rattle.block_store.specs.declared.Name.{Name}
@@ -21,6 +21,7 @@ use Rattle.heap_structures.specs.declared.alarms.Alarm.{Alarm}
 use Rattle.heap_structures.specs.declared.alarms.AlarmList.{AlarmList}
 use Rattle.heap_structures.specs.declared.records.Records.{Records}
 use Rattle.heap_structures.specs.Alarms.{IsAlarms, value_of}
+use Rattle.heap_structures.specs.Cells.{IsNone, held}
 use Rattle.heap_structures.specs.Records.{AreNumbers, ArePlain, IsRecords, ReferOnly}
 use Rattle.heap_structures.proofs.Rounds.{at_place}
 
@@ -42,7 +43,7 @@ pub one_field : (w : Width) (g : Graph) (b : Name) (v : Value) → (object_of g 
 one_field w g b v e = blocks_by w g b 1 1 (ap length e) (one_block w)
 
 -- the one field refers to no object
-pub not_ref : (fs : List Value) (v : Value) (i : ℕ) (x : Name) → fs ≡ v ∷ []
+not_ref : (fs : List Value) (v : Value) (i : ℕ) (x : Name) → fs ≡ v ∷ []
     → (v ≡ Ref x → ⊥) → slice_index_or fs i Nil ≡ Ref x → ⊥
 not_ref fs v zero x e plain is = plain (sym (ap (λ vs. slice_index_or vs 0 Nil) e) ∙ is)
 not_ref fs v (suc i) x e plain is =
@@ -53,12 +54,42 @@ no_alarm [] i x e = absurd cc
 no_alarm (y ∷ xs) zero x e = absurd cc
 no_alarm (y ∷ xs) (suc i) x e = no_alarm xs i x e
 
-pub alarms_plain : (g : Graph) (l : AlarmList) (xs : List Alarm) → IsAlarms g l xs → (i : ℕ) (x : Name)
+pub alarms_plain : (g : Graph) (l : AlarmList) (xs : List Alarm) → IsAlarms g l xs → (x : Name) (i : ℕ)
     → field_of (object_of g l.cells.array) i ≢ Ref x
-alarms_plain g l xs is i x e =
+alarms_plain g l xs is x i e =
     let at = at_place g l.cells 0 l.count (map value_of xs) is i in no_alarm xs at.0 x (sym at.1 ∙ e)
 
-pub in_names : (bs : List Name) (i : ℕ) (x : Name) → slice_index_or (map Ref bs) i Nil ≡ Ref x
+pub nil_plain : (g : Graph) (b : Name) → (object_of g b).fields ≡ Nil ∷ [] → (x : Name) (i : ℕ)
+    → field_of (object_of g b) i ≢ Ref x
+nil_plain g b nil x i =
+    not_ref (object_of g b).fields Nil i x nil (λ bad. let no : Nil ≡ Ref x = bad in absurd cc)
+
+-- these objects refer to none, one by one
+pub plain_by : (g : Graph) (bs : List Name)
+    → AllByRecursion (λ c. (x : Name) (i : ℕ) → field_of (object_of g c) i ≢ Ref x) bs → ArePlain g bs
+plain_by g [] all b x i among e = absurd cc
+plain_by g (c ∷ bs) all b x i among e = elim (or_cases (same_name b c) (is_among bs b) among) [
+  | inl same ↦ all.0 x i (ap (λ m. field_of (object_of g m) i) (sym (one_name b c same)) ∙ e)
+  | inr more ↦ plain_by g bs all.1 b x i more e
+]
+
+-- these registers refer to these objects, and the others to none
+pub refer_by : (g : Graph) (q : ℕ) (b : Name) (os : List (ℕ × Name))
+    → AllByRecursion (λ o. held g o.0 ≡ Ref o.1) os
+    → (IsNone (map (λ o. o.0) os) q → held g q ≢ Ref b) → held g q ≡ Ref b
+    → is_among (map (λ o. o.1) os) b ≡ true
+refer_by g q b [] all none e = absurd (none tt e)
+refer_by g q b (o ∷ os) all none e = elim (cases_eq q o.0) [
+  | inl is ↦
+      let both : Ref o.1 ≡ Ref b = sym all.0 ∙ ap (held g) (sym is) ∙ e in
+      let same : b ≡ o.1 = cc in
+      or_left (same_name b o.1) (is_among (map (λ p. p.1) os) b)
+      (subst (λ y. same_name b y ≡ true) same (name_self b))
+  | inr ne ↦ or_right (same_name b o.1) (is_among (map (λ p. p.1) os) b)
+      (refer_by g q b os all.1 (λ no. none (ne, no)) e)
+]
+
+in_names : (bs : List Name) (i : ℕ) (x : Name) → slice_index_or (map Ref bs) i Nil ≡ Ref x
     → is_among bs x ≡ true
 in_names [] i x e = absurd cc
 in_names (b ∷ bs) zero x e =

@@ -11,6 +11,8 @@ mod map;
 mod map_tests;
 mod places;
 mod queue;
+#[cfg(test)]
+mod record_tests;
 mod records;
 mod ring;
 mod table;

@@ -2,7 +2,8 @@
 use Rattle.std.proofs.Common.{◌≡◌, ◌≢◌, ◌↔◌, ℕ, zero, suc, ◌+◌, ◌-◌, ◌*◌, ◌^◌, ◌<◌, ◌≤◌, inl, inr, true, false, Option, Result, Ok, Err, List, [], ◌∷◌, ◌++◌, length, drop, map, slice_index_or, sym, refl, ap, ◌∙◌, subst, arith}
 use Rattle.std.specs.Prelude.{IsOkAnd, MatchResult, unwrap_or}
 use Rattle.std.specs.List.{sum_by}
-use Rattle.std.proofs.lemmas.Bool.{both_ways, cases_eq, or_cases}
+use Rattle.std.proofs.lemmas.Bool.{both_ways, cases_eq, cases_lt}
+use Rattle.std.proofs.lemmas.List.{get_or_past, get_or-replicate}
 use Rattle.block_store.specs.declared.Config.{Config}
 use Rattle.block_store.specs.declared.Name.{Name}
 use Rattle.block_store.specs.declared.Value.{Value}
@@ -12,31 +13,32 @@ use Rattle.rate_plan.specs.Rates.{IsRate, KeepsUp}
 use Rattle.array_trees.specs.Trees.{array_blocks, tree}
 use Rattle.never_heap.specs.declared.Command.TheVariants.{Arr, New}
 use Rattle.never_heap.specs.Bounds.{IsCommandInBounds}
-use Rattle.never_heap.specs.Graphs.{Graph, Object, ObjectKind, Record, Array, has_name, object_of, same_name, shared_name}
+use Rattle.never_heap.specs.Graphs.{Graph, Object, ObjectKind, Record, Array, has_name, nils, object_of, shared_name, start_graph}
 use Rattle.never_heap.specs.LiveBlocks.{blocks_of_kind, live_blocks, object_blocks}
-use Rattle.never_heap.specs.Reach.{is_among}
 use Rattle.never_heap.specs.RightWork.{units_owed}
-use Rattle.never_heap.proofs.NameLists.{one_name}
+use Rattle.never_heap.proofs.OpeningLiveBlocks.{opening_live}
 use Rattle.never_heap.proofs.StepChanges.{has_field}
 use Rattle.control_heap.specs.Controls.{Control, HasLeft, asked, units}
 use Rattle.control_heap.specs.declared.faults.Fault.{Fault}
 use Rattle.graph_view.specs.Shown.{HasMetNoFull}
-use Rattle.heap_structures.specs.Alarms.{IsAlarms, Raises, stands, value_of}
-use Rattle.heap_structures.specs.Cells.{IsCells, IsNone, Saves, Spares, held}
+use Rattle.heap_structures.specs.Alarms.{IsAlarms, Raises, ShowsOrStops, stands, value_of}
+use Rattle.heap_structures.specs.Cells.{HasPlace, IsCells, Saves, Spares, held}
 use Rattle.heap_structures.specs.Circles.{last_of}
 use Rattle.heap_structures.specs.Heaps.{Always, Does, HasRoom, Took}
-use Rattle.heap_structures.specs.Records.{ArePlain, Grows, HasBox, IsRecords, MayPush, NotPushed, ReferOnly, first_of}
+use Rattle.heap_structures.specs.Opened.{MayOpen, NotOpened, Opens}
+use Rattle.heap_structures.specs.Records.{Grows, HasBox, HasFreeSpare, IsRecords, MayPush, NotPushed, ReferOnly, first_of}
 use Rattle.heap_structures.specs.declared.alarms.Alarm.{Alarm}
 use Rattle.heap_structures.specs.declared.alarms.AlarmList.{AlarmList}
 use Rattle.heap_structures.specs.declared.alarms.Raised.{Raised}
 use Rattle.heap_structures.specs.declared.alarms.Raised.TheVariants as raisings
 use Rattle.heap_structures.specs.declared.cells.Cells.{Cells}
 use Rattle.heap_structures.specs.declared.records.Records.{Records}
-use Rattle.heap_structures.proofs.CellMoves.{saves_of, spares_wider}
-use Rattle.heap_structures.proofs.FewBlocks.{alarms_plain, blocks_by, few_live, in_names, not_ref, one_field}
+use Rattle.heap_structures.proofs.CellMoves.{saves_of}
+use Rattle.heap_structures.proofs.FewBlocks.{alarms_plain, blocks_by, few_live, nil_plain, one_field, plain_by, refer_by}
 use Rattle.heap_structures.proofs.NumberRings.{few_numbers, first_is, is_target, not_pushed, records_stay}
+use Rattle.heap_structures.proofs.Opening.{not_refused}
 use Rattle.heap_structures.proofs.Quiet.{lone_of}
-use Rattle.heap_structures.proofs.Rounds.{round_saved}
+use Rattle.heap_structures.proofs.Rounds.{not_stopped, round_saved}
 use Rattle.historian_core.specs.declared.Historian.{Historian}
 use Rattle.historian_core.specs.Kept.{Fits, IsLaid, State, Stores, heap_config, with_alarm}
 use Rattle.historian_core.specs.Texts.{life}
@@ -165,63 +167,30 @@ module _ (g : Graph) (r : Records) (l : AlarmList) (ys : List ℕ) (ls : List Al
     abbrev others : List Name
     others = shared_name 1 ∷ a ∷ l.cells.array ∷ []
 
-    abbrev all : List Name
-    all = r.ring.cells.array ∷ others
-
-    refer : ReferOnly k all
-    refer q b e = elim (cases_eq q 0) [
-      | inl is ↦ in_names all 1 b (sym now.zero ∙ ap (held k) (sym is) ∙ e)
-      | inr n0 ↦ elim (cases_eq q 1) [
-        | inl is ↦ in_names all 2 b (sym new.register ∙ ap (held k) (sym is) ∙ e)
-        | inr n1 ↦ elim (cases_eq q 2) [
-          | inl is ↦ absurd (now.readings.free b (ap (held k) (now.ring_place.1 ∙ sym is) ∙ e))
-          | inr n2 ↦ elim (cases_eq q 3) [
-            | inl is ↦ in_names all 0 b (sym now.readings.ring.cells.base
-                ∙ ap (held k) (now.ring_place.0 ∙ sym is) ∙ e)
-            | inr n3 ↦ elim (cases_eq q 4) [
-              | inl is ↦ in_names all 3 b
-                  (sym now.alarms.cells.base ∙ ap (held k) (now.alarm_place.0 ∙ sym is) ∙ e)
-              | inr n4 ↦ absurd (now.plain q b (n0, (n1, (n2, (n3, (n4, tt))))) e)
-            ]
-          ]
-        ]
-      ]
-    ]
-
-    nil_field : (b c x : Name) (i : ℕ) → same_name b c ≡ true
-        → (object_of k c).fields ≡ Nil ∷ [] → slice_index_or (object_of k b).fields i Nil ≢ Ref x
-    nil_field b c x i same nil =
-        not_ref (object_of k b).fields Nil i x
-        (ap (λ m. (object_of k m).fields) (one_name b c same) ∙ nil)
-        (λ bad. let no : Nil ≡ Ref x = bad in absurd cc)
-
-    plain : ArePlain k others
-    plain b x i among e =
-        elim (or_cases (same_name b (shared_name 1)) (is_among (a ∷ l.cells.array ∷ []) b) among) [
-          | inl same ↦ nil_field b (shared_name 1) x i same now.shared e
-          | inr rest ↦ elim (or_cases (same_name b a) (is_among (l.cells.array ∷ []) b) rest) [
-            | inl same ↦ nil_field b a x i same new.fields e
-            | inr last ↦ elim (or_cases (same_name b l.cells.array) (is_among [] b) last) [
-              | inl same ↦ alarms_plain k l ls now.alarms i x
-                  (ap (λ m. slice_index_or (object_of k m).fields i Nil)
-                  (sym (one_name b l.cells.array same)) ∙ e)
-              | inr none ↦ absurd cc
-            ]
-          ]
-        ]
+    refer : ReferOnly k (r.ring.cells.array ∷ others)
+    refer q b e =
+        let readings = ap (held k) (sym now.ring_place.0) ∙ now.readings.ring.cells.base in
+        let alarms = ap (held k) (sym now.alarm_place.0) ∙ now.alarms.cells.base in
+        refer_by k q b ((3, r.ring.cells.array) ∷ (0, shared_name 1) ∷ (1, a) ∷ (4, l.cells.array) ∷ [])
+        (readings, (now.zero, (new.register, (alarms, tt))))
+        (λ none is. elim (cases_eq q 2) [
+          | inl two ↦ now.readings.free b (ap (held k) (now.ring_place.1 ∙ sym two) ∙ is)
+          | inr n2 ↦ now.plain q b (none.1.0, (none.1.1.0, (n2, (none.0, (none.1.1.1.0, tt))))) is
+        ]) e
 
     pub few_blocks : live_blocks Eight k ≤ 57
     few_blocks =
         let f : Name → ℕ = λ b. object_blocks Eight (object_of k b) in
-        let by = few_live Eight k r ys others (new.threads ∙ threads) now.readings refer plain in
+        let array : (c : Cells) (vs : List Value) → IsCells k c vs → c.size ≡ 40 → f c.array ≤ 6 =
+        λ c vs is size. blocks_by Eight k c.array 40 6 (ap length is.values ∙ is.size ∙ size) six in
+        let by = few_live Eight k r ys others (new.threads ∙ threads) now.readings refer
+        (plain_by k others (nil_plain k (shared_name 1) now.shared, (nil_plain k a new.fields,
+        (alarms_plain k l ls now.alarms, tt)))) in
         let three : sum_by f others ≡ ((0 + f (shared_name 1)) + f a) + f l.cells.array = refl in
         let one = one_field Eight k (shared_name 1) Nil now.shared in
         let two = one_field Eight k a Nil new.fields in
-        let list = blocks_by Eight k l.cells.array 40 6
-        (ap length now.alarms.cells.values ∙ now.alarms.cells.size ∙ now.alarm_place.2) six in
-        let ring = blocks_by Eight k r.ring.cells.array 40 6
-        (ap length now.readings.ring.cells.values ∙ now.readings.ring.cells.size
-        ∙ now.ring_place.2) six in
+        let list = array l.cells _ now.alarms.cells now.alarm_place.2 in
+        let ring = array r.ring.cells _ now.readings.ring.cells now.ring_place.2 in
         omega (arith, by, three, one, two, list, ring, few_numbers k r ys now.readings,
         now.ring_place.2)
 
@@ -263,27 +232,20 @@ module _ (h : Historian) (s : State h) where
   life_left few = (
     λ low. (
       omega (arith, s.stores.commands, few, low),
-      objects low,
+      (let more : h.heap.objects + 1 ≤ 2 ^ 43 - 1 = omega (arith, s.stores.objects, low) in more),
       λ rate is.
           let by = used rate is in
+          let left : units h.heap + (rate * 1 + 0) ≤ 2 ^ 45 = omega (arith, low, by.0, by.1) in
           subst (λ (c : Config). units h.heap + units_owed c.width rate (New 1 1) ≤ 2 ^ 45)
-          (sym s.stores.config) (after_one rate low by.0 by.1),
+          (sym s.stores.config) left,
     ),
     λ has.
         let is = subst (λ c. IsRate c 5) (sym s.stores.config) five_is in
-        let by = used 5 is in
         let left : units h.heap + (5 * 1 + 0) ≤ 2 ^ 45 =
         subst (λ (c : Config). units h.heap + units_owed c.width 5 (New 1 1) ≤ 2 ^ 45)
         s.stores.config (has.2 5 is) in
-        omega (arith, by.1, left),
+        omega (arith, (used 5 is).1, left),
   )
-    where
-      objects : s.made < life → h.heap.objects + 1 ≤ 2 ^ 43 - 1
-      objects low = omega (arith, s.stores.objects, low)
-
-      after_one : (rate : ℕ) → s.made < life → rate ≡ 5 → units h.heap ≡ 5 * (12 + s.made)
-          → units h.heap + (rate * 1 + 0) ≤ 2 ^ 45
-      after_one rate low is e = omega (arith, low, is, e)
 
   after : (n all : ℕ) → s.most + n ≤ all → (z : Control) (r : Records) (l : AlarmList)
       (zs : List ℕ) (ms : List Alarm) (k : Graph) → HasMetNoFull z k → Took n h.heap z
@@ -304,17 +266,19 @@ module _ (h : Historian) (s : State h) where
       after 0 all (omega (arith, most)) h.heap h.readings h.alarms s.ys s.ls g s.stores.has
       (record { config = refl; commands = omega arith; objects = refl; units = refl }) laid
 
-  -- the list of alarms is another
-  pub alarmed : (n all : ℕ) → s.most + n ≤ all → (z : Control) (l : AlarmList) (ms : List Alarm)
-      (Q : Graph → Type 0) → l.cells ≡ h.alarms.cells
-      → (d : Does Always n h.heap z (h.alarms.cells.spare ∷ []) h.alarms.cells.array g Q)
-      → IsAlarms d.graph l ms
-      → Stores (record { heap = z; readings = h.readings; alarms = l }) all s.made s.ys ms
-  alarmed n all most z l ms Q same d alarms =
+  -- a call on the list of alarms
+  pub alarmed : {T : Type 0} (n all : ℕ) → s.most + n ≤ all → Fits s n → (z : Control)
+      (l : AlarmList) → l.cells ≡ h.alarms.cells → (Q : T → Graph → Type 0) (Bad Same : Type 0)
+      (ms : List Alarm) → ¬ Bad → ((v : T) (k : Graph) → Q v k → IsAlarms k l ms)
+      → (x : Result T Fault) → ShowsOrStops Always n h.heap z h.alarms g Q Bad Same x
+      → IsOkAnd x (λ v. Stores (record { heap = z; readings = h.readings; alarms = l }) all s.made
+      s.ys ms)
+  alarmed n all most fits z l same Q Bad Same ms right shows x call =
       let a : Name = h.alarms.cells.array in
+      let cells = laid.alarms.cells in
+      done x call (λ f stop. not_stopped n Bad h.heap z f (room n fits) right stop.0) (λ v d.
       let own : Spares (1 ∷ []) a g d.graph =
       subst (λ q. Spares (q ∷ []) a g d.graph) laid.alarm_place.1 d.spares in
-      let cells = laid.alarms.cells in
       after n all most z h.readings l s.ys ms d.graph d.has d.took
       (moved g h.readings h.alarms s.ys s.ls laid a d.graph
       (saves_of (1 ∷ []) (1 ∷ 2 ∷ []) a g d.graph (λ q none. (none.0, tt)) own)
@@ -322,16 +286,27 @@ module _ (h : Historian) (s : State h) where
       h.readings refl l same s.ys ms
       (readings_stay g h.readings h.alarms s.ys s.ls laid a d.graph own
       (λ one. absurd (omega (arith, one, ap length cells.values, cells.size, laid.alarm_place.2)))
-      laid.apart) alarms)
+      laid.apart) (shows v d.graph d.holds)))
 
   -- an alarm that did not stand is raised, where there is room
-  pub raises : (n : ℕ) (Q : List Alarm → Type 0) (number : ℕ) (r : Raised)
-      → Raises n Q number s.ls r → stands number s.ls ≡ false → length s.ls < n
-      → Q (s.ls ++ with_alarm true number [])
-  raises n Q number raisings.New p none few = p.2
-  raises n Q number raisings.Standing p none few =
-      absurd (both_ways (stands number s.ls) none p.0)
-  raises n Q number raisings.Full p none few = absurd (omega (arith, few, p.1))
+  pub raised : (n : ℕ) → Fits s 42 → n < life → stands n s.ls ≡ false → length s.ls < 40
+      → (z : Control) (l : AlarmList) → l.cells ≡ h.alarms.cells → (Same : Type 0)
+      (x : Result Raised Fault) → ShowsOrStops Always (h.alarms.cells.size + 2) h.heap z h.alarms g
+      (λ r k. Raises h.alarms.cells.size (IsAlarms k l) n s.ls r) (2 ^ 61 ≤ n) Same x
+      → IsOkAnd x (λ r. Stores (record { heap = z; readings = h.readings; alarms = l })
+      (s.most + 42) s.made s.ys (s.ls ++ with_alarm true n []))
+  raised n fits low none few z l same Same x call =
+      let size = laid.alarm_place.2 in
+      alarmed (h.alarms.cells.size + 2) (s.most + 42) (omega (arith, size))
+      (omega (arith, fits.0, size), fits.1) z l same
+      (λ r k. Raises h.alarms.cells.size (IsAlarms k l) n s.ls r) (2 ^ 61 ≤ n) Same
+      (s.ls ++ with_alarm true n []) (λ e. absurd (omega (arith, e, low))) by x call
+    where
+      by : (r : Raised) (k : Graph) → Raises h.alarms.cells.size (IsAlarms k l) n s.ls r
+          → IsAlarms k l (s.ls ++ with_alarm true n [])
+      by raisings.New k p = p.2
+      by raisings.Standing k p = absurd (both_ways (stands n s.ls) none p.0)
+      by raisings.Full k p = absurd (omega (arith, few, p.1, laid.alarm_place.2))
 
   -- the readings are others, or one was read
   kept_by : (z : Graph) → Saves (1 ∷ c.spare ∷ []) c.array g z → (q : Records)
@@ -400,3 +375,123 @@ module _ (h : Historian) (s : State h) where
           subst (λ (c : Config). live_blocks c.width k ≤ c.live) (sym s.stores.config)
           (omega (arith, few_blocks g h.readings h.alarms s.ys s.ls laid
           (lone_of Always h.heap g s.stores.has).threads k a new))
+
+-- ---- a historian that has kept no reading
+
+abbrev pub g0 : Graph
+g0 = start_graph heap_config
+
+start_few : live_blocks Eight g0 ≤ 4
+unfolding tree
+start_few =
+    let all = opening_live heap_config (record {
+      some_thread = omega arith;
+      threads = omega arith;
+      some_block = omega arith;
+      blocks = omega arith;
+      live = omega arith;
+      some_object = omega arith;
+      object = omega arith;
+      shared = omega arith;
+    }) in
+    omega (arith, all)
+
+pub start_small : live_blocks Eight g0 ≤ 64
+start_small = omega (arith, start_few)
+
+no_start : (q : ℕ) (b : Name) → q ≢ 0 → held g0 q ≢ Ref b
+no_start zero b some e = absurd (some refl)
+no_start (suc q) b some e =
+    let none : slice_index_or (nils 15) q Nil ≡ Nil = elim (cases_lt q 15) [
+      | inl low ↦ get_or-replicate 15 q Nil Nil low
+      | inr past ↦ get_or_past (nils 15) q Nil past
+    ] in
+    let bad : Nil ≡ Ref b = sym none ∙ e in absurd cc
+
+may : (g : Graph) (c : Config) → c ≡ heap_config → live_blocks Eight g ≤ 10 → MayOpen Always c g 40
+may g c same few =
+    subst (λ c. live_blocks c.width g + array_blocks c.width 40 ≤ c.live) (sym same)
+    (omega (arith, few, blocks_are.1))
+
+pub start_may : (h : Control) → h.config ≡ heap_config → MayOpen Always h.config g0 40
+start_may h same = may g0 h.config same (omega (arith, start_few))
+
+-- an array for 40 values is not refused
+pub opens : (h z : Control) → h.config ≡ heap_config → (base spare made : ℕ) (g : Graph) (f : Fault)
+    → base < 16 → spare < 16 → spare ≢ base → made ≤ 6 → asked h ≤ 1 → h.objects ≤ 1
+    → ((rate : ℕ) → IsRate heap_config rate → units h ≡ rate * made)
+    → NotOpened Always h z base spare 40 g f → ⊥
+opens h z same base spare made g f low also apart few count objects used =
+    not_refused h z base spare 40 g f also apart (omega arith)
+    (in_bounds h same base 40 6 blocks_are.1 low (omega arith) (omega arith))
+    (has_left h same base 40 6 blocks_are.1 made (omega (arith, count)) (omega (arith, objects)) used
+    (omega (arith, few)))
+
+module _ (h y : Control) (same : h.config ≡ heap_config)
+    (new : (asked h ≡ 0) × (units h ≡ 0) × (h.objects ≡ 0)) (r : Records)
+    (place : HasPlace r.ring.cells 3 2 40)
+    (o : Opens Always h y r.ring.cells g0 (λ z. HasFreeSpare z r → IsRecords z r [])) where
+  pub made_units : (rate : ℕ) → IsRate heap_config rate → units y ≡ rate * 6
+  made_units rate is =
+      let by : units y ≡ units h + rate * array_blocks h.config.width r.ring.cells.size =
+      o.units rate (subst (λ c. IsRate c rate) (sym same) is) in
+      let e : rate * array_blocks h.config.width r.ring.cells.size ≡ rate * 6 =
+      (λ i. rate * array_blocks (same i).width (place.2 i)) ∙ ap (λ n. rate * n) blocks_are.1 in
+      omega (arith, by, e, new.1)
+
+  pub next_may : MayOpen Always y.config o.graph 40
+  next_may =
+      let more = subst (λ (c : Config). live_blocks c.width o.graph
+      ≤ live_blocks c.width g0 + array_blocks c.width r.ring.cells.size) same o.live in
+      let e = ap (array_blocks Eight) place.2 ∙ blocks_are.1 in
+      may o.graph y.config (o.config ∙ same) (omega (arith, more, e, start_few))
+
+  pub started : (z : Control) (l : AlarmList) → HasPlace l.cells 4 1 40
+      → Opens Always y z l.cells o.graph (λ k. IsAlarms k l [])
+      → Stores (record { heap = z; readings = r; alarms = l }) 2 0 [] []
+  started z l own p =
+      let c : Cells = r.ring.cells in
+      let free : HasFreeSpare o.graph r = λ b e.
+      no_start 2 b (λ bad. absurd (omega (arith, bad)))
+      (sym (o.spares.registers 2 ((λ bad. absurd (omega (arith, bad, place.0))), tt))
+      ∙ ap (held o.graph) (sym place.1) ∙ e) in
+      let readings = o.holds free in
+      let apart : (b : Name) → has_name o.graph b ≡ true → b ≢ l.cells.array =
+      λ b has e. both_ways (has_name o.graph l.cells.array) p.fresh
+      (ap (has_name o.graph) (sym e) ∙ has) in
+      let stays : (q : ℕ) → q ≢ 3 → q ≢ 4 → held p.graph q ≡ held g0 q =
+      λ q n3 n4. (p.spares.registers q ((λ e. n4 (e ∙ own.0)), tt)
+      ∙ o.spares.registers q ((λ e. n3 (e ∙ place.0)), tt)) in
+      record {
+        graph = p.graph;
+        has = p.has;
+        laid = record {
+          ring_place = place;
+          alarm_place = own;
+          apart = apart c.array readings.ring.cells.named;
+          zero = stays 0 (λ e. absurd (omega (arith, e))) (λ e. absurd (omega (arith, e)));
+          shared = ap (λ (x : Object). x.fields) (p.spares.objects (shared_name 1)
+              (apart (shared_name 1) (o.spares.names (shared_name 1) refl))
+              ∙ o.spares.objects (shared_name 1) (λ e. both_ways (has_name g0 c.array) o.fresh
+              (ap (has_name g0) (sym e))));
+          plain = λ q b none e.
+              no_start q b none.0 (sym (stays q none.1.1.1.0 none.1.1.1.1.0) ∙ e);
+          readings = records_stay (l.cells.base ∷ []) l.cells.array o.graph p.graph r [] p.spares
+              (λ one. both_ways (has_name o.graph l.cells.array) p.fresh
+              (has_field o.graph l.cells.array 0 (omega (arith, one))))
+              (apart c.array readings.ring.cells.named)
+              ((λ e. absurd (omega (arith, place.0, own.0, e))), tt)
+              ((λ e. absurd (omega (arith, place.1, own.0, e))), tt) readings;
+          alarms = p.holds;
+        };
+        config = p.config ∙ o.config ∙ same;
+        commands = omega (arith, p.commands, o.commands, new.0);
+        objects = omega (arith, p.objects, o.objects, new.2);
+        units = λ rate is.
+            let by : units z ≡ units y + rate * array_blocks y.config.width l.cells.size =
+            p.units rate (subst (λ c. IsRate c rate) (sym (o.config ∙ same)) is) in
+            let e : rate * array_blocks y.config.width l.cells.size ≡ rate * 6 =
+            (λ i. rate * array_blocks ((o.config ∙ same) i).width (own.2 i))
+            ∙ ap (λ n. rate * n) blocks_are.1 in
+            omega (arith, by, e, made_units rate is);
+      }

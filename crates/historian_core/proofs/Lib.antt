@@ -1,5 +1,4 @@
 pub mod LastOnes
 pub mod Keeping
-pub mod Opening
 pub mod LongLines
 pub mod ReportLaws

@@ -251,18 +251,18 @@ impl Historian {
         self.readings.push(&mut self.heap, reading, RECORD)
     }
 
-    /// Clears the alarm of the reading that reading number `count` replaces.
-    fn forget(&mut self, count: u64) -> Result<(), Fault>
+    /// Clears the alarm of the reading that reading number `count` replaces, and returns whether it
+    /// was one.
+    fn forget(&mut self, count: u64) -> Result<bool, Fault>
         ensures { (s : State self.old) → Fits s 81 → count < LIFE
             → IsOkAnd result (λ _. Stores self.new (s.most + 81) s.made s.ys
             (if nat_lt count 40 then s.ls else cleared (count - 40) s.ls)) }
     {
         let kept = u64::from(KEPT);
         if count < kept {
-            return Ok(());
+            return Ok(false);
         }
-        self.alarms.clear(&mut self.heap, count - kept)?;
-        Ok(())
+        self.alarms.clear(&mut self.heap, count - kept)
     }
 
     /// Raises the alarm of reading number `count`, if it is one.

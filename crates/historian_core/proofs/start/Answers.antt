@@ -1,6 +1,6 @@
 use Rattle.std.proofs.Common.{◌∙◌, arith}
 use Rattle.heap_structures.specs.Heaps.{Always}
-use Rattle.historian_core.proofs.Opening.{g0, made_units, next_may, opens, start_may, start_small, started}
+use Rattle.historian_core.proofs.Keeping.{g0, made_units, next_may, opens, start_may, start_small, started}
 use Rattle.historian_core.proofs.start.Goals as goal
 
 pub unreachable-requires : goal.unreachable-requires
