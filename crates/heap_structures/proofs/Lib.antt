@@ -7,7 +7,6 @@ pub mod Chained
 pub mod Opening
 pub mod Rounds
 pub mod NumberRings
-pub mod FewBlocks
 pub mod Closing
 pub mod AlarmLists
 pub mod AlarmMoves

@@ -24,5 +24,5 @@ pub use cells::Cells;
 pub use laws::{blocks_of, others_stay, quiet_commands_keep_graphs};
 pub use map::{Insertion, Map, other_maps_stay};
 pub use queue::Queue;
-pub use records::{Records, few_blocks_live};
+pub use records::{Records, few_blocks_live, other_records_stay};
 pub use ring::Ring;

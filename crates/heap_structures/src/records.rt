@@ -1,6 +1,6 @@
 //! The last numbers of a sequence, each in an object of its own.
 
-ghost use Rattle.std.specs.Prelude.{◌≡◌, ◌<◌, ◌≤◌, ◌+◌, ◌^◌, ◌++◌, ◌∷◌, ℕ, List, [], drop, length, IfOk, MatchResult};
+ghost use Rattle.std.specs.Prelude.{◌≡◌, ◌≢◌, ◌<◌, ◌≤◌, ◌+◌, ◌^◌, ◌++◌, ◌∷◌, ℕ, List, [], drop, length, IfOk, MatchResult};
 ghost use Rattle.std.specs.List.{sum_by};
 ghost use Rattle.block_store.specs.declared.Name.{Name};
 ghost use Rattle.block_store.specs.declared.Value.TheVariants.{Int};
@@ -9,11 +9,12 @@ ghost use Rattle.block_store.specs.Registers.{registers_end};
 ghost use Rattle.never_heap.specs.Graphs.{Graph, object_of};
 ghost use Rattle.never_heap.specs.LiveBlocks.{live_blocks, object_blocks};
 ghost use Rattle.heap_structures.specs.declared.records.Records.{Records};
-ghost use Rattle.heap_structures.specs.Cells.{HasPlace};
+ghost use Rattle.heap_structures.specs.Cells.{HasPlace, IsNone, Spares};
 ghost use Rattle.heap_structures.specs.Circles.{last_of};
 ghost use Rattle.heap_structures.specs.Heaps.{DoesOrStops, Has, Sight};
 ghost use Rattle.heap_structures.specs.Opened.{MayOpen, NotOpened, Opens};
 ghost use Rattle.heap_structures.specs.Records.{ArePlain, Grows, HasFreeSpare, IsRecords, MayPush, NotPushed, ReferOnly, first_of, records_cells};
+ghost use Rattle.heap_structures.specs.Renewed.{ShowsAgain};
 ghost use Rattle.heap_structures.specs.Rings.{IsNoTarget};
 
 use crate::cells::{Cells, nil_array};
@@ -114,6 +115,17 @@ impl Records {
         self.ring.len()
     }
 
+    /// The numbers on a heap that has the graph of its own heap up to names (`Ring::renewed`).
+    pub fn renewed(&self, other: &ControlHeap) -> Records
+        ensures same { HasPlace (records_cells result) (records_cells self.now).base
+            (records_cells self.now).spare (records_cells self.now).size }
+        ensures shows { ShowsAgain (λ _ ns. ns) (λ g ns. IsRecords g self.now ns)
+            (λ z ns. IsRecords z result ns) other.now }
+    {
+        let ring = self.ring.renewed(other);
+        Records { ring }
+    }
+
     /// Its array and registers.
     pub fn cells(&self) -> Cells
         ensures { result ≡ records_cells self.now }
@@ -121,6 +133,15 @@ impl Records {
         self.ring.cells
     }
 }
+
+/// The numbers stay where a call spares both registers and the array, and changes no object of one
+/// value.
+pub fn other_records_stay()
+    ensures { (rs : List ℕ) (a : Name) (g z : Graph) (r : Records) (ns : List ℕ)
+        → Spares rs a g z → length (object_of g a).fields ≢ 1 → (records_cells r).array ≢ a
+        → IsNone rs (records_cells r).base → IsNone rs (records_cells r).spare
+        → IsRecords g r ns → IsRecords z r ns }
+{}
 
 /// How many blocks can be live where registers refer to the array of these numbers and to `others`,
 /// which refer to no object: those of the registers, the array and `others`, and one a number.

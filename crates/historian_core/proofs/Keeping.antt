@@ -34,8 +34,7 @@ use Rattle.heap_structures.specs.declared.alarms.Raised.TheVariants as raisings
 use Rattle.heap_structures.specs.declared.cells.Cells.{Cells}
 use Rattle.heap_structures.specs.declared.records.Records.{Records}
 use Rattle.heap_structures.proofs.CellMoves.{saves_of}
-use Rattle.heap_structures.proofs.FewBlocks.{alarms_plain, blocks_by, few_live, nil_plain, one_field, plain_by, refer_by}
-use Rattle.heap_structures.proofs.NumberRings.{few_numbers, first_is, is_target, not_pushed, records_stay}
+use Rattle.heap_structures.proofs.NumberRings.{alarms_plain, blocks_by, few_live, few_numbers, first_is, is_target, nil_plain, not_pushed, one_field, plain_by, records_stay, refer_by}
 use Rattle.heap_structures.proofs.Opening.{not_refused}
 use Rattle.heap_structures.proofs.Quiet.{lone_of}
 use Rattle.heap_structures.proofs.Rounds.{not_stopped, round_saved}
