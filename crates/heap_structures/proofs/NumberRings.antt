@@ -1,5 +1,5 @@
 -- A ring of numbers, each in an object of its own, and how few blocks are live beside it.
-use Rattle.std.proofs.Common.{◌≡◌, ◌≢◌, ℕ, zero, suc, ◌+◌, ◌-◌, ◌*◌, ◌^◌, ◌<◌, ◌≤◌, inl, inr, true, false, Option, Some, None, Result, Ok, Err, List, [], ◌∷◌, ◌++◌, length, drop, map, slice_index_or, slice_set, sym, refl, ap, ◌∙◌, subst, arith, ◌||◌}
+use Rattle.std.proofs.Common.{◌≡◌, ◌≢◌, ℕ, zero, suc, ◌+◌, ◌-◌, ◌*◌, ◌^◌, ◌<◌, ◌≤◌, inl, inr, true, Option, Some, None, Result, Ok, Err, List, [], ◌∷◌, ◌++◌, length, drop, map, slice_index_or, slice_set, sym, refl, ap, ◌∙◌, subst, arith, ◌||◌}
 use Rattle.std.specs.Prelude.{IsOkAnd, MatchResult, unwrap_or}
 use Rattle.std.proofs.lemmas.Bool.{both_ways, cases_lt, cases_eq, or_cases, or_left, or_right}
 use Rattle.std.proofs.lemmas.List.{drop-map, get_or_past, length-map, map-append}
@@ -9,7 +9,6 @@ use Rattle.block_store.specs.declared.Value.TheVariants.{Int, Nil, Ref}
 use Rattle.rate_plan.specs.Rates.{IsRate}
 use Rattle.array_trees.specs.Trees.{array_blocks, tree}
 use Rattle.never_heap.specs.declared.Command.TheVariants as commands
-use Rattle.never_heap.specs.declared.Command.{Command}
 use Rattle.never_heap.specs.declared.Reply.{Reply}
 use Rattle.never_heap.specs.declared.Reply.TheVariants as replies
 use Rattle.never_heap.specs.Bounds.{IsCommandInBounds}
@@ -27,7 +26,7 @@ use Rattle.control_heap.specs.declared.faults.Fault.TheVariants as faults
 use Rattle.heap_structures.specs.declared.cells.Cells.{Cells}
 use Rattle.heap_structures.specs.declared.records.Records.{Records}
 use Rattle.heap_structures.specs.declared.ring.Ring.{Ring}
-use Rattle.heap_structures.specs.Cells.{IsCells, IsNone, IsPlaced, Saves, Spares, held}
+use Rattle.heap_structures.specs.Cells.{IsCells, IsNone, IsPlaced, Spares, held}
 use Rattle.heap_structures.specs.Circles.{around, last_of}
 use Rattle.heap_structures.specs.Heaps.{Any, Small, Always, Does, DoesOrStops, Has, HasRoom, Ready, Sight}
 use Rattle.heap_structures.specs.Opened.{NotOpened, Opens, OpensNils, StaysSmall}
@@ -646,7 +645,7 @@ module _ (w : Width) (g : Graph) (r : Records) (ns : List ℕ) (others : List Na
       + (object_blocks w (object_of g a) + length ns))
   few_live =
       let f : Name → ℕ = λ b. object_blocks w (object_of g b) in
-      let all = within w g some (record { registers = registers; fields = λ b x i m e. fields b x i m e; }) in
+      let all = within w g some (record { registers = registers; fields = λ b x i m e. fields b x i m e }) in
       let first = sum_by-cons f a (others ++ is.names) in
       let both = sum_by-append f others is.names in
       let numbers = weigh w g is.names ns is.numbers in

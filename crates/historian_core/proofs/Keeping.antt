@@ -137,9 +137,10 @@ module _ (g : Graph) (r : Records) (l : AlarmList) (ys : List ℕ) (ls : List Al
   pub alarms_stay : (a : Name) (z : Graph) → Saves (1 ∷ 2 ∷ []) a g z → l.cells.array ≢ a
       → IsAlarms z l ls
   alarms_stay a z s apart =
-      round_saved g l.cells 0 l.count (map value_of ls) laid.alarms (1 ∷ 2 ∷ []) a z s apart
-      ((λ e. absurd (omega (arith, laid.alarm_place.0, e))),
-      ((λ e. absurd (omega (arith, laid.alarm_place.0, e))), tt))
+      round_saved g l.cells 0 l.count (map value_of ls) laid.alarms (1 ∷ 2 ∷ []) a z s apart (
+        (λ e. absurd (omega (arith, laid.alarm_place.0, e))),
+        ((λ e. absurd (omega (arith, laid.alarm_place.0, e))), tt),
+      )
 
   pub readings_stay : (a : Name) (z : Graph) → Spares (1 ∷ []) a g z
       → length (object_of g a).fields ≢ 1 → r.ring.cells.array ≢ a → IsRecords z r ys
@@ -183,15 +184,29 @@ module _ (g : Graph) (r : Records) (l : AlarmList) (ys : List ℕ) (ls : List Al
         let array : (c : Cells) (vs : List Value) → IsCells k c vs → c.size ≡ 40 → f c.array ≤ 6 =
         λ c vs is size. blocks_by Eight k c.array 40 6 (ap length is.values ∙ is.size ∙ size) six in
         let by = few_live Eight k r ys others (new.threads ∙ threads) now.readings refer
-        (plain_by k others (nil_plain k (shared_name 1) now.shared, (nil_plain k a new.fields,
-        (alarms_plain k l ls now.alarms, tt)))) in
+        (plain_by k others (
+          nil_plain k (shared_name 1) now.shared,
+          (
+            nil_plain k a new.fields,
+            (alarms_plain k l ls now.alarms, tt),
+          ),
+        )) in
         let three : sum_by f others ≡ ((0 + f (shared_name 1)) + f a) + f l.cells.array = refl in
         let one = one_field Eight k (shared_name 1) Nil now.shared in
         let two = one_field Eight k a Nil new.fields in
         let list = array l.cells _ now.alarms.cells now.alarm_place.2 in
         let ring = array r.ring.cells _ now.readings.ring.cells now.ring_place.2 in
-        omega (arith, by, three, one, two, list, ring, few_numbers k r ys now.readings,
-        now.ring_place.2)
+        omega (
+          arith,
+          by,
+          three,
+          one,
+          two,
+          list,
+          ring,
+          few_numbers k r ys now.readings,
+          now.ring_place.2,
+        )
 
 -- ---- the calls
 
@@ -372,8 +387,11 @@ module _ (h : Historian) (s : State h) where
       small : MayPush Always h.heap.config g 1
       small k a new =
           subst (λ (c : Config). live_blocks c.width k ≤ c.live) (sym s.stores.config)
-          (omega (arith, few_blocks g h.readings h.alarms s.ys s.ls laid
-          (lone_of Always h.heap g s.stores.has).threads k a new))
+          (omega (
+            arith,
+            few_blocks g h.readings h.alarms s.ys s.ls laid
+                (lone_of Always h.heap g s.stores.has).threads k a new,
+          ))
 
 -- ---- a historian that has kept no reading
 

@@ -168,7 +168,11 @@ pub fn start(alloc: Global) -> Result<Historian, OpenFault>
     let Ok(alarms) = AlarmList::new(&mut heap, ALARMS, RECORD, KEPT) else {
         unreachable!();
     };
-    Ok(Historian { heap, readings, alarms })
+    Ok(Historian {
+        heap,
+        readings,
+        alarms,
+    })
 }
 
 /// Adds a reading to `count` others, and writes the line of the last 40 by one `put`.

@@ -58,7 +58,8 @@ returns c = λ s fits.
       widened c.loop-back.self (state old.0) (s.most + 80)
           (omega (
             arith,
-            kept, few c.args.self.now s,
+            kept,
+            few c.args.self.now s,
             c.loop-back.auto.back-end,
           )),
     )

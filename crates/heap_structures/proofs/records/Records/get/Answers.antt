@@ -1,4 +1,4 @@
-use Rattle.std.proofs.Common.{drop, map, Some, Ok, Err, sym, subst, arith}
+use Rattle.std.proofs.Common.{map, Some, Ok, Err, sym, subst, arith}
 use Rattle.block_store.specs.declared.Value.TheVariants.{Ref}
 use Rattle.heap_structures.proofs.Answered.{room_less}
 use Rattle.heap_structures.proofs.NumberRings.{Got, got_none, got_number, is_target}

@@ -12,11 +12,13 @@ returns-in_err-array-clause-shows c s g ns has is may =
     let ring = c.args.self.now.ring.cells in
     let ok = c.may_load.ensures.yes c.in_ok-admit.ensures.admitted.0 in
     let f = c.in_err-array.field-0.0 in
-    from_err c.from_residual-in_err-array.result f _ _ c.from_residual-in_err-array.ensures.1
-    (not_made s c.args.heap.now _ ring c.args.d g f is.ring.cells.placed.spare ok.2
-    (c.in_err-array.ensures.opens s g ring.spare has
-    (small_box s c.args.heap.now c.args.heap.now g c.args.self.now ns is c.args.d 0 (omega arith)
-    ring.array ok.0 ok.2 has may)), refl)
+    from_err c.from_residual-in_err-array.result f _ _ c.from_residual-in_err-array.ensures.1 (
+      not_made s c.args.heap.now _ ring c.args.d g f is.ring.cells.placed.spare ok.2
+          (c.in_err-array.ensures.opens s g ring.spare has
+          (small_box s c.args.heap.now c.args.heap.now g c.args.self.now ns is c.args.d 0 (omega arith)
+          ring.array ok.0 ok.2 has may)),
+      refl,
+    )
 
 pub returns-in_err-count_in-clause-shows : goal.returns-in_err-count_in-clause-shows
 returns-in_err-count_in-clause-shows c s g ns has is may =
