@@ -15,7 +15,7 @@ use Rattle.never_heap.proofs.FieldStores.{has_name_with_field}
 use Rattle.never_heap.proofs.UnchangedBySteps.{next_is_new, step_names}
 use Rattle.operations.proofs.Effects.{Effect, gets, makes, puts, puts_is, stores}
 use Rattle.heap_structures.specs.declared.cells.Cells.{Cells}
-use Rattle.heap_structures.specs.Cells.{IsCells, IsNone, IsPlaced, Spares, held}
+use Rattle.heap_structures.specs.Cells.{IsCells, IsNone, IsPlaced, Saves, Spares, held}
 
 -- a graph of one thread, with its registers
 pub record IsLone (g : Graph) : Type 0 where
@@ -55,13 +55,21 @@ spares_both rs a g m z s t = record {
   names = λ b has. t.names b (s.names b has);
 }
 
+pub saves_of : (rs ws : List ℕ) (a : Name) (g z : Graph)
+    → ((q : ℕ) → IsNone ws q → IsNone rs q) → Spares rs a g z → Saves ws a g z
+saves_of rs ws a g z fewer s = record {
+  registers = λ q none. s.registers q (fewer q none);
+  objects = λ b has ne. s.objects b ne;
+  names = s.names;
+}
+
 -- an array that is spared
 pub cells_spared : (rs : List ℕ) (a : Name) (g z : Graph) (c : Cells) (vs : List Value)
-    → Spares rs a g z → c.array ≢ a → IsNone rs c.base → IsCells g c vs → IsCells z c vs
+    → Saves rs a g z → c.array ≢ a → IsNone rs c.base → IsCells g c vs → IsCells z c vs
 cells_spared rs a g z c vs s apart none is = record {
   base = s.registers c.base none ∙ is.base;
   named = s.names c.array is.named;
-  values = ap (λ (o : Object). o.fields) (s.objects c.array apart) ∙ is.values;
+  values = ap (λ (o : Object). o.fields) (s.objects c.array is.named apart) ∙ is.values;
   size = is.size;
   placed = is.placed;
 }

@@ -6,6 +6,7 @@ pub mod Answered
 pub mod Chained
 pub mod Opening
 pub mod Rounds
+pub mod NumberRings
 pub mod Closing
 pub mod AlarmLists
 pub mod AlarmMoves

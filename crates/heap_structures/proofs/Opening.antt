@@ -10,6 +10,7 @@ use Rattle.never_heap.specs.declared.Command.{Command}
 use Rattle.never_heap.specs.declared.Command.TheVariants.{Arr}
 use Rattle.never_heap.specs.declared.Reply.{Reply}
 use Rattle.never_heap.specs.declared.Reply.TheVariants as replies
+use Rattle.never_heap.specs.Bounds.{IsCommandInBounds}
 use Rattle.never_heap.specs.Graphs.{Array, Graph, has_name, next_name, nil_object}
 use Rattle.never_heap.specs.Histories.{Legal, is_full}
 use Rattle.never_heap.specs.Licensed.{Licensed}
@@ -21,7 +22,7 @@ use Rattle.never_heap.proofs.StepChanges.{with_object_threads}
 use Rattle.heap_machine.specs.Memories.{Acts}
 use Rattle.heap_system.specs.Machines.{Run}
 use Rattle.control_heap.specs.Calls.{HasAsked, HasTold}
-use Rattle.control_heap.specs.Controls.{Control, Stands, units}
+use Rattle.control_heap.specs.Controls.{Control, HasLeft, Stands, units}
 use Rattle.control_heap.specs.declared.faults.Fault.{Fault}
 use Rattle.control_heap.specs.declared.faults.Fault.TheVariants as faults
 use Rattle.graph_view.specs.Asked.{HasDone, HasDoneAll, HasUsed}
@@ -30,12 +31,12 @@ use Rattle.graph_view.proofs.GraphAnswers.{follows_ok, goes_ok, never_ok}
 use Rattle.heap_structures.specs.declared.cells.Cells.{Cells}
 use Rattle.heap_structures.specs.Cells.{IsCells, IsPlaced, Spares}
 use Rattle.heap_structures.specs.Heaps.{Any, Small, Always, Has, Sight}
-use Rattle.heap_structures.specs.Opened.{FullOf, MayOpen, NotOpened, Opens}
+use Rattle.heap_structures.specs.Opened.{FullOf, MayOpen, NotOpened, Opens, StaysSmall}
 use Rattle.heap_structures.proofs.CellMoves.{IsLone, Made, makes_cells}
 use Rattle.heap_structures.proofs.Quiet.{lone_of, run_of, stands_of}
 
 -- the new name is there
-new_named : (g : Graph) (b n : ℕ) → IsLone g
+pub new_named : (g : Graph) (b n : ℕ) → IsLone g
     → has_name (made g 0 b (nil_object Array n)).0 (next_name g 0) ≡ true
 new_named g b n lone =
     has_name_with_register (Rattle.never_heap.specs.Graphs.with_object g 0 (nil_object Array n)) 0 b
@@ -77,16 +78,21 @@ module _ (legal : (h : Control) (r : Run) → Stands h r → Legal h.config r.or
     answered = x.answered;
   }
 
-  still_small : IsSmall h.config g → live_blocks h.config.width g + array_blocks h.config.width n ≤ h.config.live
+  still_small : live_blocks h.config.width g + array_blocks h.config.width n ≤ h.config.live
       → IsSmall h.config (step g 0 k).0
-  still_small now few =
+  still_small few =
       let more : live_blocks h.config.width (step g 0 k).0
       ≤ live_blocks h.config.width g + array_blocks h.config.width n =
       grows h.config.width g 0 k in
       omega (arith, more, few)
 
+  pub grown : (s : Sight) → Has s h g → MayOpen s h.config g n → StaysSmall s h.config g b n
+  grown Any has may = tt
+  grown Small has may = still_small may
+  grown Always has may = still_small may
+
   small_reply : {acts : Acts (List ℕ) (Unit {0})} (s : Sight) → Has s h g
-      → MayOpen s h.config g n → (a : Reply)
+      → StaysSmall s h.config g b n → (a : Reply)
       → HasAsked acts h k a z
       → ((a ≡ replies.New (next_name g 0)) × Has s z (step g 0 k).0)
       ⊎ ((is_full a ≡ true) × FullOf s z g)
@@ -103,10 +109,10 @@ module _ (legal : (h : Control) (r : Run) → Stands h r → Legal h.config r.or
           inr (full.0, subst (λ t. Leaves z (Rattle.std.proofs.Common.cond t g (step g 0 k).0)) full.0 left)
   small_reply Small has may a x =
       let by : Follows Shows h k a z = follows_ok legal licensed h z k (Ok a) same x.answered in
-      inl (by g has (still_small has.now may))
+      inl (by g has may)
   small_reply Always has may a x =
       let by : Follows HasMetNoFull h k a z = never_ok legal licensed h z k (Ok a) same x.answered in
-      inl (by g has (still_small has.shows.now may))
+      inl (by g has may)
 
   opened : {acts : Acts (List ℕ) (Unit {0})} (s : Sight) (has : Has s h g) (c : Cells) → Has s z (step g 0 k).0
       → (a : Reply) → HasAsked acts h k a z → c.array ≡ next_name g 0 → c.base ≡ b → c.size ≡ n
@@ -134,10 +140,13 @@ module _ (legal : (h : Control) (r : Run) → Stands h r → Legal h.config r.or
             let o : rate * array_blocks h.config.width n ≡ rate * array_blocks h.config.width c.size =
             ap (λ q. rate * array_blocks h.config.width q) (sym size) in
             omega (arith, e, o);
+        live = subst (λ q. live_blocks h.config.width (step g 0 k).0
+            ≤ live_blocks h.config.width g + array_blocks h.config.width q) (sym size)
+            (grows h.config.width g 0 k);
       }
 
   -- what the call returns
-  pub opens : (acts : Acts (List ℕ) (Unit {0})) (spare : ℕ) (s : Sight) → Has s h g → MayOpen s h.config g n
+  pub opens : (acts : Acts (List ℕ) (Unit {0})) (spare : ℕ) (s : Sight) → Has s h g → StaysSmall s h.config g b n
       → (x : Result Name Fault) → HasTold replies.New acts h k z x
       → MatchResult x
       (λ a. (c : Cells) → c.array ≡ a → c.base ≡ b → c.size ≡ n → IsPlaced c
@@ -169,6 +178,11 @@ module _ (legal : (h : Control) (r : Run) → Stands h r → Legal h.config r.or
   opens acts spare s has may (Err faults.OutOfBounds) told = (inr (inr (inr told.0)), told.1)
   opens acts spare s has may (Err faults.NoLifeLeft) told = (told.0.1, told.1)
 
+pub left_of : (acts : Acts (List ℕ) (Unit {0})) (h z : Control) (b n : ℕ)
+    (x : Result Name Fault) → HasTold replies.New acts h (Arr b n) z x → OnOk x (HasLeft h (Arr b n))
+left_of acts h z b n (Ok a) told = told.left
+left_of acts h z b n (Err f) told = tt
+
 pub range_of : (acts : Acts (List ℕ) (Unit {0})) (h z : Control) (b n : ℕ)
     (x : Result Name Fault) → HasTold replies.New acts h (Arr b n) z x
     → OnOk x ((b < 16) × (n ≤ 65535))
@@ -188,4 +202,21 @@ opens_as s h z c g P Q o f = record {
   commands = o.commands;
   objects = o.objects;
   units = o.units;
+  live = o.live;
 }
+
+-- it is made where a thread can be given one, and the life has room
+pub not_refused : (h z : Control) (base spare n : ℕ) (g : Graph) (f : Fault) → spare < 16
+    → spare ≢ base → 1 ≤ n → IsCommandInBounds h.config (Arr base n) → HasLeft h (Arr base n)
+    → NotOpened Always h z base spare n g f → ⊥
+not_refused h z base spare n g faults.OutOfBounds low apart some bounds left why = elim why.0 [
+  | inl past ↦ absurd (omega (arith, past, low))
+  | inr (inl same) ↦ apart same
+  | inr (inr (inl none)) ↦ absurd (omega (arith, some, none))
+  | inr (inr (inr out)) ↦ out bounds
+]
+not_refused h z base spare n g faults.NoLifeLeft low apart some bounds left why = why.0 left
+not_refused h z base spare n g (faults.Full c) low apart some bounds left why = why
+not_refused h z base spare n g faults.Null low apart some bounds left why = why
+not_refused h z base spare n g faults.Kind low apart some bounds left why = why
+not_refused h z base spare n g faults.Range low apart some bounds left why = why

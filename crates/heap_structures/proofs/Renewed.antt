@@ -1,17 +1,13 @@
 -- Structures on a heap that has the graph of their own heap up to names.
-use Rattle.std.proofs.Common.{◌≡◌, ℕ, zero, suc, ◌+◌, ◌*◌, ◌^◌, ◌<◌, ◌≤◌, List, [], ◌∷◌, length, map, slice_index_or, sym, refl, ap, ◌∙◌, subst, arith}
+use Rattle.std.proofs.Common.{◌≡◌, ℕ, zero, suc, ◌+◌, ◌*◌, ◌^◌, ◌<◌, ◌≤◌, List, [], ◌∷◌, map, slice_index_or, sym, refl, ap, ◌∙◌, subst}
 use Rattle.std.specs.List.{AllByRecursion}
 use Rattle.std.proofs.lemmas.List.{length-map}
 use Rattle.std.proofs.Math.ListN.{get_or-map}
 use Rattle.block_store.specs.declared.Name.{Name}
 use Rattle.block_store.specs.declared.Value.{Value}
-use Rattle.block_store.specs.declared.Value.TheVariants.{Nil, Int, Ref}
-use Rattle.never_heap.specs.Graphs.{Graph, object_of, register_of}
-use Rattle.never_heap.specs.Histories.{replay}
+use Rattle.block_store.specs.declared.Value.TheVariants.{Nil, Ref}
+use Rattle.never_heap.specs.Graphs.{Graph}
 use Rattle.heap_pictures.specs.UpToNames.{AreOneUpToNames, renamed}
-use Rattle.heap_system.specs.Machines.{Run}
-use Rattle.control_heap.specs.Controls.{Control, Stands}
-use Rattle.graph_view.specs.Shown.{Leaves}
 use Rattle.heap_structures.specs.declared.cells.Cells.{Cells}
 use Rattle.heap_structures.specs.Alarms.{value_of}
 use Rattle.heap_structures.specs.declared.alarms.Alarm.{Alarm}

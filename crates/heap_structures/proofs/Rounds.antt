@@ -1,21 +1,22 @@
 -- A ring's or queue's next values, by what was stored in its array.
-use Rattle.std.proofs.Common.{◌≡◌, ℕ, zero, suc, ◌+◌, ◌-◌, ◌<◌, ◌≤◌, Some, None, List, [], ◌∷◌, ◌++◌, length, drop, slice_index_or, slice_set, sym, refl, ap, ◌∙◌, subst, arith}
+use Rattle.std.proofs.Common.{◌≡◌, ℕ, zero, suc, ◌+◌, ◌-◌, ◌<◌, ◌≤◌, ◌≢◌, inl, inr, Some, None, List, [], ◌∷◌, ◌++◌, length, drop, slice_index_or, slice_set, sym, refl, ap, ◌∙◌, subst, arith}
 use Rattle.std.specs.Prelude.{replicate}
+use Rattle.std.proofs.lemmas.Bool.{cases_lt}
 use Rattle.std.proofs.lemmas.List.{length_push, get_or_past}
 use Rattle.block_store.specs.declared.Name.{Name}
 use Rattle.block_store.specs.declared.Value.{Value}
 use Rattle.block_store.specs.declared.Value.TheVariants.{Nil}
-use Rattle.never_heap.specs.Graphs.{Graph}
+use Rattle.never_heap.specs.Graphs.{Graph, field_of, object_of}
 use Rattle.control_heap.specs.Controls.{Control}
 use Rattle.control_heap.specs.declared.faults.Fault.{Fault}
 use Rattle.control_heap.specs.declared.faults.Fault.TheVariants as faults
 use Rattle.heap_structures.specs.declared.cells.Cells.{Cells}
-use Rattle.heap_structures.specs.Cells.{IsCells, held}
+use Rattle.heap_structures.specs.Cells.{IsCells, IsNone, Saves, Spares, held}
 use Rattle.heap_structures.specs.Circles.{around, last_of, IsCircle}
 use Rattle.heap_structures.specs.Heaps.{Does, Has, HasRoom, Ready, Sight, Stops}
 use Rattle.heap_structures.specs.Rings.{Gives, IsRound}
 use Rattle.heap_structures.proofs.Circling.{around_in, around_low, around_high, circle_at, circle_fewer, circle_more, circle_over, empty_circle, length_drop, last_fewer, last_over}
-use Rattle.heap_structures.proofs.CellMoves.{spares_none, spares_wider}
+use Rattle.heap_structures.proofs.CellMoves.{cells_spared, saves_of, spares_none, spares_wider}
 use Rattle.heap_structures.proofs.Chained.{does_wider}
 
 -- a cause that implies another
@@ -27,6 +28,16 @@ stops_as n A B h z (faults.Full c) by stop = absurd stop
 stops_as n A B h z faults.Null by stop = absurd stop
 stops_as n A B h z faults.Kind by stop = absurd stop
 stops_as n A B h z faults.Range by stop = absurd stop
+
+-- where neither cause is there, none stops
+pub not_stopped : (n : ℕ) (Bad : Type 0) (h z : Control) (f : Fault) → HasRoom n h → ¬ Bad
+    → Stops n Bad h z f → ⊥
+not_stopped n Bad h z faults.OutOfBounds room right stop = right stop.0
+not_stopped n Bad h z faults.NoLifeLeft room right stop = stop.0 room
+not_stopped n Bad h z (faults.Full c) room right stop = stop
+not_stopped n Bad h z faults.Null room right stop = stop
+not_stopped n Bad h z faults.Kind room right stop = stop
+not_stopped n Bad h z faults.Range room right stop = stop
 
 -- nothing is done
 pub does_none : (s : Sight) (n : ℕ) (h : Control) (rs : List ℕ) (a : Name) (g : Graph)
@@ -46,6 +57,51 @@ does_none s n h rs a g Q has holds = record {
 
 module _ (g : Graph) (c : Cells) (first count : ℕ) (xs : List Value)
     (r : IsRound g c first count xs) where
+  -- it stays where its array and its base register do
+  pub round_saved : (rs : List ℕ) (a : Name) (z : Graph) → Saves rs a g z → c.array ≢ a
+      → IsNone rs c.base → IsRound z c first count xs
+  round_saved rs a z s apart none = record {
+    array = r.array;
+    cells = cells_spared rs a g z c r.array s apart none r.cells;
+    circle = r.circle;
+    counted = r.counted;
+  }
+
+  pub round_stays : (rs : List ℕ) (a : Name) (z : Graph) → Spares rs a g z → c.array ≢ a
+      → IsNone rs c.base → IsRound z c first count xs
+  round_stays rs a z s = round_saved rs a z (saves_of rs rs a g z (λ q none. none) s)
+
+  -- value p of the array is one of those that are shown, or nil
+  pub at_place : (p : ℕ) → (i : ℕ)
+      × (field_of (object_of g c.array) p ≡ slice_index_or xs i Nil)
+  at_place p =
+      let field : field_of (object_of g c.array) p ≡ slice_index_or r.array p Nil =
+      ap (λ fs. slice_index_or fs p Nil) r.cells.values in
+      let at : (i : ℕ) → i < c.size → around c.size (first + i) ≡ p
+      → field_of (object_of g c.array) p ≡ slice_index_or xs i Nil =
+      λ i low e. (field ∙ ap (λ k. slice_index_or r.array k Nil) (sym e) ∙ r.circle.places i low) in
+      let start = r.circle.start in
+      elim (cases_lt p c.size) [
+        | inr past ↦ (
+          c.size,
+          field ∙ get_or_past r.array p Nil (omega (arith, r.circle.long, past))
+              ∙ sym (get_or_past xs c.size Nil r.circle.few),
+        )
+        | inl here ↦ elim (cases_lt p first) [
+          | inl before ↦ (
+            (p + c.size) - first,
+            at ((p + c.size) - first) (omega (arith, start, before))
+                (around_high c.size (first + ((p + c.size) - first)) (omega (arith, start, before))
+                ∙ omega (arith, start, before)),
+          )
+          | inr after ↦ (
+            p - first,
+            at (p - first) (omega (arith, here)) (around_low c.size (first + (p - first))
+                (omega (arith, after, here)) ∙ omega (arith, after)),
+          )
+        ]
+      ]
+
   pub round_ready : (s : Sight) (n : ℕ) (h : Control) → Has s h g → HasRoom n h
       → Ready s n h c g r.array
   round_ready s n h has room = record { has = has; cells = r.cells; room = room }

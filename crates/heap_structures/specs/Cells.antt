@@ -22,6 +22,12 @@ pub record Spares (rs : List ℕ) (a : Name) (g z : Graph) : Type 0 where
   pub objects : (b : Name) → b ≢ a → object_of z b ≡ object_of g b
   pub names : (b : Name) → has_name g b ≡ true → has_name z b ≡ true
 
+-- the same where also objects are made: of those that were there, all but this one stay
+pub record Saves (rs : List ℕ) (a : Name) (g z : Graph) : Type 0 where
+  pub registers : (q : ℕ) → IsNone rs q → held z q ≡ held g q
+  pub objects : (b : Name) → has_name g b ≡ true → b ≢ a → object_of z b ≡ object_of g b
+  pub names : (b : Name) → has_name g b ≡ true → has_name z b ≡ true
+
 -- the ranges of an array, and of the two registers of its own
 pub record IsPlaced (c : Cells) : Type 0 where
   pub size : c.size ≤ 65535

@@ -4,7 +4,7 @@ use Rattle.block_store.specs.declared.Value.{Value}
 use Rattle.block_store.specs.declared.Value.TheVariants.{Nil}
 
 -- the last n of some values, or all of fewer
-abbrev pub last_of : ℕ → List Value → List Value
+abbrev pub last_of : {A : Type 0} → ℕ → List A → List A
 last_of n xs = drop (length xs - n) xs
 
 -- place p of n places, counted around the end

@@ -3,6 +3,7 @@ pub mod Cells
 pub mod Heaps
 pub mod Rings
 pub mod Opened
+pub mod Records
 pub mod Alarms
 pub mod Pairs
 pub mod Tables

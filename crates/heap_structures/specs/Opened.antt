@@ -9,9 +9,11 @@ use Rattle.never_heap.specs.declared.Command.TheVariants.{Arr}
 use Rattle.never_heap.specs.Bounds.{IsCommandInBounds}
 use Rattle.never_heap.specs.Graphs.{Graph, has_name}
 use Rattle.never_heap.specs.LiveBlocks.{live_blocks}
+use Rattle.never_heap.specs.Steps.{step}
 use Rattle.control_heap.specs.Controls.{Control, HasLeft, asked, units}
 use Rattle.control_heap.specs.declared.faults.Fault.{Fault}
 use Rattle.control_heap.specs.declared.faults.Fault.TheVariants as faults
+use Rattle.graph_view.specs.Shown.{IsSmall}
 use Rattle.heap_structures.specs.declared.cells.Cells.{Cells}
 use Rattle.heap_structures.specs.Cells.{IsCells, IsPlaced, Spares}
 use Rattle.heap_structures.specs.Heaps.{Any, Has, Sight}
@@ -22,8 +24,14 @@ abbrev pub MayOpen : Sight → Config → Graph → ℕ → Type 0
 MayOpen Any c g n = Unit {0}
 MayOpen s c g n = live_blocks c.width g + array_blocks c.width n ≤ c.live
 
+-- a graph is small after an array of n values was made in a register
+abbrev pub StaysSmall : Sight → Config → Graph → ℕ → ℕ → Type 0
+StaysSmall Any c g base n = Unit {0}
+StaysSmall s c g base n = IsSmall c (step g 0 (Arr base n)).0
+
 -- The heap did one command, which made a new array: this holds of the graph, and of the rest of the
--- graph only the base register is another. The units are those of the array's blocks.
+-- graph only the base register is another. The units are those of the array's blocks, and no more
+-- blocks are live than those and the ones before.
 pub record Opens (s : Sight) (h z : Control) (c : Cells) (g : Graph) (Q : Graph → Type 0)
     : Type 0 where
   pub graph : Graph
@@ -36,6 +44,8 @@ pub record Opens (s : Sight) (h z : Control) (c : Cells) (g : Graph) (Q : Graph 
   pub objects : z.objects ≡ h.objects + 1
   pub units : (rate : ℕ) → IsRate h.config rate
       → units z ≡ units h + rate * array_blocks h.config.width c.size
+  pub live : live_blocks h.config.width graph
+      ≤ live_blocks h.config.width g + array_blocks h.config.width c.size
 
 -- the new array has this name and so many nils, whichever other register it is given
 abbrev pub OpensNils : Sight → Control → Control → Graph → ℕ → ℕ → Name → Type 0

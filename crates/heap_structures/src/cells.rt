@@ -3,13 +3,15 @@
 ghost use Rattle.std.specs.Prelude.{◌≡◌, ◌≢◌, ◌<◌, ◌≤◌, ◌^◌, ◌∷◌, ℕ, List, [], length, slice_index_or, slice_set, replicate, true, false, IfOk, OnOk, IsOkAnd, MatchResult};
 ghost use Rattle.block_store.specs.declared.Value.{Value};
 ghost use Rattle.block_store.specs.declared.Value.TheVariants.{Int, Nil};
+ghost use Rattle.never_heap.specs.declared.Command.TheVariants.{Arr};
 ghost use Rattle.never_heap.specs.Graphs.{Graph};
+ghost use Rattle.control_heap.specs.Controls.{HasLeft};
 ghost use Rattle.heap_pictures.specs.UpToNames.{AreOneUpToNames};
 ghost use Rattle.graph_view.specs.Shown.{Leaves};
 ghost use Rattle.heap_structures.specs.declared.cells.Cells.{Cells};
 ghost use Rattle.heap_structures.specs.Cells.{HasPlace, IsCells, held};
 ghost use Rattle.heap_structures.specs.Heaps.{Does, Fills, Has, Ready, Sight, Takes};
-ghost use Rattle.heap_structures.specs.Opened.{MayOpen, NotOpened, Opens, OpensNils};
+ghost use Rattle.heap_structures.specs.Opened.{MayOpen, NotOpened, Opens, OpensNils, StaysSmall};
 ghost use Rattle.heap_structures.specs.Renewed.{renamed_values, with_array};
 ghost use Rattle.heap_structures.specs.Rings.{IsNoTarget};
 
@@ -107,7 +109,7 @@ impl Cells {
     }
 
     /// Sets the spare register to a number.
-    fn count_in(&self, heap: &mut ControlHeap, number: u64) -> Result<(), Fault>
+    pub(crate) fn count_in(&self, heap: &mut ControlHeap, number: u64) -> Result<(), Fault>
         ensures { (s : Sight) (g : Graph) (vs : List Value)
             → Ready s 1 heap.old self.now g vs → number < 2 ^ 62
             → IsOkAnd result (λ _. Does s 1 heap.old heap.new (self.now.spare ∷ []) self.now.array g
@@ -175,10 +177,13 @@ impl Cells {
 }
 
 /// Makes an array of nils and lets register `base` refer to it.
-fn nil_array(heap: &mut ControlHeap, base: u8, size: u32) -> Result<Name, Fault>
+pub(crate) fn nil_array(heap: &mut ControlHeap, base: u8, size: u32) -> Result<Name, Fault>
     ensures range { OnOk result ((base < 16) × (size ≤ 65535)) }
+    ensures left { OnOk result (HasLeft heap.old (Arr base size)) }
+    ensures grown { (s : Sight) (g : Graph) → Has s heap.old g
+        → MayOpen s heap.old.config g size → StaysSmall s heap.old.config g base size }
     ensures opens { (s : Sight) (g : Graph) (spare : ℕ) → Has s heap.old g
-        → MayOpen s heap.old.config g size
+        → StaysSmall s heap.old.config g base size
         → MatchResult result
         (λ a. OpensNils s heap.old heap.new g base size a)
         (λ f. NotOpened s heap.old heap.new base spare size g f) }

@@ -13,6 +13,9 @@ mod map;
 mod map_tests;
 mod places;
 mod queue;
+#[cfg(test)]
+mod record_tests;
+mod records;
 mod ring;
 mod table;
 #[cfg(test)]
@@ -23,4 +26,5 @@ pub use cells::Cells;
 pub use laws::{blocks_of, others_stay, quiet_commands_keep_graphs};
 pub use map::{Insertion, Map, other_maps_stay};
 pub use queue::Queue;
+pub use records::{Records, few_blocks_live, other_records_stay};
 pub use ring::Ring;

@@ -19,7 +19,7 @@ use control_heap::{ControlHeap, Fault};
 /// The last `size` values of a sequence.
 #[derive(Clone, Copy, Debug, PartialEq, Eq)]
 pub struct Ring {
-    cells: Cells,
+    pub(crate) cells: Cells,
     // The place of the oldest value, and how many there are.
     first: u32,
     count: u32,

@@ -1,8 +1,4 @@
-pub mod GraphSizes
-pub mod Lives
-pub mod Moves
-pub mod AlarmCounts
-pub mod Rings
-pub mod Takes
+pub mod LastOnes
+pub mod Keeping
 pub mod LongLines
 pub mod ReportLaws

@@ -1,5 +1,5 @@
 -- A text of limits and readings: what is written for it, and where the report stops.
-use Rattle.std.specs.Prelude.{ℕ, ◌+◌, ◌/◌, ◌^◌, nat_lt, if◌then◌else◌, List, [], ◌∷◌, ◌++◌, length, Option, None, Some, Result, Ok, Err}
+use Rattle.std.specs.Prelude.{ℕ, ◌+◌, ◌-◌, ◌/◌, ◌^◌, nat_lt, if◌then◌else◌, List, [], ◌∷◌, ◌++◌, length, Option, None, Some, Result, Ok, Err}
 use Rattle.trace_text.specs.Lines.{tokens_of}
 use Rattle.trace_text.specs.Reading.{◌>>=◌, number_at, two_tokens_of}
 use Rattle.historian_core.specs.declared.Limits.{Limits}
@@ -10,9 +10,9 @@ use Rattle.historian_core.specs.declared.stops.Why.TheVariants as whys
 use Rattle.historian_core.specs.Windows.{told_line}
 
 -- How many readings a heap keeps in its life: as many as its own life has units for, which are
--- 2^45, at 6 for each reading (`lives_end_with_the_heap`).
+-- 2^45, at 5 for each reading and for each of 12 blocks (`lives_end_with_the_heap`).
 abbrev pub life : ℕ
-life = 2 ^ 45 / 6
+life = 2 ^ 45 / 5 - 12
 
 -- the reading that a line spells: a number below 2^32
 unfoldable pub reading_at : List ℕ → Option ℕ

@@ -5,8 +5,7 @@ ghost use Rattle.historian_core.specs.declared.Limits.{Limits};
 ghost use Rattle.historian_core.specs.Kept.{Keeps};
 ghost use Rattle.historian_core.specs.Stops.{EndsSo, IsEnded, IsSaid, status_of, stop_line, stop_text, why_text};
 
-use crate::report;
-use control_heap::ControlHeap;
+use crate::{Historian, report};
 use trace_text::{LineBuffer, Sink, Source, WRITE_FAULT, put_line};
 
 /// What is wrong with a line of a text.
@@ -93,15 +92,15 @@ impl Stop {
 /// Does `report`, writes the line of the stop where there is one, and returns the exit status of
 /// the program: 0 where every line is right, or as for `say_stop`.
 pub fn report_with_status<S: Source, K: Sink>(
-    heap: &mut ControlHeap,
+    historian: &mut Historian,
     source: &mut S,
     sink: &mut K,
 ) -> u8
-    requires { (l : Limits) → Keeps heap.old l [] }
+    requires { (l : Limits) → Keeps historian.old l [] }
     ensures { IsEnded (S.left source.old) (S.left source.new) (K.held sink.old) (K.held sink.new)
         (S.faults source.old) (S.faults source.new) (K.faults sink.old) (K.faults sink.new) result }
 {
-    let end = report(heap, source, sink);
+    let end = report(historian, source, sink);
     say_end(end, sink)
 }
 

@@ -8,8 +8,7 @@ ghost use Rattle.historian_core.specs.Lines.{IsFirstLine, IsNextLine, CountsRead
 ghost use Rattle.historian_core.specs.Reports.{IsReport, IsFineText, IsToldOrFails, AreCounted};
 ghost use Rattle.historian_core.specs.Texts.{reading_at, limits_at, first_at, due_after, due_in};
 
-use crate::{LIFE, Limits, Stop, Why, tell};
-use control_heap::ControlHeap;
+use crate::{Historian, LIFE, Limits, Stop, Why, tell};
 use short_lines::{Next, ShortLine, next_line};
 use trace_text::{Sink, Source, number_of, two_tokens};
 
@@ -61,11 +60,11 @@ fn first_of(line: &[u8]) -> Result<Limits, Why>
 /// source fails: then the lines of the readings that were read are written. `WriteFault` where the
 /// sink fails, which may leave a prefix of a line written.
 pub fn report<S: Source, K: Sink>(
-    heap: &mut ControlHeap,
+    historian: &mut Historian,
     source: &mut S,
     sink: &mut K,
 ) -> Result<(), Stop>
-    requires { (l : Limits) → Keeps heap.old l [] }
+    requires { (l : Limits) → Keeps historian.old l [] }
     ensures report { IfSome (S.left source.old) (λ bytes.
         IsReport due_in bytes (S.left source.new) (K.held sink.old) (K.held sink.new) result) }
     ensures fine { IfSome (S.left source.old) (λ bytes. (l : Limits) (xs : List ℕ)
@@ -79,7 +78,7 @@ pub fn report<S: Source, K: Sink>(
         Ok(limits) => limits,
         Err(stop) => return Err(stop),
     };
-    tell_all(heap, &limits, source, &mut line, sink)
+    tell_all(historian, &limits, source, &mut line, sink)
 }
 
 /// Reads the limits from the first line of a source.
@@ -143,13 +142,13 @@ fn next_reading<S: Source>(
 
 /// Does `report` for the lines after the limits.
 fn tell_all<S: Source, K: Sink>(
-    heap: &mut ControlHeap,
+    historian: &mut Historian,
     limits: &Limits,
     source: &mut S,
     line: &mut ShortLine,
     sink: &mut K,
 ) -> Result<(), Stop>
-    requires { Keeps heap.old limits.now [] }
+    requires { Keeps historian.old limits.now [] }
     ensures report { IfSome (S.left source.old) (λ bytes. IsReport (due_after limits.now []) bytes
         (S.left source.new) (K.held sink.old) (K.held sink.new) result) }
     ensures counted { AreCounted (S.faults source.old) (S.faults source.new) (K.faults sink.old)
@@ -160,7 +159,7 @@ fn tell_all<S: Source, K: Sink>(
             Ok(reading) => reading,
             Err(end) => return end,
         };
-        let Ok(()) = tell(heap, limits, count, reading, sink) else {
+        let Ok(()) = tell(historian, limits, count, reading, sink) else {
             return Err(Stop::WriteFault);
         };
     }
