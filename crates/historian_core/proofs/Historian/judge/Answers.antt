@@ -1,5 +1,4 @@
-use Rattle.std.proofs.Common.{◌≡◌, ◌+◌, ◌++◌, true, Ok, Err, [], sym, subst, arith}
-use Rattle.heap_structures.specs.Alarms.{alarm_size}
+use Rattle.std.proofs.Common.{◌≡◌, ◌+◌, ◌++◌, Ok, Err, [], sym, subst}
 use Rattle.heap_structures.specs.Heaps.{Always}
 use Rattle.historian_core.specs.declared.Historian.{Historian}
 use Rattle.historian_core.specs.Kept.{Stores, with_alarm}
