@@ -105,7 +105,8 @@ no_int [] i n e = absurd cc
 no_int (a ∷ bs) zero n e = absurd cc
 no_int (a ∷ bs) (suc i) n e = no_int bs i n e
 
-pub not_ring : (g : Graph) (r : Ring) (bs : List Name) → IsRing g r (map Ref bs) → (b : Name) (n : ℕ)
+pub not_ring : (g : Graph) (r : Ring) (bs : List Name) → IsRing g r (map Ref bs)
+    → (b : Name) (n : ℕ)
     → (object_of g b).fields ≡ Int n ∷ [] → b ≢ r.cells.array
 not_ring g r bs is b n one same =
     let at = at_place g r.cells r.first r.count (map Ref bs) is 0 in
@@ -115,21 +116,30 @@ not_ring g r bs is b n one same =
 pub few_numbers : (g : Graph) (r : Records) (ns : List ℕ) → IsRecords g r ns
     → length ns ≤ r.ring.cells.size
 few_numbers g r ns is =
-    omega (arith, is.ring.circle.few, length-map is.names Ref, numbers_long g is.names ns is.numbers)
+    omega (
+      arith,
+      is.ring.circle.few,
+      length-map is.names Ref,
+      numbers_long g is.names ns
+          is.numbers,
+    )
 
 -- ---- where calls leave it
 
 -- a call that changes another object
 pub records_stay : (rs : List ℕ) (a : Name) (g z : Graph) (r : Records) (ns : List ℕ)
     → Spares rs a g z → length (object_of g a).fields ≢ 1 → r.ring.cells.array ≢ a
-    → IsNone rs r.ring.cells.base → IsNone rs r.ring.cells.spare → IsRecords g r ns → IsRecords z r ns
+    → IsNone rs r.ring.cells.base → IsNone rs r.ring.cells.spare → IsRecords g r ns → IsRecords z r
+    ns
 records_stay rs a g z r ns s long apart base spare is = record {
   names = is.names;
-  ring = round_stays g r.ring.cells r.ring.first r.ring.count (map Ref is.names) is.ring rs a z s apart
+  ring = round_stays g r.ring.cells r.ring.first r.ring.count (map Ref is.names) is.ring rs a z s
+      apart
       base;
   numbers = numbers_stay g z
       (λ b n e. ap (λ (o : Object). o.fields) (s.objects b (λ same. long
-      (ap (λ m. length (object_of g m).fields) (sym same) ∙ ap length e))) ∙ e) is.names ns is.numbers;
+      (ap (λ m. length (object_of g m).fields) (sym same) ∙ ap length e))) ∙ e) is.names ns
+      is.numbers;
   free = λ b e. is.free b (sym (s.registers r.ring.cells.spare spare) ∙ e);
 }
 
@@ -239,7 +249,11 @@ module _ (s : Sight) (h y : Control) (g : Graph) (r : Records) (ns : List ℕ) (
       cells = o.holds;
       room = record {
         commands = omega (arith, all.commands, o.commands);
-        objects = (let few : h.objects + 1 ≤ most_objects = left.1 in omega (arith, few, o.objects));
+        objects = (let few : h.objects + 1 ≤ most_objects = left.1 in omega (
+          arith,
+          few,
+          o.objects,
+        ));
         units = λ rate planned.
             let here : IsRate h.config rate = subst (λ k. IsRate k rate) o.config planned in
             let few : units h + (rate * array_blocks h.config.width 1 + 0) ≤ most_units =
@@ -334,7 +348,8 @@ module _ (s : Sight) (h y : Control) (g : Graph) (r : Records) (ns : List ℕ) (
       }
 
 -- why none was made
-pub not_made : (s : Sight) (h z : Control) (c : Cells) (d : ℕ) (g : Graph) (f : Fault) → c.spare < 16
+pub not_made : (s : Sight) (h z : Control) (c : Cells) (d : ℕ) (g : Graph) (f : Fault)
+    → c.spare < 16
     → d ≢ c.spare → NotOpened s h z d c.spare 1 g f → NotPushed s h z c d g f
 not_made s h z c d g faults.OutOfBounds low apart why = elim why.0 [
   | inl past ↦ absurd (omega (arith, past, low))
@@ -411,7 +426,8 @@ module _ (s : Sight) (h y : Control) (g : Graph) (r : Records) (ns : List ℕ) (
   stay : AreNumbers e.graph is.names ns
   stay =
       numbers_stay g e.graph (λ b n one. ap (λ (o : Object). o.fields)
-      (e.spares.objects b (not_ring g r.ring is.names is.ring b n one)) ∙ one) is.names ns is.numbers
+      (e.spares.objects b (not_ring g r.ring is.names is.ring b n one)) ∙ one) is.names ns
+      is.numbers
 
   abbrev pub Got : Control → Option ℕ → Type 0
   Got z t = Does s 2 h z rs cs.array g (λ k. IsRecords k r ns × (t ≡ first_of (drop i ns)))
@@ -489,7 +505,8 @@ module _ (s : Sight) (h y : Control) (g : Graph) (r : Records) (ns : List ℕ) (
           holds = (
             record {
               names = is.names;
-              ring = round_same k cs r.ring.first r.ring.count (map Ref is.names) e.holds.0 m st.cells;
+              ring = round_same k cs r.ring.first r.ring.count (map Ref is.names) e.holds.0 m
+                  st.cells;
               numbers = numbers_stay k m (λ b j eq. ap (λ (o : Object). o.fields)
                   (st.spares.objects b (not_ring k r.ring is.names e.holds.0 b j eq)) ∙ eq) is.names
                   ns stay;
@@ -517,7 +534,8 @@ one_block Eight Array = omega arith
 pub blocks_by : (w : Width) (g : Graph) (b : Name) (n most : ℕ) → length (object_of g b).fields ≡ n
     → ((k : ObjectKind) → blocks_of_kind w k n ≤ most) → object_blocks w (object_of g b) ≤ most
 blocks_by w g b n most long few =
-    subst (λ m. blocks_of_kind w (object_of g b).kind m ≤ most) (sym long) (few (object_of g b).kind)
+    subst (λ m. blocks_of_kind w (object_of g b).kind m ≤ most) (sym long) (few (object_of g
+    b).kind)
 
 pub one_field : (w : Width) (g : Graph) (b : Name) (v : Value) → (object_of g b).fields ≡ v ∷ []
     → object_blocks w (object_of g b) ≤ 1
@@ -535,10 +553,12 @@ no_alarm [] i x e = absurd cc
 no_alarm (y ∷ xs) zero x e = absurd cc
 no_alarm (y ∷ xs) (suc i) x e = no_alarm xs i x e
 
-pub alarms_plain : (g : Graph) (l : AlarmList) (xs : List Alarm) → IsAlarms g l xs → (x : Name) (i : ℕ)
+pub alarms_plain : (g : Graph) (l : AlarmList) (xs : List Alarm) → IsAlarms g l xs
+    → (x : Name) (i : ℕ)
     → field_of (object_of g l.cells.array) i ≢ Ref x
 alarms_plain g l xs is x i e =
-    let at = at_place g l.cells 0 l.count (map value_of xs) is i in no_alarm xs at.0 x (sym at.1 ∙ e)
+    let at = at_place g l.cells 0 l.count (map value_of xs) is i in no_alarm xs at.0 x (sym at.1 ∙
+    e)
 
 pub nil_plain : (g : Graph) (b : Name) → (object_of g b).fields ≡ Nil ∷ [] → (x : Name) (i : ℕ)
     → field_of (object_of g b) i ≢ Ref x
@@ -547,7 +567,8 @@ nil_plain g b nil x i =
 
 -- these objects refer to none, one by one
 pub plain_by : (g : Graph) (bs : List Name)
-    → AllByRecursion (λ c. (x : Name) (i : ℕ) → field_of (object_of g c) i ≢ Ref x) bs → ArePlain g bs
+    → AllByRecursion (λ c. (x : Name) (i : ℕ) → field_of (object_of g c) i ≢ Ref x) bs → ArePlain g
+    bs
 plain_by g [] all b x i among e = absurd cc
 plain_by g (c ∷ bs) all b x i among e = elim (or_cases (same_name b c) (is_among bs b) among) [
   | inl same ↦ all.0 x i (ap (λ m. field_of (object_of g m) i) (sym (one_name b c same)) ∙ e)
@@ -625,7 +646,8 @@ module _ (w : Width) (g : Graph) (r : Records) (ns : List ℕ) (others : List Na
   fields b x i among e =
       elim (or_cases (same_name b a) (is_among (others ++ is.names) b) among) [
         | inl same ↦
-            let at = at_place g r.ring.cells r.ring.first r.ring.count (map Ref is.names) is.ring i in
+            let at = at_place g r.ring.cells r.ring.first r.ring.count (map Ref is.names) is.ring i
+            in
             or_right (same_name x a) (is_among (others ++ is.names) x)
             (rest_is x ∙ or_right (is_among others x) (is_among is.names x)
             (in_names is.names at.0 x (sym at.1
@@ -645,7 +667,11 @@ module _ (w : Width) (g : Graph) (r : Records) (ns : List ℕ) (others : List Na
       + (object_blocks w (object_of g a) + length ns))
   few_live =
       let f : Name → ℕ = λ b. object_blocks w (object_of g b) in
-      let all = within w g some (record { registers = registers; fields = λ b x i m e. fields b x i m e }) in
+      let all = within w g some (record {
+        registers = registers;
+        fields = λ b x i m e. fields b x i
+            m e;
+      }) in
       let first = sum_by-cons f a (others ++ is.names) in
       let both = sum_by-append f others is.names in
       let numbers = weigh w g is.names ns is.numbers in

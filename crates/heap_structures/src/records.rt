@@ -83,8 +83,8 @@ impl Records {
         self.ring.push(heap, d)
     }
 
-    /// Returns number `i`, counted from the oldest, or `None` where there is none. Register `d` then
-    /// refers to its object. At most two commands.
+    /// Returns number `i`, counted from the oldest, or `None` where there is none. Register `d`
+    /// then refers to its object. At most two commands.
     ///
     /// # Errors
     ///
@@ -149,7 +149,8 @@ pub fn few_blocks_live()
     ensures { (w : Width) (g : Graph) (r : Records) (ns : List ℕ) (others : List Name)
         → length g.mutators ≡ 1 → IsRecords g r ns
         → ReferOnly g ((records_cells r).array ∷ others) → ArePlain g others
-        → live_blocks w g ≤ registers_end w 1 + (sum_by (λ b. object_blocks w (object_of g b)) others
+        → live_blocks w g
+        ≤ registers_end w 1 + (sum_by (λ b. object_blocks w (object_of g b)) others
         + (object_blocks w (object_of g (records_cells r).array) + length ns)) }
 {}
 

@@ -171,7 +171,8 @@ module _ (g : Graph) (r : Records) (l : AlarmList) (ys : List ℕ) (ls : List Al
     refer q b e =
         let readings = ap (held k) (sym now.ring_place.0) ∙ now.readings.ring.cells.base in
         let alarms = ap (held k) (sym now.alarm_place.0) ∙ now.alarms.cells.base in
-        refer_by k q b ((3, r.ring.cells.array) ∷ (0, shared_name 1) ∷ (1, a) ∷ (4, l.cells.array) ∷ [])
+        refer_by k q b ((3, r.ring.cells.array) ∷ (0, shared_name 1) ∷ (1, a) ∷ (4, l.cells.array)
+        ∷ [])
         (readings, (now.zero, (new.register, (alarms, tt))))
         (λ none is. elim (cases_eq q 2) [
           | inl two ↦ now.readings.free b (ap (held k) (now.ring_place.1 ∙ sym two) ∙ is)
@@ -364,13 +365,15 @@ module _ (h : Historian) (s : State h) where
       (has_left h.heap s.stores.config 1 1 1 blocks_are.0 (12 + s.made)
       (omega (arith, s.stores.commands, fits.0)) (omega (arith, s.stores.objects, low))
       s.stores.units (omega (arith, low)))
-      (in_bounds h.heap s.stores.config 1 1 1 blocks_are.0 (omega arith) (omega arith) (omega arith))
+      (in_bounds h.heap s.stores.config 1 1 1 blocks_are.0 (omega arith) (omega arith) (omega
+      arith))
       right why.0)
       (λ u p. record {
         graph = p.graph;
         has = p.has;
         laid = kept_by p.graph p.saves q same (last_ones (s.ys ++ y ∷ []))
-            (subst (λ m. IsRecords p.graph q (last_of m (s.ys ++ y ∷ []))) laid.ring_place.2 p.holds);
+            (subst (λ m. IsRecords p.graph q (last_of m (s.ys ++ y ∷ []))) laid.ring_place.2
+            p.holds);
         config = p.config ∙ s.stores.config;
         commands = omega (arith, p.commands, s.stores.commands);
         objects = omega (arith, p.objects, s.stores.objects);
@@ -441,7 +444,8 @@ pub opens : (h z : Control) → h.config ≡ heap_config → (base spare made : 
 opens h z same base spare made g f low also apart few count objects used =
     not_refused h z base spare 40 g f also apart (omega arith)
     (in_bounds h same base 40 6 blocks_are.1 low (omega arith) (omega arith))
-    (has_left h same base 40 6 blocks_are.1 made (omega (arith, count)) (omega (arith, objects)) used
+    (has_left h same base 40 6 blocks_are.1 made (omega (arith, count)) (omega (arith, objects))
+    used
     (omega (arith, few)))
 
 module _ (h y : Control) (same : h.config ≡ heap_config)

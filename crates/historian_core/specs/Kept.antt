@@ -1,5 +1,5 @@
 -- A heap that keeps readings.
-use Rattle.std.specs.Prelude.{ℕ, ◌+◌, ◌-◌, ◌*◌, ◌<◌, ◌≤◌, ◌≡◌, ◌≢◌, ◌^◌, Bool, false, if◌then◌else◌, List, [], ◌∷◌, length}
+use Rattle.std.specs.Prelude.{ℕ, ◌+◌, ◌-◌, ◌*◌, ◌≤◌, ◌≡◌, ◌≢◌, ◌^◌, Bool, false, if◌then◌else◌, List, [], ◌∷◌, length}
 use Rattle.block_store.specs.declared.Config.{Config}
 use Rattle.block_store.specs.declared.Name.{Name}
 use Rattle.block_store.specs.declared.Value.TheVariants.{Nil, Ref}
@@ -42,8 +42,8 @@ abbrev pub standing : Limits → ℕ → List ℕ → List Alarm
 standing l i [] = []
 standing l i (y ∷ ys) = with_alarm (is_alarm l y) i (standing l (i + 1) ys)
 
--- The ring has these readings, and the list these alarms. The shared array is empty, and no register
--- but those of the structures and of a record refers to an object.
+-- The ring has these readings, and the list these alarms. The shared array is empty, and no
+-- register but those of the structures and of a record refers to an object.
 pub record IsLaid (g : Graph) (r : Records) (a : AlarmList) (ys : List ℕ) (ls : List Alarm)
     : Type 0 where
   pub ring_place : HasPlace (records_cells r) 3 2 40

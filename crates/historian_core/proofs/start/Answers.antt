@@ -11,7 +11,8 @@ unreachable-requires c =
     opens h c.new.new.heap same 3 2 0 g0 c.in_default.field-0 (omega arith) (omega arith)
     (λ e. absurd (omega (arith, e))) (omega arith) (omega (arith, fresh.0)) (omega (arith, fresh.2))
     (λ rate is. omega (arith, fresh.1))
-    (c.in_default.ensures.opens Always g0 (c.in_ok-heap.ensures.shown start_small) (start_may h same))
+    (c.in_default.ensures.opens Always g0 (c.in_ok-heap.ensures.shown start_small) (start_may h
+    same))
 
 pub unreachable-requires-in_default-new : goal.unreachable-requires-in_default-new
 unreachable-requires-in_default-new c =
@@ -24,7 +25,11 @@ unreachable-requires-in_default-new c =
     let o = c.in-Ok.ensures.opens Always g0 (c.in_ok-heap.ensures.shown start_small)
     (start_may h same) in
     opens y c.new-2.new.heap (o.config ∙ same) 4 1 6 o.graph c.in_default-new.field-0 (omega arith)
-    (omega arith) (λ e. absurd (omega (arith, e))) (omega arith) (omega (arith, o.commands, fresh.0))
+    (omega arith) (λ e. absurd (omega (arith, e))) (omega arith) (omega (
+      arith,
+      o.commands,
+      fresh.0,
+    ))
     (omega (arith, o.objects, fresh.2)) (made_units h y same fresh r place o)
     (c.in_default-new.ensures.opens Always o.graph o.has (next_may h y same fresh r place o))
 

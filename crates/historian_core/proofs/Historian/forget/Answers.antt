@@ -21,6 +21,7 @@ returns c = λ s fits low.
     (ap (λ k. cleared (n - k) s.ls) c.from-kept.ensures
     ∙ ap (λ b. cond b s.ls (cleared (n - 40) s.ls)) (sym many))
     (alarmed h s (2 * alarm_size h.alarms + 1) (s.most + 81) (omega (arith, size))
-    (omega (arith, fits.0, size), fits.1) c.clear.new.heap c.clear.new.self c.clear.ensures.same _ _ _ _
+    (omega (arith, fits.0, size), fits.1) c.clear.new.heap c.clear.new.self c.clear.ensures.same _
+    _ _ _
     (λ e. absurd (omega (arith, e, low))) (λ v k by. by.1) c.clear.result
     (c.clear.ensures.shows Always s.stores.graph s.ls s.stores.has s.stores.laid.alarms))

@@ -1,5 +1,4 @@
-use Rattle.std.proofs.Common.{◌≡◌, ◌+◌, ◌++◌, true, Ok, Err, [], sym, subst, arith}
-use Rattle.heap_structures.specs.Alarms.{alarm_size}
+use Rattle.std.proofs.Common.{◌≡◌, ◌+◌, ◌++◌, Ok, Err, [], sym, subst}
 use Rattle.heap_structures.specs.Heaps.{Always}
 use Rattle.historian_core.specs.declared.Historian.{Historian}
 use Rattle.historian_core.specs.Kept.{Stores, with_alarm}
@@ -8,7 +7,8 @@ use Rattle.historian_core.proofs.Historian.judge.Goals as goal
 
 pub returns-in_err-raise : goal.returns-in_err-raise
 returns-in_err-raise c = λ s fits low none few.
-    absurd (raised c.args.self.now s c.args.count fits low none few c.raise.new.heap c.raise.new.self
+    absurd (raised c.args.self.now s c.args.count fits low none few c.raise.new.heap
+    c.raise.new.self
     c.raise.ensures.same _ (Err c.in_err-raise.field-0.0)
     (c.in_err-raise.ensures.shows Always s.stores.graph s.ls s.stores.has s.stores.laid.alarms))
 

@@ -1,4 +1,4 @@
-use Rattle.std.proofs.Common.{◌∙◌, arith}
+use Rattle.std.proofs.Common.{◌∙◌}
 use Rattle.heap_structures.specs.Heaps.{Always}
 use Rattle.heap_structures.proofs.Rounds.{not_stopped}
 use Rattle.historian_core.proofs.Keeping.{read, right, room}

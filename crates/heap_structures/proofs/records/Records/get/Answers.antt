@@ -38,6 +38,7 @@ returns c s g ns has is =
     let e = c.in_ok-get.ensures s g (map Ref is.names) has is.ring in
     let t = got_number s c.args.heap.now c.get.new.heap g c.args.self.now ns is c.args.d c.args.i
     may.0 may.2 v e c.quiet_commands_keep_graphs.ensures room.1 c.in-Some.field-0 c.in-Some.is
-    c.get-2.new.self _ (Ok c.in_ok-value.value) c.in_ok-value.ensures.config c.in_ok-value.ensures.told in
+    c.get-2.new.self _ (Ok c.in_ok-value.value) c.in_ok-value.ensures.config
+    c.in_ok-value.ensures.told in
     subst (λ n. Got s c.args.heap.now c.get.new.heap g c.args.self.now ns is c.args.d c.args.i may.0
     may.2 v e c.get-2.new.self (Some n)) (sym (c.number_in.ensures t.0 t.1 t.2)) t.3

@@ -15,7 +15,8 @@ returns-in_err-array-clause-shows c s g ns has is may =
     from_err c.from_residual-in_err-array.result f _ _ c.from_residual-in_err-array.ensures.1 (
       not_made s c.args.heap.now _ ring c.args.d g f is.ring.cells.placed.spare ok.2
           (c.in_err-array.ensures.opens s g ring.spare has
-          (small_box s c.args.heap.now c.args.heap.now g c.args.self.now ns is c.args.d 0 (omega arith)
+          (small_box s c.args.heap.now c.args.heap.now g c.args.self.now ns is c.args.d 0 (omega
+          arith)
           ring.array ok.0 ok.2 has may)),
       refl,
     )
@@ -28,7 +29,8 @@ returns-in_err-count_in-clause-shows c s g ns has is may =
     let ok = c.may_load.ensures.yes c.in_ok-admit.ensures.admitted.0 in
     let low : c.from.result < 2 ^ 32 = omega (arith, c.from.ensures, c.ranges.number.fits) in
     let b = box s h y g r ns is c.args.d c.from.result low c.in_ok-array.array in
-    let m = box_made s h y g r ns is c.args.d c.from.result low c.in_ok-array.array ok.0 ok.2 has may
+    let m = box_made s h y g r ns is c.args.d c.from.result low c.in_ok-array.array ok.0 ok.2 has
+    may
     c.in_ok-admit.ensures.admitted.1 c.in_ok-array.ensures.left
     (c.in_ok-array.ensures.opens s g r.ring.cells.spare has) in
     absurd (c.in_err-count_in.ensures s m.0.graph (Nil ∷ [])
@@ -43,7 +45,8 @@ returns-in_err-put-clause-shows c s g ns has is may =
     let ok = c.may_load.ensures.yes c.in_ok-admit.ensures.admitted.0 in
     let low : c.from.result < 2 ^ 32 = omega (arith, c.from.ensures, c.ranges.number.fits) in
     let b = box s h y g r ns is c.args.d c.from.result low c.in_ok-array.array in
-    let m = box_made s h y g r ns is c.args.d c.from.result low c.in_ok-array.array ok.0 ok.2 has may
+    let m = box_made s h y g r ns is c.args.d c.from.result low c.in_ok-array.array ok.0 ok.2 has
+    may
     c.in_ok-admit.ensures.admitted.1 c.in_ok-array.ensures.left
     (c.in_ok-array.ensures.opens s g r.ring.cells.spare has) in
     let e = c.in_ok-count_in.ensures s m.0.graph (Nil ∷ [])
@@ -63,7 +66,8 @@ returns-clause-shows c s g ns has is may =
     let ok = c.may_load.ensures.yes c.in_ok-admit.ensures.admitted.0 in
     let low : c.from.result < 2 ^ 32 = omega (arith, c.from.ensures, c.ranges.number.fits) in
     let b = box s h y g r ns is c.args.d c.from.result low c.in_ok-array.array in
-    let m = box_made s h y g r ns is c.args.d c.from.result low c.in_ok-array.array ok.0 ok.2 has may
+    let m = box_made s h y g r ns is c.args.d c.from.result low c.in_ok-array.array ok.0 ok.2 has
+    may
     c.in_ok-admit.ensures.admitted.1 c.in_ok-array.ensures.left
     (c.in_ok-array.ensures.opens s g r.ring.cells.spare has) in
     let e = c.in_ok-count_in.ensures s m.0.graph (Nil ∷ [])
