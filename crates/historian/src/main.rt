@@ -1,4 +1,4 @@
-//! Reads two limits and then one reading a line, and keeps the last 40 readings as records on a
+//! Reads two limits and then one reading a line, and keeps the last 40 readings as objects on a
 //! garbage-collected heap. After each reading it writes the least, the greatest and the mean of
 //! those, and how many are outside the limits.
 #![tactic(auto)]

@@ -43,7 +43,7 @@ standing l i [] = []
 standing l i (y ∷ ys) = with_alarm (is_alarm l y) i (standing l (i + 1) ys)
 
 -- The ring has these readings, and the list these alarms. The shared array is empty, and no
--- register but those of the structures and of a record refers to an object.
+-- register but those of the structures and of the newest refers to an object.
 pub record IsLaid (g : Graph) (r : Records) (a : AlarmList) (ys : List ℕ) (ls : List Alarm)
     : Type 0 where
   pub ring_place : HasPlace (records_cells r) 3 2 40
@@ -56,7 +56,7 @@ pub record IsLaid (g : Graph) (r : Records) (a : AlarmList) (ys : List ℕ) (ls 
   pub alarms : IsAlarms g a ls
 
 -- A historian with these readings and alarms. Its heap has met no `Full`, has done at most so many
--- commands, and has made the two structures, of 6 blocks each, and so many records.
+-- commands, and has made the two structures, of 6 blocks each, and so many objects of one.
 pub record Stores (h : Historian) (most made : ℕ) (ys : List ℕ) (ls : List Alarm) : Type 0 where
   pub graph : Graph
   pub has : HasMetNoFull h.heap graph
@@ -78,8 +78,8 @@ pub record State (h : Historian) : Type 0 where
 abbrev pub Fits : {h : Historian} → State h → ℕ → Type 0
 Fits s n = (s.most + n ≤ 2 ^ 60) × (s.made ≤ life)
 
--- A historian that was given these readings has the last 40 of them and their alarms. It has made a
--- record of each reading, by at most 207 commands.
+-- A historian that was given these readings has the last 40 of them and their alarms. It has made
+-- an object of each reading, by at most 207 commands.
 abbrev pub Keeps : Historian → Limits → List ℕ → Type 0
 Keeps h l xs =
     Stores h (2 + 207 * length xs) (length xs) (last_ones xs)

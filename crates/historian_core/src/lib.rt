@@ -1,4 +1,4 @@
-//! The last 40 readings of a number, kept as records on a garbage-collected heap.
+//! The last 40 readings of a number, kept as objects on a garbage-collected heap.
 #![tactic(auto)]
 
 ghost use Rattle.std.specs.Prelude.{◌≡◌, ◌≤◌, ◌<◌, ◌+◌, ◌-◌, ◌*◌, ◌^◌, ◌∷◌, ◌++◌, ◌↔◌, ℕ, false, min, max, nat_lt, if◌then◌else◌, List, [], length, slice_index_or, IfOk, IfErr, OnOk, OnErr, IsOkAnd};
@@ -47,7 +47,7 @@ const HEAP: Config = Config {
     shared: 1,
 };
 
-// The registers of a record and of its number. The former is also the spare register of the alarms:
+// The registers of an object and of its number. The former is also the spare register of the alarms:
 // what it holds does not have to stay from one call to the next.
 const RECORD: u8 = 1;
 
@@ -246,7 +246,7 @@ impl Historian {
         self.figures()
     }
 
-    /// Adds a reading as a record, which takes the place of the one 40 before.
+    /// Adds a reading as an object, which takes the place of the one 40 before.
     fn record(&mut self, reading: u32) -> Result<(), Fault>
         ensures { (s : State self.old) → Fits s 4 → s.made < LIFE
             → IsOkAnd result (λ _. Stores self.new (s.most + 4) (s.made + 1)
