@@ -50,8 +50,8 @@ impl Records {
         Ok(Records { ring })
     }
 
-    /// Adds a number, in a new object to which register `d` then refers; where `size` numbers are
-    /// there, the oldest goes. Four commands.
+    /// Adds a number, in a new object; where `size` numbers are there, the oldest goes. What
+    /// register `d` held is lost. At most four commands.
     ///
     /// # Errors
     ///
@@ -83,8 +83,8 @@ impl Records {
         self.ring.push(heap, d)
     }
 
-    /// Returns number `i`, counted from the oldest, or `None` where there is none. Register `d`
-    /// then refers to its object. At most two commands.
+    /// Returns number `i`, counted from the oldest, or `None` where there is none. What register
+    /// `d` held is lost. At most two commands.
     ///
     /// # Errors
     ///

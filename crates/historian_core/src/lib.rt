@@ -37,7 +37,7 @@ pub const KEPT: u32 = 40;
 /// second these are 223 years.
 pub const LIFE: u64 = (1 << 45) / 5 - 12;
 
-/// The heap. At most 57 of its 512 blocks are ever live.
+/// The heap. At most 64 of its 512 blocks are ever live.
 const HEAP: Config = Config {
     width: Width::Eight,
     threads: 1,
@@ -47,8 +47,8 @@ const HEAP: Config = Config {
     shared: 1,
 };
 
-// The registers of an object and of its number. The former is also the spare register of the alarms:
-// what it holds does not have to stay from one call to the next.
+// The registers of an object and of its number. The former is also the spare register of the
+// alarms: what it holds does not have to stay from one call to the next.
 const RECORD: u8 = 1;
 
 const NUMBER: u8 = 2;
@@ -212,7 +212,8 @@ pub fn readings_met_no_full()
     shown_heaps_met_no_full();
 }
 
-/// The life of the heap has room for one more reading exactly where it has kept fewer than `LIFE`.
+/// The life of the heap has room for one more object of one block, which a reading takes, exactly
+/// where it has kept fewer than `LIFE` readings.
 pub fn lives_end_with_the_heap()
     ensures { (h : Historian) (l : Limits) (xs : List ℕ) → Keeps h l xs
         → (length xs < LIFE) ↔ HasLeft h.heap (New 1 1) }

@@ -1,5 +1,5 @@
-//! The event at a row whose kind the caller knows, who keeps the row: without the choice that `event`
-//! makes, the code of one row is small enough to be inlined.
+//! The event at a row whose kind the caller knows, who keeps the row: without the choice that
+//! `event` makes, the code of one row is small enough to be inlined.
 
 ghost use Rattle.std.specs.Prelude.{◌≡◌};
 ghost use Rattle.block_store.specs.Places.{extent};
