@@ -2,8 +2,9 @@
 
 use atom_board::Closed;
 use board_jobs::Meeting;
+use heap_system::{NoPace, Pace};
 use lent_calls::{Call, Lent};
-use never_heap::{Command, Logs, NoPace, Pace};
+use never_heap::{Command, Logs};
 use rt_handles::handles;
 use rt_tags::tags;
 use std::alloc::Global;

@@ -2,8 +2,8 @@
 //! other.
 
 use crate::calling::{Program, ends, made, meets, reads_no_more, records_at};
+use heap_system::NoPace;
 use lent_calls::Call;
-use never_heap::NoPace;
 use std::alloc::Global;
 use std::process::Abort;
 use std::sync::Wait;

@@ -1,8 +1,8 @@
 //! Whole calls of `tags`: the lines that they write, their statuses, and threads beside each other.
 
 use crate::calling::{Program, ends, made, meets, reads_no_more, records_at};
+use heap_system::NoPace;
 use lent_calls::Call;
-use never_heap::NoPace;
 use std::alloc::Global;
 use std::collections::HashSet;
 use std::process::Abort;

@@ -4,8 +4,9 @@
 use crate::deeds::{Deed, walked};
 use crate::replaying::{Replayed, replay_of};
 use block_store::OutOfMemory;
+use heap_system::NoPace;
 use lent_calls::{Call, Lent};
-use never_heap::{Entry, Logs, NoPace};
+use never_heap::{Entry, Logs};
 use rand_core::utils::NextWord;
 use rand_pcg::Lcg64Xsh32;
 use rt_tags::{script_of, tags};

@@ -7,7 +7,7 @@ use Rattle.exit_statuses.specs.Exits.{IsDue}
 use Rattle.exit_statuses.specs.Refusals.{AreNone, status_of, IsReadWhole, IsReadRefusal, HasRead}
 use Rattle.exit_statuses.specs.Sides.{Sides, IsUnfailed}
 use Rattle.exit_statuses.proofs.ExitStatuses.{AreApart}
-use Rattle.exit_statuses.proofs.WholeTexts.{few_taken, refused_unread}
+use Rattle.exit_statuses.proofs.WholeTexts.{few_taken, refused_unread, has_read}
 use Rattle.scripts.specs.Scripts.{Reads}
 use Rattle.scripts.proofs.ScriptOrBadLine.{never_both, scripts_are_one}
 use Rattle.trace_text.specs.Reading.{tokenized}
@@ -66,15 +66,11 @@ module _ {Op : Type 0} (kind : Kind Op) (reads : Reads (language kind) (IsHeader
 
 module _ (source : Sides) (text : List ℕ) (whole : IsReadWhole input_limit source text)
     (still : IsUnfailed source) where
-  -- what holds of the text was read
-  has_read : (P : List ℕ → Type 0) → P text → HasRead input_limit P source
-  has_read P p = record { text = text; whole = whole; holds = p; unfailed = still }
-
   -- the refusal of a text that is no script has its cause
   pub refused_by_text : {Op : Type 0} (kind : Kind Op) (fault : Fault)
       → Blames (IsFirstBad kind (tokenized text)) fault → IsCause kind [] source (refusal_of fault)
   refused_by_text kind (BadLine n) bad =
-      (refl, has_read (λ b. IsFirstBad kind (tokenized b) n) bad)
+      (refl, has_read source text whole still (λ b. IsFirstBad kind (tokenized b) n) bad)
   refused_by_text kind OutOfMemory bad = (refl, (few_taken input_limit source text whole, still))
 
   -- and a text that is a script was read as that

@@ -1,5 +1,5 @@
 -- The vectors of a vector, seen as a list of lists.
-use Rattle.std.proofs.Common.{◌≡◌, ℕ, zero, suc, ◌<◌, List, [], ◌∷◌, ◌++◌, length, get_or, map, refl, sym, ap, ◌∙◌, arith}
+use Rattle.std.proofs.Common.{◌≡◌, ℕ, List, [], ◌∷◌, ◌++◌, get_or, map, sym, ap, ◌∙◌}
 use Rattle.std.proofs.lemmas.List.{map-append}
 use Rattle.std.proofs.Math.ListN.{get_or-map}
 
@@ -11,10 +11,3 @@ pub pushed_items : {V X : Type 0} (vs new : List V) (v : V) (x : List X) → new
     → (f : V → List X) → f v ≡ x → map f new ≡ map f vs ++ x ∷ []
 pushed_items vs new v x is f same =
     ap (map f) is ∙ map-append f vs (v ∷ []) ∙ ap (λ y. map f vs ++ y ∷ []) same
-
--- an element that is there is the same by any default
-pub same_default : {X : Type 0} (xs : List X) (t : ℕ) (d e : X) → t < length xs
-    → get_or xs t d ≡ get_or xs t e
-same_default [] t d e low = absurd (omega arith)
-same_default (x ∷ xs) zero d e low = refl
-same_default (x ∷ xs) (suc t) d e low = same_default xs t d e (omega arith)

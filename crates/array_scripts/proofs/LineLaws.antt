@@ -2,13 +2,17 @@
 -- holds of each operation.
 use Rattle.std.proofs.Common.{◌≡◌, ℕ, ◌<◌, ◌≤◌, ◌^◌, ◌==◌, ◌&&◌, ltb, Bool, true, false, cond, Option, Some, None, List, [], ◌∷◌, length, codes, decimal, eq-eqb, refl, ap, ◌∙◌, subst, arith}
 use Rattle.std.proofs.lemmas.Bool.{eqb-true, ltb-true, lt-ltb}
+use Rattle.std.proofs.lemmas.Option.{cond_some}
 use Rattle.scripts.specs.Scripts.{Said, Thread, Told, End, Language, line_of, Stands, Reads}
+use Rattle.scripts.proofs.ScriptOrBadLine.{some_is}
 use Rattle.trace_text.specs.Headers.{behind_at, labelled_at}
 use Rattle.trace_text.specs.Reading.{◌>>=◌, number_at, no_more_of, one_token_of}
 use Rattle.trace_text.proofs.NumberLaws.{number_sound, number_complete}
+use Rattle.trace_text.proofs.Binds.{bind_then}
 use Rattle.array_scripts.specs.declared.header.Header.{Header}
 use Rattle.array_scripts.specs.Kinds.{Kind, Tokens, header_line, IsHeader, Fits, ranged, header_at, thread_at, end_at, told_at, line_at, language}
-use Rattle.array_scripts.proofs.TokenLaws.{bind_then, then_some, and_parts, some_is, chosen, ranged_sound, ranged_again, none_of, one_of, behind_of, labelled_of, behind_again, labelled_again}
+use Rattle.array_scripts.proofs.TokenLaws.{and_parts, chosen, ranged_sound, ranged_again, none_of, one_of}
+use Rattle.trace_text.proofs.LabelLaws.{behind_complete, behind_sound, labelled_complete, labelled_sound}
 
 -- What a kind owes: of its operations each is read as it is spelled, where it can stand, and no
 -- line of one begins as that of a thread or the end does.
@@ -42,9 +46,9 @@ module _ {Op : Type 0} (kind : Kind Op) (reads : ReadsOps kind) where
       bind_then (ranged 1 16 r3.0) _ h e6 (λ n is7 e7.
       bind_then (ranged 1 kind.most_places r4.0) _ h e7 (λ size is8 e8.
       bind_then (ranged 1 65535 r5.0) _ h e8 (λ m is9 e9.
-      header_of l h r1 r2 r3 r4 r5 n size m (behind_of kind.name l r1 is1)
-      (behind_of (codes "1") r1 r2 is2) (labelled_of (codes "threads") r2 r3 is3)
-      (labelled_of kind.label r3.1 r4 is4) (labelled_of (codes "blocks") r4.1 r5 is5)
+      header_of l h r1 r2 r3 r4 r5 n size m (behind_sound kind.name l r1 is1)
+      (behind_sound (codes "1") r1 r2 is2) (labelled_sound (codes "threads") r2 r3 is3)
+      (labelled_sound kind.label r3.1 r4 is4) (labelled_sound (codes "blocks") r4.1 r5 is5)
       (none_of r5.1 u is6) (ranged_sound 1 16 r3.0 n is7)
       (ranged_sound 1 kind.most_places r4.0 size is8) (ranged_sound 1 65535 r5.0 m is9)
       (some_is e9))))))))))
@@ -79,12 +83,12 @@ module _ {Op : Type 0} (kind : Kind Op) (reads : ReadsOps kind) where
       → header_at kind.name kind.label kind.most_places (header_line kind h) ≡ Some h
   unfolding header_at no_more_of
   header_again h is =
-      ap (λ o. o >>= λ r. behind_at (codes "1") r >>= rest_of) (behind_again kind.name _)
-      ∙ ap (λ o. o >>= rest_of) (behind_again (codes "1") _)
-      ∙ ap (λ o. o >>= places_of) (labelled_again (codes "threads") _ _)
-      ∙ ap (λ o. o >>= blocks_of (decimal h.threads)) (labelled_again kind.label _ _)
+      ap (λ o. o >>= λ r. behind_at (codes "1") r >>= rest_of) (behind_complete kind.name _)
+      ∙ ap (λ o. o >>= rest_of) (behind_complete (codes "1") _)
+      ∙ ap (λ o. o >>= places_of) (labelled_complete (codes "threads") _ _)
+      ∙ ap (λ o. o >>= blocks_of (decimal h.threads)) (labelled_complete kind.label _ _)
       ∙ ap (λ o. o >>= numbers_of (decimal h.threads) (decimal h.places))
-      (labelled_again (codes "blocks") _ _)
+      (labelled_complete (codes "blocks") _ _)
       ∙ ap (λ o. o >>= λ n. ranged 1 kind.most_places (decimal h.places) >>= λ size.
       ranged 1 65535 (decimal h.blocks) >>= λ m. Some (make n size m))
       (ranged_again 1 16 h.threads is.some_thread is.threads (omega arith))
@@ -126,7 +130,7 @@ module _ {Op : Type 0} (kind : Kind Op) (reads : ReadsOps kind) where
   thread_sound h t before first tokens x is e =
       bind_then (one_token_of tokens) _ x e (λ token is1 e1.
       bind_then (number_at token) _ x e1 (λ u is2 e2.
-      let kept = then_some ((u == t) && ltb t h.threads) (Thread u) x e2 in
+      let kept = cond_some ((u == t) && ltb t h.threads) (Thread u) x e2 in
       let parts = and_parts (u == t) (ltb t h.threads) kept.0 in
       subst (λ (y : Said Op). Sound h t before (first ∷ tokens) y) kept.1 (
         (λ k. is k ∷ (one_of tokens token is1
@@ -140,7 +144,7 @@ module _ {Op : Type 0} (kind : Kind Op) (reads : ReadsOps kind) where
   unfolding end_at
   end_sound h t before first tokens x is e =
       bind_then (no_more_of tokens) _ x e (λ u is1 e1.
-      let kept = then_some (t == h.threads) End x e1 in
+      let kept = cond_some (t == h.threads) End x e1 in
       subst (λ (y : Said Op). Sound h t before (first ∷ tokens) y) kept.1
       ((λ k. is k ∷ none_of tokens u is1 k), eqb-true t h.threads kept.0))
 

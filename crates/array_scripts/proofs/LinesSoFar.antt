@@ -2,25 +2,13 @@
 use Rattle.std.proofs.Common.{◌≡◌, ℕ, ◌+◌, Option, Some, None, List, [], ◌∷◌, ◌++◌, sym, refl, ap, ◌∙◌, append_assoc}
 use Rattle.scripts.specs.Scripts.{Among, Said, Language, behind, front_op, told, told_next, or_bad, bad_line}
 use Rattle.trace_text.specs.Reading.{parted, Gives}
+use Rattle.trace_text.proofs.LabelLaws.{parted_some, parted_none}
 use Rattle.array_scripts.specs.declared.header.Header.{Header}
 use Rattle.array_scripts.specs.declared.line.Line.{Line}
 use Rattle.array_scripts.specs.declared.line.Line.TheVariants as lines
 use Rattle.array_scripts.specs.Kinds.{Kind, Tokens, line_at, language}
 use Rattle.array_scripts.specs.Parts.{with_front, IsSoFar, IsTurned, IsTurn}
 use Rattle.array_scripts.specs.Said.{said}
-
-pub parted_is : {A : Type 0} (xs : List A) (a : A) (others : List A)
-    → parted xs ≡ Some (a, others) → xs ≡ a ∷ others
-parted_is [] a others e = absurd cc
-parted_is {A} (x ∷ xs) a others e = ap (λ (o : Option (A × List A)). (or o).0 ∷ (or o).1) e
-  where
-    or : Option (A × List A) → A × List A
-    or None = (x, xs)
-    or (Some w) = w
-
-pub parted_none : {A : Type 0} (xs : List A) → parted xs ≡ None → xs ≡ []
-parted_none [] e = refl
-parted_none (x ∷ xs) e = absurd cc
 
 module _ {Op : Type 0} where
   with_none : (o : Option (List Op × List (List Op))) → o ≡ with_front [] o
@@ -61,7 +49,7 @@ module _ {Op : Type 0} (kind : Kind Op) where
         → line_at kind h t ops l ≡ Some (said line)
         → IsTurned kind h t n all ops line (m + 1) others
     turns l others line is says =
-        let first : ls ≡ l ∷ others = parted_is ls l others is in
+        let first : ls ≡ l ∷ others = parted_some ls l others is in
         record {
           bad = so_far.bad ∙ ap (bad_line lang (Among h t ops) m) first
               ∙ ap (λ o. or_bad (behind lang h t ops o) m
@@ -88,7 +76,7 @@ module _ {Op : Type 0} (kind : Kind Op) where
         → line_at kind h t ops l ≡ None → bad_line lang (Among h t []) n all ≡ Some m
     stops l others is says =
         so_far.bad
-        ∙ ap (bad_line lang (Among h t ops) m) (parted_is ls l others is)
+        ∙ ap (bad_line lang (Among h t ops) m) (parted_some ls l others is)
         ∙ ap (λ o. or_bad (behind lang h t ops o) m
         (λ q. bad_line lang q (m + 1) others)) says
 

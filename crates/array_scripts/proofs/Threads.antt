@@ -3,13 +3,13 @@ use Rattle.std.proofs.Common.{◌≡◌, ℕ, ◌+◌, Option, Some, None, List,
 use Rattle.scripts.specs.Scripts.{Language, Place, Start, Among, Reads, place_after, begins, begin_thread, told, told_next, or_bad, bad_line}
 use Rattle.scripts.proofs.ScriptOrBadLine.{told_is_script}
 use Rattle.trace_text.specs.Reading.{parted}
+use Rattle.trace_text.proofs.LabelLaws.{parted_some, parted_none}
 use Rattle.array_scripts.specs.declared.header.Header.{Header}
 use Rattle.array_scripts.specs.declared.line.Line.{Line}
 use Rattle.array_scripts.specs.declared.line.Line.TheVariants as lines
 use Rattle.array_scripts.specs.Kinds.{Kind, Tokens, language, IsHeader, Fits, IsScriptIn}
 use Rattle.array_scripts.specs.Parts.{with_front, with_scripts, IsTurned, IsTurn, HasTold, AreRead}
 use Rattle.array_scripts.specs.Said.{said}
-use Rattle.array_scripts.proofs.LinesSoFar.{parted_is, parted_none}
 
 module _ {Op : Type 0} (kind : Kind Op) where
   abbrev lang : Language Tokens Header (List Op) Op
@@ -160,7 +160,7 @@ module _ {Op : Type 0} (kind : Kind Op) where
       → bad_line lang (Among h 0 []) 2 all ≡ Some m
   bad_behind h all before scripts m rest l others read some =
       read.bad ∙ ap (λ (ls : List Tokens). bad_line lang Rattle.scripts.specs.Scripts.Done m ls)
-      (parted_is rest l others some)
+      (parted_some rest l others some)
 
   -- ---- a header and what is behind it
 
@@ -168,7 +168,7 @@ module _ {Op : Type 0} (kind : Kind Op) where
       (others : List Tokens) (h : Header) (scripts : List (List Op)) → parted all ≡ Some (l, others) → lang.header_at l ≡ Some h
       → HasTold kind h others scripts → IsScriptIn kind all h scripts
   script_is reads all l others h scripts is head told_so =
-      subst (λ (ls : List Tokens). IsScriptIn kind ls h scripts) (sym (parted_is all l others is))
+      subst (λ (ls : List Tokens). IsScriptIn kind ls h scripts) (sym (parted_some all l others is))
       (told_is_script lang (IsHeader kind) (Fits kind) reads h l others told_so.before scripts head
       told_so.tells)
 
@@ -176,7 +176,7 @@ module _ {Op : Type 0} (kind : Kind Op) where
       → parted all ≡ Some (l, others) → lang.header_at l ≡ None
       → bad_line lang Start 1 all ≡ Some 1
   bad_header all l others is none =
-      ap (bad_line lang Start 1) (parted_is all l others is)
+      ap (bad_line lang Start 1) (parted_some all l others is)
       ∙ ap (λ o. or_bad (begins lang o) 1 (λ q. bad_line lang q (1 + 1) others)) none
 
   pub no_header : (all : List Tokens) → parted all ≡ None → bad_line lang Start 1 all ≡ Some 1
@@ -187,6 +187,6 @@ module _ {Op : Type 0} (kind : Kind Op) where
       → bad_line lang (Among h 0 []) 2 others ≡ Some n
       → bad_line lang Start 1 all ≡ Some n
   bad_later all l others h n is head bad =
-      ap (bad_line lang Start 1) (parted_is all l others is)
+      ap (bad_line lang Start 1) (parted_some all l others is)
       ∙ ap (λ o. or_bad (begins lang o) 1 (λ q. bad_line lang q (1 + 1) others)) head
       ∙ bad

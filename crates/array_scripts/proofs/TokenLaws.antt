@@ -2,25 +2,13 @@
 use Rattle.std.proofs.Common.{◌≡◌, ℕ, ◌<◌, ◌≤◌, ◌^◌, ◌&&◌, ◌||◌, ltb, Bool, true, false, cond, Option, Some, None, List, [], ◌∷◌, decimal, bytes_eq, refl, sym, ap, ◌∙◌, subst, arith}
 use Rattle.std.proofs.lemmas.Bool.{ltb-true, ltb-false, lt-ltb, le-ltb}
 use Rattle.std.proofs.lemmas.Slice.Eq.{bytes_eq-Decides}
+use Rattle.std.proofs.lemmas.Option.{cond_some}
 use Rattle.trace_text.specs.Headers.{behind_at, labelled_at}
 use Rattle.trace_text.specs.Reading.{◌>>=◌, parted, number_at, no_more_of, one_token_of, two_tokens_of, three_tokens_of}
 use Rattle.trace_text.proofs.NumberLaws.{number_sound, number_complete}
+use Rattle.trace_text.proofs.Binds.{bind_then}
+use Rattle.scripts.proofs.ScriptOrBadLine.{some_is}
 use Rattle.array_scripts.specs.Kinds.{Tokens, ranged, below}
-
--- a step that gave something
-pub bind_then : {A B P : Type 0} (o : Option A) (f : A → Option B) (y : B) → (o >>= f) ≡ Some y
-    → ((x : A) → o ≡ Some x → f x ≡ Some y → P) → P
-bind_then None f y e k = absurd cc
-bind_then (Some x) f y e k = k x refl e
-
-pub then_some : {A : Type 0} (b : Bool) (x y : A) → cond b (Some x) None ≡ Some y
-    → (b ≡ true) × (x ≡ y)
-then_some true x y e = (refl, ap (from x) e)
-  where
-    from : {B : Type 0} → B → Option B → B
-    from z None = z
-    from z (Some w) = w
-then_some false x y e = absurd cc
 
 pub else_some : {A : Type 0} (b : Bool) (x y : A) → cond b None (Some x) ≡ Some y
     → (b ≡ false) × (x ≡ y)
@@ -67,7 +55,7 @@ pub below_sound : (most : ℕ) (token : List ℕ) (n : ℕ) → below most token
 unfolding below
 below_sound most token n e =
     bind_then (number_at token) _ n e (λ m is kept.
-    let low = then_some (ltb m most) m n kept in
+    let low = cond_some (ltb m most) m n kept in
     let spelled = number_sound token m is in
     (spelled.0 ∙ ap decimal low.1, subst (λ (k : ℕ). k < most) low.1 (ltb-true m most low.0)))
 
@@ -120,29 +108,6 @@ three_of (a ∷ b ∷ c ∷ []) p e =
     or (Some w) = w
 three_of (a ∷ b ∷ c ∷ d ∷ tokens) p e = absurd cc
 
-pub behind_of : (word : List ℕ) (tokens rest : Tokens) → behind_at word tokens ≡ Some rest
-    → tokens ≡ word ∷ rest
-unfolding behind_at
-behind_of word [] rest e = absurd cc
-behind_of word (first ∷ others) rest e =
-    let t = then_some (bytes_eq first word) others rest e in
-    (λ k. (bytes_eq-Decides first word).0 t.0 k ∷ t.1 k)
-
-pub labelled_of : (word : List ℕ) (tokens : Tokens) (p : List ℕ × Tokens)
-    → labelled_at word tokens ≡ Some p → tokens ≡ word ∷ p.0 ∷ p.1
-unfolding labelled_at
-labelled_of word tokens p e =
-    bind_then (behind_at word tokens) _ p e (λ rest is more.
-    behind_of word tokens rest is ∙ ap (λ (l : Tokens). word ∷ l) (split rest more))
-  where
-    split : (rest : Tokens) → parted rest ≡ Some p → rest ≡ p.0 ∷ p.1
-    split [] f = absurd cc
-    split (a ∷ others) f = ap (λ (o : Option (List ℕ × Tokens)). (or o).0 ∷ (or o).1) f
-      where
-        or : Option (List ℕ × Tokens) → List ℕ × Tokens
-        or None = (a, others)
-        or (Some w) = w
-
 -- a choice by the first token
 pub chosen : {A : Type 0} {P : Type 0} (first word : List ℕ) (a b : Option A) (x : A)
     → cond (bytes_eq first word) a b ≡ Some x → (first ≡ word → a ≡ Some x → P)
@@ -153,25 +118,7 @@ chosen {A} {P} first word a b x e here there = go (bytes_eq first word) refl e
     go true is f = here ((bytes_eq-Decides first word).0 is) f
     go false is f = there f
 
-pub some_is : {A : Type 0} {x y : A} → Some x ≡ Some y → x ≡ y
-some_is {A} {x} {y} f = ap (λ (o : Option A). or o) f
-  where
-    or : Option A → A
-    or None = x
-    or (Some w) = w
-
 -- ---- and what is spelled is read
-
-pub behind_again : (word : List ℕ) (rest : Tokens) → behind_at word (word ∷ rest) ≡ Some rest
-unfolding behind_at
-behind_again word rest =
-    ap (λ (b : Bool). cond b (Some rest) None) ((bytes_eq-Decides word word).1 refl)
-
-pub labelled_again : (label token : List ℕ) (rest : Tokens)
-    → labelled_at label (label ∷ token ∷ rest) ≡ Some (token, rest)
-unfolding labelled_at
-labelled_again label token rest =
-    ap (λ (o : Option Tokens). o >>= parted) (behind_again label (token ∷ rest))
 
 -- ---- a word with one place
 

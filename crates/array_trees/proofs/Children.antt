@@ -4,10 +4,11 @@ use Rattle.std.specs.Bool.{then_some}
 use Rattle.std.proofs.lemmas.Bool.{cases_lt, lt-ltb, le-ltb}
 use Rattle.block_store.specs.declared.Width.{Width}
 use Rattle.block_store.specs.Widths.{payloads}
+use Rattle.block_store.proofs.Registers.{many}
 use Rattle.object_lists.specs.Parts.{link_in, link_below}
 use Rattle.array_trees.specs.Trees.{leaves}
 use Rattle.array_trees.specs.Levels.{level_size, level_start, part_from, array_part, array_depth}
-use Rattle.array_trees.proofs.Counts.{le-tree, tree_few, many}
+use Rattle.array_trees.proofs.Counts.{le-tree, tree_few}
 use Rattle.array_trees.proofs.Parts.{IsLevels, stop_le, at_here, at_below}
 use Rattle.array_trees.proofs.Arrays.{array_levels}
 

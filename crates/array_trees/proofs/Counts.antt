@@ -7,7 +7,7 @@ use Rattle.std.proofs.lemmas.Bool.{cases_lt, lt-ltb, le-ltb}
 use Rattle.block_store.specs.declared.Width.{Width}
 use Rattle.block_store.specs.declared.Width.TheVariants.{Four, Eight}
 use Rattle.block_store.specs.Widths.{payloads}
-use Rattle.block_store.proofs.Registers.{wide}
+use Rattle.block_store.proofs.Registers.{many}
 use Rattle.array_trees.specs.Trees.{blocks_over, leaves, tree_within, tree, IsTree, array_blocks}
 
 -- how std rounds up
@@ -128,10 +128,6 @@ few_shared Four e few =
     omega arith
 few_shared Eight e few =
     omega (arith, twice_within (leaves 8 e) (leaves 8 e) (omega arith) (omega arith))
-
--- by the width
-pub many : (w : Width) → 1 < payloads w
-many w = omega (arith, (wide w).0)
 
 pub width_over_less : (w : Width) (q : ℕ) → 1 < q → blocks_over (payloads w) q < q
 width_over_less w q some = over_less (payloads w) q (many w) some

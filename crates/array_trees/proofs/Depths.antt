@@ -5,10 +5,11 @@ use Rattle.std.proofs.lemmas.Bool.{cases_lt}
 use Rattle.block_store.specs.declared.Width.{Width}
 use Rattle.block_store.specs.declared.Width.TheVariants.{Four, Eight}
 use Rattle.block_store.specs.Widths.{payloads}
+use Rattle.block_store.proofs.Registers.{many}
 use Rattle.array_trees.specs.Trees.{blocks_over, leaves}
 use Rattle.array_trees.specs.Levels.{level, level_size, array_part, array_depth, array_way, array_turn}
 use Rattle.object_lists.specs.Parts.{Link, Field}
-use Rattle.array_trees.proofs.Counts.{div-over, many}
+use Rattle.array_trees.proofs.Counts.{div-over}
 use Rattle.array_trees.proofs.Arrays.{depth_is, level-suc, tree_is_way}
 
 pub level-next : (w q h : ℕ) → level w q (h + 1) ≡ blocks_over w (level w q h)

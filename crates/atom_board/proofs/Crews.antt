@@ -11,11 +11,10 @@ use Rattle.block_store.specs.Phases.{cycle_of}
 use Rattle.block_store.specs.Places.{extent, words_count}
 use Rattle.never_heap.specs.declared.Command.{Command}
 use Rattle.never_heap.specs.declared.Entry.{Entry}
-use Rattle.heap_system.specs.Locals.{LocalState, is_done, at_start}
+use Rattle.heap_system.specs.Locals.{LocalState, is_done}
 use Rattle.heap_system.specs.Machines.{State, no_local, IsJob, IsOpening}
 use Rattle.heap_system.specs.Systems.{Whole, traces_of}
-use Rattle.heap_system.proofs.Always.{here}
-use Rattle.heap_system.proofs.SystemStart.{length_starts}
+use Rattle.heap_system.proofs.Always.{here, start_count, start_at}
 use Rattle.atom_board.specs.declared.rules.Held.{Held}
 use Rattle.atom_board.specs.declared.rules.View.{View}
 use Rattle.atom_board.specs.Boards.{BoardKept, first_view, one_view}
@@ -75,29 +74,23 @@ map_map f g [] = refl
 map_map f g (x ∷ l) = ap (λ ys. g (f x) ∷ ys) (map_map f g l)
 
 module _ (c : Config) (traces : List (List Command)) (job : IsJob c traces) (s : State) (start : IsOpening c traces s) where
-  pub start_count : length s.locals ≡ c.threads
-  start_count = ap length start.locals ∙ length_starts c start.rate start.space 0 traces ∙ job.bounds.threads
-
-  pub start_at : (i : ℕ) (d : LocalState) → i < length s.locals → get_or s.locals i d ≡ at_start c start.rate (start.space i) i (get_or traces i [])
-  start_at i d low = get_or_default s.locals i d (no_local c) low ∙ here c traces job s start i (omega (arith, start_count))
-
   pub start_words : (ws : ℕ) → ws ≡ length s.words → (i : ℕ) (d : LocalState) → i < length s.locals → words_count (extent (get_or s.locals i d).config) ≡ ws
-  start_words ws long i d low = ap (λ (l : LocalState). words_count (extent l.config)) (start_at i d low) ∙ sym (long ∙ start.count)
+  start_words ws long i d low = ap (λ (l : LocalState). words_count (extent l.config)) (start_at c traces job s start i d low) ∙ sym (long ∙ start.count)
 
   pub start_in_order : (id : TableId) (d : MutatorState) → AreInOrder (record { id = id; config = c; traces = traces }) (map (start_mutator id) s.locals)
   start_in_order id d = record {
-    count = length-map s.locals (start_mutator id) ∙ start_count;
+    count = length-map s.locals (start_mutator id) ∙ start_count c traces job s start;
     each = λ t d low.
         (let tl : t < length s.locals = omega (arith, length-map s.locals (start_mutator id)) in
         let e = get_or_map (start_mutator id) s.locals t d (no_local c) tl in
-        (ap (λ (h : MutatorState). h.board) e, ap (λ (h : MutatorState). h.local.thread) e ∙ ap (λ (l : LocalState). l.thread) (start_at t (no_local c) tl)));
+        (ap (λ (h : MutatorState). h.board) e, ap (λ (h : MutatorState). h.local.thread) e ∙ ap (λ (l : LocalState). l.thread) (start_at c traces job s start t (no_local c) tl)));
   }
 
   pub start_fresh : (id : TableId) → AreFresh c traces (map (start_mutator id) s.locals)
   start_fresh id t d low =
       let tl : t < length s.locals = omega (arith, length-map s.locals (start_mutator id)) in
       let e = get_or_map (start_mutator id) s.locals t d (no_local c) tl in
-      let a = start_at t (no_local c) tl in
+      let a = start_at c traces job s start t (no_local c) tl in
       record {
         config = ap (λ (h : MutatorState). h.local.config) e ∙ ap (λ (l : LocalState). l.config) a;
         turns = ap (λ (h : MutatorState). h.turns) e;
@@ -106,7 +99,7 @@ module _ (c : Config) (traces : List (List Command)) (job : IsJob c traces) (s :
       }
 
   pub start_few : (i : ℕ) (d : LocalState) → i < length s.locals → EndsAlone (get_or s.locals i d) 0
-  start_few i d low = in_time_at_first c s i (get_or s.locals i d) (opened_after c traces s job start) (omega (arith, start_count)) (get_or_default s.locals i d (no_local c) low) (ap (λ (l : LocalState). l.config) (start_at i d low))
+  start_few i d low = in_time_at_first c s i (get_or s.locals i d) (opened_after c traces s job start) (omega (arith, start_count c traces job s start)) (get_or_default s.locals i d (no_local c) low) (ap (λ (l : LocalState). l.config) (start_at c traces job s start i d low))
 
 -- the system from which a table is made
 pub opens_of : (k : Whole) (c : Config) (traces : List (List Command)) (ws : List ℕ) → k.config ≡ c → IsJob c traces → IsOpening c traces k.state → ws ≡ k.state.words → BoardKept k (table.opening ws [] (first_view k))

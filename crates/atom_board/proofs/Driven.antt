@@ -1,5 +1,5 @@
 -- A thread that is driven on.
-use Rattle.std.proofs.Common.{ℕ, ◌+◌, List, [], ◌∷◌, ◌++◌, refl, sym, subst, arith}
+use Rattle.std.proofs.Common.{ℕ, ◌+◌, List, [], ◌∷◌, ◌++◌, refl, subst, arith}
 use Rattle.atomic_table.specs.Table as table
 use Rattle.atomic_table.specs.Seated.{TableId}
 use Rattle.heap_machine.specs.declared.op.Op.{Op}
@@ -7,6 +7,7 @@ use Rattle.heap_machine.specs.Memories.{Acts}
 use Rattle.heap_system.specs.ThreadMemories.{HasRunOn, Ran}
 use Rattle.heap_system.specs.declared.Turn.{Turn}
 use Rattle.heap_system.specs.Locals.{LocalState, local_got, op_wanted, entries_of, effect, command_of}
+use Rattle.heap_system.proofs.Runs.{ran_on}
 use Rattle.atom_board.specs.declared.rules.View.{View}
 use Rattle.atom_board.specs.Boards.{turns_in}
 use Rattle.atom_board.specs.ThreadMemories.{one_more, still_has}
@@ -14,15 +15,6 @@ use Rattle.atom_board.specs.Drives.{HasDriven, MadeTurns}
 use Rattle.atom_board.specs.Mutators.{MutatorState, IsLater}
 use Rattle.atom_board.specs.Ports.{HasThread, HasTurned}
 use Rattle.atom_board.proofs.Laters.{later_on, later_same}
-
--- two courses of a memory, one behind the other
-ran_on : {M S : Type 0} (acts : Acts M S) (s : S) (m : M) (l : LocalState) (ws : List ℕ) (n : M)
-    (k : LocalState) (vs : List ℕ) (o : M) (j : LocalState)
-    → Ran acts s m l ws n k → Ran acts s n k vs o j → Ran acts s m l (ws ++ vs) o j
-ran_on acts s m l [] n k vs o j ran rest =
-    subst (λ x. Ran acts s x l vs o j) (sym ran.0) (subst (λ y. Ran acts s n y vs o j) (sym ran.1) rest)
-ran_on acts s m l (w ∷ ws) n k vs o j ran rest =
-    (ran.0, ran.1, ran.2, ran_on acts s ran.0 (local_got l w) ws n k vs o j ran.3 rest, ran.4)
 
 pub driven_none : {M S : Type 0} (acts : Acts M S) (s : S) (m : M) (l : LocalState)
     → HasDriven acts s m l m l

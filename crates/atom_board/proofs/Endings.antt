@@ -82,7 +82,7 @@ ended k s id v kept at long numbered done =
     (subst (λ x. IsEndedBy c (traces_of st) v.locals x cycles) (ap (map (λ (l : LocalState). l.log)) (sym all) ∙ logs_map v.locals) whole)
 
 -- the word that is read at place 0 is the phase word
-first_word : (ws : List ℕ) (w : ℕ) → get_elem? ws 0 ≡ some w → get_or ws 0 0 ≡ w
+pub first_word : (ws : List ℕ) (w : ℕ) → get_elem? ws 0 ≡ some w → get_or ws 0 0 ≡ w
 first_word [] w e = absurd (some-ne-none w (sym e))
 first_word (x ∷ ws) w e = some-injective x w e
 

@@ -14,7 +14,7 @@ use Rattle.heap_system.proofs.SystemStart.{opened_traces}
 use Rattle.atom_board.specs.declared.rules.View.{View}
 use Rattle.atom_board.specs.Boards.{IsStateAfter, AllFit, helds_of, BoardKept, start_held, first_view}
 
-at_length : (ls gs : List LocalState) (l d : LocalState) → l ≡ get_or (ls ++ l ∷ gs) (length ls) d
+pub at_length : (ls gs : List LocalState) (l d : LocalState) → l ≡ get_or (ls ++ l ∷ gs) (length ls) d
 at_length [] gs l d = refl
 at_length (x ∷ ls) gs l d = at_length ls gs l d
 

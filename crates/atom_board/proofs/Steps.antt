@@ -13,9 +13,9 @@ use Rattle.heap_machine.specs.declared.op.Op.{Op}
 use Rattle.heap_machine.specs.declared.op.Op.TheVariants as ops
 use Rattle.heap_machine.specs.Operations.{op_place, words_after, SumFits}
 use Rattle.heap_system.specs.Locals.{LocalState, is_done, part_step, turn_of, local_got, op_wanted}
-use Rattle.heap_system.specs.Machines.{State, Run, no_local, local_at, next, turned, after_turns, opened, IsJob, IsRunOf}
+use Rattle.heap_system.specs.Machines.{State, no_local, local_at, next, turned, opened, IsJob, IsRunOf}
 use Rattle.heap_system.specs.Systems.{Whole, traces_of, IsReached}
-use Rattle.heap_system.proofs.TurnFacts.{reached_kept, turned_traces, turn_facts, turn_made}
+use Rattle.heap_system.proofs.TurnFacts.{reached_kept, turned_traces, turn_facts, turn_made, after_last}
 use Rattle.atom_board.proofs.InTime.{in_time, own_more, few_more}
 use Rattle.atom_board.specs.LoneTurns.{EndsAlone}
 use Rattle.atom_board.specs.declared.rules.Held.{Held}
@@ -42,10 +42,6 @@ one_write (ops.FetchSub i v) ws fits low = ap (set ws i) (difference_mod (get_or
 times_last : (t u : ℕ) (ts : List ℕ) → times t (ts ++ u ∷ []) ≡ times t ts + bit (eqb t u)
 times_last t u [] = omega arith
 times_last t u (v ∷ ts) = omega (arith, times_last t u ts)
-
-after_last : (c : Config) (r : Run) (ts : List ℕ) (t : ℕ) → after_turns c r (ts ++ t ∷ []) ≡ next c t (after_turns c r ts)
-after_last c r [] t = refl
-after_last c r (u ∷ ts) t = after_last c (next c u r) ts t
 
 -- one turn more
 turned_after : (c : Config) (ts : List ℕ) (s : State) (t : ℕ) → IsStateAfter c ts s → IsStateAfter c (ts ++ t ∷ []) (turned c t s)

@@ -5,8 +5,7 @@ ghost use Rattle.heap_system.specs.Locals.{is_done};
 ghost use Rattle.atom_board.specs.Drives.{HasDriven};
 
 use crossbeam_utils::Backoff;
-use heap_system::{Local, ThreadMemory, Turn};
-use never_heap::Pace;
+use heap_system::{Local, Pace, ThreadMemory, Turn};
 use std::sync::Wait;
 use std::thread;
 

@@ -8,6 +8,10 @@ use Rattle.block_store.specs.declared.Value.TheVariants as values
 use Rattle.never_heap.specs.declared.Reply.TheVariants as replies
 use Rattle.never_heap.proofs.StepAnswers.{makers_have_blocks}
 
+pub both : (P : Bool → Type 0) (b : Bool) → P true → P false → P b
+both P true x y = x
+both P false x y = y
+
 pub either_is : {A : Type 0} (P : A → Type 0) (b : Bool) (q r : A) → (b ≡ true → P q) → (b ≡ false → P r)
     → P (cond b q r)
 either_is P true q r x y = x refl

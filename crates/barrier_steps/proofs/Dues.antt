@@ -6,13 +6,13 @@ use Rattle.block_store.specs.declared.Payload.TheVariants as payloads
 use Rattle.block_store.specs.declared.Value.TheVariants as values
 use Rattle.never_heap.specs.declared.Reply.TheVariants as replies
 use Rattle.never_heap.proofs.GraphMoves.{same_from, register_with_register}
-use Rattle.graph_relation.proofs.Names.{same_is}
 use Rattle.barrier_steps.proofs.Decisions.{Refused, value_there, answer_is, object_refused, shape_refused, get_is, put_is, swap_is, cas_is, constant_is, mov_is, same_step_is, say_is, idle_is, field_is, before_is, barrier_is, after_owner_is, goes_on, decided_once}
 use Rattle.graph_relation.specs.Read.{value_payload}
 use Rattle.barrier_steps.proofs.FieldRows.{to_low, get_takes, swap_takes, taken_register}
 use Rattle.barrier_steps.proofs.RowEvents.{swap_register, within, register_leaves, graph_stays}
 use Rattle.never_heap.proofs.FieldStores.{threads_with_field, registers_with_field}
 use Rattle.never_heap.proofs.StepChanges.{has_field}
+use Rattle.never_heap.proofs.NameLists.{one_name}
 use Rattle.barrier_steps.proofs.RowReads.{NameIs, name_is, row_shown}
 
 -- values with one payload are the same
@@ -27,7 +27,7 @@ one_payload head _ _ e apart = absurd cc
 one_value : (u v : Value) → same_value u v ≡ true → u ≡ v
 one_value values.Nil values.Nil h = refl
 one_value (values.Int m) (values.Int n) h = ap values.Int (eqb-true m n h)
-one_value (values.Ref a) (values.Ref b) h = ap values.Ref (same_is a b h)
+one_value (values.Ref a) (values.Ref b) h = ap values.Ref (one_name a b h)
 one_value _ _ h = absurd cc
 
 module _ (head : Name → ℕ) where

@@ -12,7 +12,7 @@ use Rattle.graph_relation.specs.Events.{ObjectLoad, unloaded, object_in, with_lo
 use Rattle.grey_steps.specs.declared.rows.GreyRow.TheVariants as greys
 use Rattle.barrier_steps.specs.Rows as rows
 use Rattle.barrier_steps.proofs.FieldRows.{to_low, from_low, wanted_low, way_is, payload_cases, reference, get_takes, swap_takes, taken_register}
-use Rattle.barrier_steps.proofs.Decisions.{before_is, barrier_is, field_is, either, graph_is, object_refused, shape_refused, Has, get_is, put_is, swap_is, cas_is, constant_is, mov_is, same_step_is, say_is, idle_is}
+use Rattle.barrier_steps.proofs.Decisions.{before_is, barrier_is, both, field_is, either, graph_is, object_refused, shape_refused, Has, get_is, put_is, swap_is, cas_is, constant_is, mov_is, same_step_is, say_is, idle_is}
 use Rattle.barrier_steps.specs.Projection.{carried_load, expected_load, value_load, pending_load}
 
 set_constant : (k : Command) → (value_word (λ b. 0) (constant_set k) ≡ constant_word k) × (IsCommandInRange k → IsConstant (constant_set k))
@@ -84,10 +84,6 @@ unmoved ls t l u e = elim (cases_eq t u) [
   | inl same ↦ rw (eq-eqb t u same) (ap ls (sym same) ∙ e)
   | inr ne ↦ rw (ne_eqb t u ne) refl
 ]
-
-both : (P : Bool → Type 0) (b : Bool) → P true → P false → P b
-both P true x y = x
-both P false x y = y
 
 -- what is loaded is there
 has_object : (s : GraphState) (t : ℕ) (o : ObjectLoad) → (s.loads t).object ≡ Some o → HasObject s t

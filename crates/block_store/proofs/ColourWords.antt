@@ -1,10 +1,12 @@
 -- What colour words say.
-use Rattle.std.proofs.Common.{inl, inr, subst, IfSome, ◌≡◌, ◌≢◌, ℕ, ◌+◌, ◌-◌, ◌*◌, ◌/◌, ◌%◌, Some, None, refl, arith, true, false, eqb, leb, eqb-true, ne_eqb, leb-true, ◌&&◌, ap, sym}
+use Rattle.std.proofs.Common.{inl, inr, subst, IfSome, ◌≡◌, ◌≢◌, ℕ, ◌+◌, ◌-◌, ◌*◌, ◌/◌, ◌%◌, Some, None, refl, arith, true, false, eqb, leb, eqb-true, ne_eqb, leb-true, ◌&&◌, ap, sym, ◌∙◌}
 use Rattle.std.proofs.lemmas.Bool.{cases_eq, cases_Bool, and_parts}
 use Rattle.std.proofs.lemmas.Bool.Decides.{nat_tests}
 use Rattle.block_store.specs.Colours.{IsColour, colour_code, colour_of, colour_link, colour_kind, free_word, grey_word, black_word, white_word, black_of, white_of, link, kind, is_free, is_grey}
 use Rattle.block_store.specs.declared.Colour.{Colour}
 use Rattle.block_store.specs.declared.Colour.TheVariants.{Free, Even, Odd, Grey}
+use Rattle.block_store.specs.Heaps.{Heap}
+use Rattle.block_store.specs.Places.{ColourOf}
 
 pub link-grey : (l : ℕ) → link (grey_word l) ≡ l
 unfolding link grey_word
@@ -200,3 +202,36 @@ pub reads : (w : ℕ) (c : Colour) → colour_of w ≡ Some c
 reads w c e = subst (λ o. IfSome o
     (λ d. IsColour d × (colour_code d ≡ w) × (colour_link d ≡ link w)
     × (colour_kind d ≡ kind w))) e (shown w)
+
+-- the kinds of colour are apart
+pub free_not_grey : (v : ℕ) → is_free v ≡ true → is_grey v ≡ false
+free_not_grey v free =
+    let w = free_is v (eqb-true (kind v) 0 free) in
+    subst (λ z. is_grey z ≡ false) (sym w) (not_grey_free (link v))
+
+pub free_grey : (w : ℕ) → is_free w ≡ true → is_grey w ≡ true → ⊥
+free_grey w f g =
+    let a : kind w ≡ 0 = eqb-true _ _ f in
+    let b : kind w ≡ 3 = eqb-true _ _ g in
+    omega arith
+
+pub black_grey : (c w : ℕ) → w ≡ black_word c → is_grey w ≡ true → ⊥
+black_grey c w b g =
+    let z : true ≡ false = sym (subst (λ v. is_grey v ≡ true) b g) ∙ not_grey_black c in cc
+
+pub white_grey : (c w : ℕ) → w ≡ white_word c → is_grey w ≡ true → ⊥
+white_grey c w b g =
+    let z : true ≡ false = sym (subst (λ v. is_grey v ≡ true) b g) ∙ not_grey_white c in cc
+
+pub white_black : (c w : ℕ) → w ≡ white_word c → w ≡ black_word c → ⊥
+white_black c w e b = black-white c (sym b ∙ e)
+
+pub black_solid : (c w : ℕ) → w ≡ black_word c → is_free w ≡ false
+black_solid c w b = subst (λ v. is_free v ≡ false) (sym b) (not_free_black c)
+
+pub white_solid : (c w : ℕ) → w ≡ white_word c → is_free w ≡ false
+white_solid c w b = subst (λ v. is_free v ≡ false) (sym b) (not_free_white c)
+
+-- the colour word of each block
+abbrev pub colours : Heap → ℕ → ℕ
+colours h x = h (ColourOf x)

@@ -1,11 +1,12 @@
 -- Places with one index are one, by the place that an index has.
-use Rattle.std.proofs.Common.{suc, mul_comm, mul-suc, ◌≡◌, ℕ, ◌+◌, ◌*◌, ◌-◌, ◌/◌, ◌%◌, ◌≤◌, ◌<◌, true, false, eqb, ltb, refl, arith, sym, ap, ◌∙◌, List, length, set, inl, inr, eqb-true, eq-eqb, get_or-set_same, get_or-set_other, ltb-true, leb-true}
-use Rattle.std.proofs.lemmas.Bool.{and_parts, cases_Bool}
+use Rattle.std.proofs.Common.{suc, mul_comm, mul-suc, ◌≡◌, ℕ, ◌+◌, ◌*◌, ◌-◌, ◌/◌, ◌%◌, ◌≤◌, ◌<◌, true, false, eqb, ltb, refl, arith, sym, ap, ◌∙◌, List, length, set, inl, inr, eqb-true, eq-eqb, get_or-set_same, get_or-set_other, ltb-true, leb-true, leb}
+use Rattle.std.proofs.lemmas.Bool.{and_parts, cases_Bool, and_from, le-leb}
 use Rattle.std.proofs.lemmas.Bool.Decides.{nat_tests}
 use Rattle.std.proofs.lemmas.Nat.{div-mul-add, mod-mul-add, mul-le}
-use Rattle.block_store.specs.Places.{Extent, Place, Phase, Cursor, FreeCount, GreyList, FreeList, ColourOf, OwnerOf, ShapeOf, PayloadOf, in_range, is_block, index, block_size, block_index, words_count, same_place, in_block, place_at}
+use Rattle.block_store.specs.Places.{Extent, Place, Phase, Cursor, FreeCount, GreyList, FreeList, ColourOf, OwnerOf, ShapeOf, PayloadOf, in_range, is_block, index, block_size, block_index, words_count, same_place, in_block, place_at, extent, IsBlock}
 use Rattle.block_store.specs.Widths.{payloads}
 use Rattle.block_store.specs.Heaps.{heap_of, put_at}
+use Rattle.block_store.specs.declared.Config.{Config}
 
 at_block : (e : Extent) (x k : ℕ) → 1 ≤ x → k < block_size e
     → place_at e (block_index e x + k) ≡ in_block x k
@@ -142,3 +143,14 @@ heap_of-set e ws p v inp long q = elim (cases_Bool (in_range e q)) [
 pub heap_of-put : (e : Extent) (ws : List ℕ) (p : Place) (v : ℕ) → in_range e p ≡ true
     → words_count e ≤ length ws → heap_of e (set ws (index e p) v) ≡ put_at (heap_of e ws) p v
 heap_of-put e ws p v inp long = λ i q. heap_of-set e ws p v inp long q i
+
+-- which numbers are blocks
+pub block_is : (e : Extent) (y : ℕ) → 1 ≤ y → y ≤ e.blocks → is_block e y ≡ true
+block_is e y some low = and_from _ _ (le-leb 1 y some) (le-leb y e.blocks low)
+
+pub block_in : (c : Config) (x : ℕ) → IsBlock c x → is_block (extent c) x ≡ true
+block_in c x h = let low : leb 1 x ≡ true = le-leb 1 x h.0 in rw low (le-leb x c.blocks h.1)
+
+-- a hand that is not 0 is a block
+pub hand_block : (c : Config) (a : ℕ) → (a ≡ 0 → ⊥) → a ≤ c.blocks → IsBlock c a
+hand_block c a ne high = (omega arith, high)

@@ -7,3 +7,4 @@ pub mod ColourWords
 pub mod PhaseWords
 pub mod Indexes
 pub mod Registers
+pub mod Totals

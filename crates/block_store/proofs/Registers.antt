@@ -173,3 +173,7 @@ pub register_thread_of : (w : Width) (t r : ℕ) → r < REGISTERS
     → register_thread w (register_block w t r) ≡ t
 register_thread_of Four t r h = omega arith
 register_thread_of Eight t r h = omega arith
+
+-- a block has several payloads
+pub many : (w : Width) → 1 < payloads w
+many w = omega (arith, (wide w).0)

@@ -64,6 +64,10 @@ index e (PayloadOf x j) = block_index e x + (3 + j)
 abbrev pub words_count : Extent → ℕ
 words_count e = 3 + 2 * e.threads + block_size e * e.blocks
 
+-- the bytes of a heap's words
+abbrev pub bytes : Config → ℕ
+bytes c = 8 * words_count (extent c)
+
 -- the place of block x whose word is k words behind the colour
 abbrev pub in_block : ℕ → ℕ → Place
 in_block x k =

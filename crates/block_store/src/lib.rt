@@ -4,6 +4,7 @@
 
 ghost use Rattle.std.specs.Prelude.{◌≡◌, ◌<◌, ◌≤◌, ◌↔◌, IsTrue};
 ghost use Rattle.block_store.specs.Configs.{IsInBounds};
+ghost use Rattle.block_store.specs.Places.{bytes};
 ghost use Rattle.block_store.specs.Registers.{root_block, register_block, register_slot, registers_end};
 ghost use Rattle.block_store.specs.Texts.{out_of_memory_text};
 ghost use Rattle.block_store.specs.Widths.{payloads, register_blocks};
@@ -163,6 +164,14 @@ impl Config {
             && self.live <= 65_535
             && (1..=1024).contains(&self.object)
             && self.shared <= 1024
+    }
+
+    /// How many bytes the words of the heap take.
+    pub fn bytes(&self) -> u32
+        requires { IsInBounds self.now }
+        ensures value { result ≡ bytes self.now }
+    {
+        8 * (3 + 2 * self.threads + (3 + self.width.payloads()) * self.blocks)
     }
 }
 

@@ -5,7 +5,8 @@ ghost use Rattle.heap_system.specs.Machines.{IsJob};
 ghost use Rattle.board_jobs.specs.Served.{HasSaid, shared_array};
 
 use block_store::{Config, Name, OutOfMemory, Value, Width};
-use never_heap::{Command, Entry, Logs, Pace, Reply};
+use heap_system::Pace;
+use never_heap::{Command, Entry, Logs, Reply};
 use std::alloc::Global;
 use std::sync::Wait;
 use std::sync::atomic::{AtomicU64, Ordering};

@@ -23,10 +23,6 @@ use Rattle.block_store.specs.Phases.{bit}
 use Rattle.block_store.specs.Counts.{times}
 use Rattle.build_steps.specs.Objects.{block_at}
 
-pub times_more : (xs : List ℕ) (x y : ℕ) → times y (xs ++ x ∷ []) ≡ bit (eqb y x) + times y xs
-times_more [] x y = omega arith
-times_more (z ∷ xs) x y = omega (arith, times_more xs x y)
-
 pub times_first : (xs : List ℕ) (o y : ℕ) → o < length xs
     → times y (take (suc o) xs) ≡ bit (eqb y (block_at xs o)) + times y (take o xs)
 times_first [] o y low = absurd (omega arith)

@@ -20,9 +20,8 @@ use Rattle.std.proofs.Common.{
   ne_eqb,
   List,
 }
-use Rattle.std.proofs.lemmas.Bool.{cases_eq}
 use Rattle.block_store.specs.declared.Config.{Config}
-use Rattle.block_store.specs.Colours.{is_free, is_grey, kind, link, black_word}
+use Rattle.block_store.specs.Colours.{is_free, black_word}
 use Rattle.block_store.proofs.ColourWords.{
   not_grey_black,
   not_free_black,
@@ -49,7 +48,8 @@ use Rattle.heap_machine.specs.Tricolour.{
   TricolourKept,
   is_of_tricolour,
 }
-use Rattle.block_store.proofs.Functions.{funext}
+use Rattle.block_store.proofs.Functions.{changed_self}
+use Rattle.block_store.proofs.ColourWords.{free_not_grey}
 use Rattle.heap_machine.proofs.GreyBlocks.{kept_other, kept_other_colour}
 use Rattle.heap_machine.proofs.Solids.{solid_other, solid_colour, solid_payload}
 use Rattle.heap_machine.proofs.Tricolours.{tricolour_other, kept_colour, kept_payload}
@@ -91,11 +91,6 @@ black_refers c h y black = record {
   dark = λ ne z. black-white c (sym (black ne) ∙ z);
   solid = λ ne. ap is_free (black ne) ∙ not_free_black c;
 }
-
-free_not_grey : (v : ℕ) → is_free v ≡ true → is_grey v ≡ false
-free_not_grey v free =
-    let w = free_is v (eqb-true (kind v) 0 free) in
-    subst (λ z. is_grey z ≡ false) (sym w) (not_grey_free (link v))
 
 module _ (c : Config) (h : Heap) (s : BuildState) (f : BuildFits c s) (k : Stands c.width h s) where
   payload_refers : (o j : ℕ) → s.row ≡ WritePayload o j
@@ -170,12 +165,6 @@ module _ (c : Config) (h : Heap) (s : BuildState) (P : Heap → Type 0) where
   row_rule Built e other refer colour f k free p = p
   row_rule Refused e other refer colour f k free p = p
 
-same_holding : {A : Type 0} (hs : ℕ → A) (t : ℕ) (w : A) → hs t ≡ w → changed hs t w ≡ hs
-same_holding hs t w e = funext _ _ (λ u. elim (cases_eq t u) [
-  | inl q ↦ rw (eq-eqb t u q) (sym e ∙ ap hs q)
-  | inr ne ↦ rw (ne_eqb t u ne) refl
-])
-
 no_grey_row : (k : ℕ) (held : List ℕ) (r : BuildRow) → grey_held (row_holding k held r) ≡ no_grey
 no_grey_row k held (TakeFree u) = refl
 no_grey_row k held (Collect a u) = refl
@@ -246,14 +235,14 @@ module _ (c : Config) (h : Heap) (hs : ℕ → Holding) (s : BuildState) (f : Bu
 
   grey_same : changed (λ u. grey_held (hs u)) s.thread (grey_held (build_holding next))
       ≡ (λ u. grey_held (hs u))
-  grey_same = same_holding (λ u. grey_held (hs u)) s.thread (grey_held (build_holding next))
+  grey_same = changed_self (λ u. grey_held (hs u)) s.thread (grey_held (build_holding next))
       (ap grey_held e ∙ holds_no_grey s ∙ sym (holds_no_grey next))
 
   tricolour_same : changed (λ u. tricolour_held (hs u)) s.thread
       (tricolour_held (build_holding next))
       ≡ (λ u. tricolour_held (hs u))
   tricolour_same =
-      same_holding (λ u. tricolour_held (hs u)) s.thread (tricolour_held (build_holding next))
+      changed_self (λ u. tricolour_held (hs u)) s.thread (tricolour_held (build_holding next))
       (ap tricolour_held e ∙ holds_no_tricolour s ∙ sym (holds_no_tricolour next))
 
   pub keeps_grey : GreyKept c.threads h (λ u. grey_held (hs u))

@@ -25,14 +25,15 @@ use Rattle.std.proofs.lemmas.Bool.{cases_Bool}
 use Rattle.block_store.specs.declared.Config.{Config}
 use Rattle.block_store.specs.declared.Width.{Width}
 use Rattle.block_store.specs.Widths.{payloads}
-use Rattle.object_lists.specs.Parts.{Part, Link, Field, Blank, link_in, field_below}
+use Rattle.block_store.proofs.Registers.{many}
+use Rattle.object_lists.specs.Parts.{link_in, field_below}
 use Rattle.object_lists.specs.Records.{record_part, list_part, room}
 use Rattle.object_lists.specs.Layouts.{IsLayout}
 use Rattle.object_lists.proofs.Lists.{record_layout}
+use Rattle.object_lists.proofs.Parts.{is_link}
 use Rattle.array_trees.specs.Levels.{array_part, array_slot}
 use Rattle.array_trees.specs.Trees.{array_blocks}
 use Rattle.array_trees.proofs.Arrays.{tree_layout}
-use Rattle.array_trees.proofs.Counts.{many}
 use Rattle.never_heap.specs.declared.Command.{Command}
 use Rattle.never_heap.specs.declared.Command.TheVariants.{New, Arr}
 use Rattle.never_heap.specs.Steps.{blocks_of}
@@ -53,12 +54,6 @@ list_links k f o j = elim (cases_Bool (ltb j k)) [
 pub other_field : (w : Width) (f o j : ℕ) → j ≢ 0 → link_in (record_part w f o j) ≡ None
 other_field w f o zero ne = absurd (ne refl)
 other_field w f o (suc j) ne = list_links (room w) f o j
-
--- a part that links is a link
-is_link : (p : Part) (q : ℕ) → link_in p ≡ Some q → p ≡ Link q
-is_link (Link o) q e = let same : o ≡ q = cc in ap Link same
-is_link (Field i) q e = absurd (let z : None ≡ Some q = e in cc)
-is_link Blank q e = absurd (let z : None ≡ Some q = e in cc)
 
 array_layout : (w : Width) (e : ℕ)
     → IsLayout (payloads w) e (array_blocks w e) (array_part w e) (array_slot w e)

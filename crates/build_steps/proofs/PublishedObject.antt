@@ -34,6 +34,7 @@ use Rattle.block_store.specs.Payloads.{target, reference_word}
 use Rattle.block_store.specs.Registers.{register_block, register_slot, registers_end}
 use Rattle.block_store.proofs.PayloadWords.{target-reference, target-nil}
 use Rattle.block_store.proofs.Registers.{register_low}
+use Rattle.block_store.proofs.Totals.{times_more}
 use Rattle.block_store.specs.Places.{Extent, extent, ColourOf, PayloadOf}
 use Rattle.object_lists.specs.Parts.{Link, Field, Blank, link_in}
 use Rattle.never_heap.specs.declared.Command.{Command}
@@ -72,7 +73,6 @@ use Rattle.build_steps.specs.Standing.{
   build_after,
   heap_written,
 }
-use Rattle.build_steps.proofs.Held.{times_more}
 use Rattle.build_steps.proofs.Parts.{links_onward}
 use Rattle.build_steps.proofs.RowsFit.{fits_next}
 use Rattle.build_steps.proofs.WrittenBlocks.{whole_elsewhere, keeps_standing, first_stands}

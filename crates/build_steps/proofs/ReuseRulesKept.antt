@@ -66,6 +66,7 @@ use Rattle.heap_machine.proofs.FreeBlocks.{
   free_held as held_is_free,
 }
 use Rattle.block_store.proofs.Functions.{funext, changed_here, bit_one}
+use Rattle.block_store.proofs.Totals.{times_more}
 use Rattle.heap_machine.proofs.ReuseRules.{reuse_goes, reuse_stays, reuse_other}
 use Rattle.heap_machine.proofs.SweepRule.{sweep_other, sweep_stays, sweep_colour}
 use Rattle.build_steps.specs.declared.rows.BuildRow.{BuildRow}
@@ -104,7 +105,7 @@ use Rattle.build_steps.specs.Rows.{
   build_holding,
 }
 use Rattle.build_steps.specs.Fits.{RowFits, BuildFits}
-use Rattle.build_steps.proofs.Held.{times_more, times_first, first_few, first_all}
+use Rattle.build_steps.proofs.Held.{times_first, first_few, first_all}
 use Rattle.build_steps.proofs.RowsFit.{length_more}
 use Rattle.build_steps.proofs.WantedPlaces.{own_first, list_low}
 

@@ -31,6 +31,7 @@ use Rattle.std.proofs.lemmas.Bool.{cases_Bool, cases_eq}
 use Rattle.block_store.specs.declared.Config.{Config}
 use Rattle.block_store.specs.Widths.{payloads}
 use Rattle.block_store.proofs.Registers.{wide}
+use Rattle.block_store.proofs.Indexes.{hand_block}
 use Rattle.block_store.specs.Colours.{link}
 use Rattle.block_store.specs.Places.{extent, IsBlock}
 use Rattle.never_heap.specs.declared.Command.{Command}
@@ -115,10 +116,6 @@ more_blocks c xs x block held o low = elim (cases_eq o (length xs)) [
       let less : o < length xs = omega arith in
       subst (λ y. IsBlock c y) (sym (at_more xs x o less)) (held o less)
 ]
-
--- a hand that is not 0 is a block
-hand_block : (c : Config) (a : ℕ) → (a ≡ 0 → ⊥) → a ≤ c.blocks → IsBlock c a
-hand_block c a ne high = (omega arith, high)
 
 next_low : (n u : ℕ) → u < n → next_list n u < n
 next_low n u low = elim (cases_Bool (ltb (u + 1) n)) [

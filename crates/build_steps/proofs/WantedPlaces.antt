@@ -22,7 +22,7 @@ use Rattle.std.proofs.Common.{
   mod-lt,
   mod-eq_of_lt,
 }
-use Rattle.std.proofs.lemmas.Bool.{lt-ltb, le-leb}
+use Rattle.std.proofs.lemmas.Bool.{lt-ltb}
 use Rattle.block_store.specs.declared.Config.{Config}
 use Rattle.block_store.specs.declared.TheConstants.{REGISTERS}
 use Rattle.block_store.specs.declared.Width.{Width}
@@ -39,6 +39,7 @@ use Rattle.block_store.proofs.WideWords.{read_wide}
 use Rattle.block_store.proofs.PayloadWords.{payload-code, target-reference, target-nil}
 use Rattle.block_store.proofs.Registers.{register_some, register_low, slot_low}
 use Rattle.block_store.proofs.ShapeWords.{shape-code}
+use Rattle.block_store.proofs.Indexes.{block_in}
 use Rattle.object_lists.specs.Parts.{link_in}
 use Rattle.never_heap.specs.declared.Command.{Command}
 use Rattle.never_heap.specs.declared.Command.TheVariants.{New, Arr}
@@ -73,9 +74,6 @@ own_first t n low = let e : t + 0 ≡ t = omega arith in rw e (mod-eq_of_lt low)
 pub list_low : (t n u : ℕ) → t < n → list_of t n u < n
 unfolding list_of
 list_low t n u low = mod-lt (t + u) (omega arith)
-
-block_in : (c : Config) (x : ℕ) → IsBlock c x → is_block (extent c) x ≡ true
-block_in c x h = let low : leb 1 x ≡ true = le-leb 1 x h.0 in rw low (le-leb x c.blocks h.1)
 
 payload_in : (c : Config) (x j : ℕ) → IsBlock c x → j < payloads c.width
     → in_range (extent c) (PayloadOf x j) ≡ true

@@ -1,108 +1,24 @@
 -- What a part has written stands until it is published.
-use Rattle.std.proofs.Common.{
-  ◌≡◌,
-  ℕ,
-  zero,
-  suc,
-  ◌<◌,
-  ◌≤◌,
-  ◌+◌,
-  ◌-◌,
-  ◌&&◌,
-  Bool,
-  true,
-  false,
-  refl,
-  arith,
-  subst,
-  sym,
-  ap,
-  inl,
-  inr,
-  eqb,
-  ltb,
-  eq-eqb,
-  ne_eqb,
-  ltb-true,
-  ltb-false,
-  List,
-  [],
-  ◌∷◌,
-  length,
-}
-use Rattle.std.proofs.lemmas.Bool.{cases_Bool, cases_eq}
+use Rattle.std.proofs.Common.{◌≡◌, ℕ, zero, suc, ◌<◌, ◌≤◌, ◌+◌, ◌-◌, true, false, refl, arith, subst, sym, ap, inl, inr, eqb, ltb, eq-eqb, ne_eqb, ltb-true, ltb-false, List, [], ◌∷◌, length}
+use Rattle.std.proofs.lemmas.Bool.{cases_Bool, cases_eq, and_left}
 use Rattle.block_store.specs.declared.Config.{Config}
 use Rattle.block_store.specs.declared.Width.{Width}
 use Rattle.block_store.specs.Colours.{black_word, link}
 use Rattle.block_store.specs.Heaps.{Heap, put_at}
 use Rattle.block_store.specs.Widths.{payloads}
-use Rattle.block_store.specs.Places.{
-  Place,
-  extent,
-  same_place,
-  Phase,
-  Cursor,
-  FreeCount,
-  GreyList,
-  FreeList,
-  ColourOf,
-  OwnerOf,
-  ShapeOf,
-  PayloadOf,
-}
+use Rattle.block_store.specs.Places.{Place, extent, same_place, Phase, Cursor, FreeCount, GreyList, FreeList, ColourOf, OwnerOf, ShapeOf, PayloadOf}
 use Rattle.block_store.specs.Phases.{bit}
 use Rattle.block_store.specs.Counts.{times}
 use Rattle.heap_machine.specs.Operations.{heap_after}
 use Rattle.never_heap.specs.declared.Command.{Command}
 use Rattle.build_steps.specs.declared.rows.BuildRow.{BuildRow}
-use Rattle.build_steps.specs.declared.rows.BuildRow.TheVariants.{
-  ReadCount,
-  Reserve,
-  TakeFree,
-  Collect,
-  PutRest,
-  WriteOwner,
-  WriteShape,
-  WritePayload,
-  WriteColour,
-  Publish,
-  Built,
-  Refused,
-}
+use Rattle.build_steps.specs.declared.rows.BuildRow.TheVariants.{ReadCount, Reserve, TakeFree, Collect, PutRest, WriteOwner, WriteShape, WritePayload, WriteColour, Publish, Built, Refused}
 use Rattle.build_steps.proofs.Held.{stands_once}
 use Rattle.build_steps.specs.Objects.{block_at}
-use Rattle.build_steps.specs.Rows.{
-  BuildState,
-  built_at,
-  built_owner,
-  built_shape,
-  built_payload,
-  row_want,
-  row_got,
-  held_got,
-  after_count,
-  after_reserve,
-  after_take,
-  after_last,
-  after_collect,
-  after_payload,
-  after_colour,
-  build_want,
-  build_got,
-  building,
-}
+use Rattle.build_steps.specs.Rows.{BuildState, built_at, built_owner, built_shape, built_payload, row_want, row_got, held_got, after_count, after_reserve, after_take, after_last, after_collect, after_payload, after_colour, build_want, build_got, building}
 use Rattle.build_steps.specs.Fits.{RowFits, BuildFits}
 use Rattle.build_steps.specs.LinearizationPoints.{is_publishing}
-use Rattle.build_steps.specs.Standing.{
-  IsWhole,
-  IsSpawned,
-  left_of,
-  begun_of,
-  Stands,
-  HeldOnce,
-  is_of_block,
-  IsElsewhere,
-}
+use Rattle.build_steps.specs.Standing.{IsWhole, IsSpawned, left_of, begun_of, Stands, HeldOnce, is_of_block, IsElsewhere}
 
 twice : (xs : List ℕ) (i j : ℕ) → i < j → j < length xs → block_at xs i ≡ block_at xs j
     → 2 ≤ times (block_at xs j) xs
@@ -142,9 +58,6 @@ no_block : (p : Place) (y : ℕ) → same_place p (ColourOf y) ≡ false
     → ((j : ℕ) → same_place p (PayloadOf y j) ≡ false) → Off p y
 no_block p y a b c d = record { colour = a; owner = b; shape = c; payload = d }
 
-and_no : (a b : Bool) → a ≡ false → (a && b) ≡ false
-and_no a b e = rw e refl
-
 off_place : (p : Place) (y : ℕ) → is_of_block y p ≡ false → Off p y
 off_place Phase y away = no_block Phase y refl refl refl (λ j. refl)
 off_place Cursor y away = no_block Cursor y refl refl refl (λ j. refl)
@@ -155,7 +68,7 @@ off_place (ColourOf x) y away = no_block (ColourOf x) y away refl refl (λ j. re
 off_place (OwnerOf x) y away = no_block (OwnerOf x) y refl away refl (λ j. refl)
 off_place (ShapeOf x) y away = no_block (ShapeOf x) y refl refl away (λ j. refl)
 off_place (PayloadOf x i) y away =
-    no_block (PayloadOf x i) y refl refl refl (λ j. and_no (eqb x y) (eqb i j) away)
+    no_block (PayloadOf x i) y refl refl refl (λ j. and_left (eqb x y) (eqb i j) away)
 
 module _ (w : Width) (h : Heap) (s : BuildState) (p : Place) (v : ℕ) where
   whole_off : (o : ℕ) → Off p (built_at s o) → IsWhole w h s o → IsWhole w (put_at h p v) s o

@@ -1,6 +1,6 @@
 //! Whole calls over sources and sinks in memory, for the tests.
 
-use never_heap::{NoPace, Pace};
+use heap_system::{NoPace, Pace};
 use rtheap_core::{Exit, rtheap};
 use std::alloc::{AllocError, Global};
 use std::process::Abort;

@@ -1,7 +1,7 @@
 //! Whole calls: words, inputs, faults, and runs of one thread.
 
 use crate::testing::{Call, EACH_KIND, HEADER, answers, job, job_begun, made, texts};
-use never_heap::NoPace;
+use heap_system::NoPace;
 use rtheap_core::rtheap;
 use std::alloc::{AllocError, Global};
 use std::process::Abort;

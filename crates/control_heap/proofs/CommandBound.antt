@@ -8,6 +8,7 @@ use Rattle.block_store.specs.declared.Config.{Config}
 use Rattle.block_store.specs.Configs.{IsInBounds}
 use Rattle.rate_plan.specs.Rates.{IsRate}
 use Rattle.rate_plan.proofs.Plans.{found}
+use Rattle.rate_plan.proofs.Rates.{one_rate, rate_low}
 use Rattle.never_heap.specs.declared.Command.{Command}
 use Rattle.never_heap.specs.declared.Entry.{Entry}
 use Rattle.never_heap.specs.declared.Reply.{Reply}
@@ -17,9 +18,10 @@ use Rattle.never_heap.specs.RightWork.{units_told, units_owed}
 use Rattle.heap_system.specs.Lives.{sum_after, objects_of, most_units, most_objects}
 use Rattle.heap_system.specs.Units.{IsRight}
 use Rattle.heap_system.proofs.RunLaws.{entries_right}
-use Rattle.control_heap.proofs.GrownJobs.{HasRoomFor, sum_more, sum_last, owed_works}
+use Rattle.control_heap.proofs.GrownJobs.{HasRoomFor}
 use Rattle.never_heap.specs.Steps.{blocks_of}
 use Rattle.never_heap.proofs.HistoryGrowth.{part_append}
+use Rattle.never_heap.proofs.CommandBounds.{blocks_low, told_low}
 use Rattle.barrier_steps.specs.Operands.{is_idle}
 use Rattle.solo_bound.specs.Prices.{allocation_bound, idle_bound, other_bound}
 use Rattle.heap_system.specs.Parts.{Rest}
@@ -30,12 +32,12 @@ use Rattle.heap_system.specs.Locals.{LocalState, begun, command_of, entries_of, 
 use Rattle.heap_system.specs.Machines.{Run, IsAfterTurns, local_in, next_effect}
 use Rattle.heap_system.specs.Pictures.{waiting}
 use Rattle.heap_system.proofs.Kept.{Kept}
-use Rattle.heap_system.proofs.OwedAndPaid.{works_append, blocks_low, told_low, rate_low}
+use Rattle.heap_system.proofs.OwedAndPaid.{works_append}
 use Rattle.heap_system.proofs.TurnFacts.{rest_is}
 use Rattle.heap_system.proofs.SeenAndKept.{IsSettled}
-use Rattle.heap_system.proofs.SystemStart.{one_rate}
 use Rattle.heap_system.proofs.alone.Near.{near_ends}
 use Rattle.heap_system.proofs.alone.Runs.{lone_ends}
+use Rattle.heap_system.proofs.TraceSums.{sum_more, sum_last, owed_works}
 use Rattle.control_heap.specs.Controls.{ControlOf, Stands, Answers, Machine, Served, GoesOn, asked, HasLeft, given_to, moved_times, entries_in}
 use Rattle.control_heap.specs.Growth.{run_grown, given}
 use Rattle.control_heap.proofs.Behind.{behind, behind_done, command_same, given_behind, history_of}
@@ -64,7 +66,7 @@ bound_low c rate k bounds few single fits = by (ltb 0 (blocks_of c.width k)) (is
     by false true = idle
     by false false = other
 
-not_done : (b : Bool) (x : Turn) → cond b Done x ≡ Went → b ≡ false
+pub not_done : (b : Bool) (x : Turn) → cond b Done x ≡ Went → b ≡ false
 not_done true x e = absurd cc
 not_done false x e = refl
 

@@ -8,10 +8,10 @@ use Rattle.block_store.specs.Counts.{total}
 use Rattle.block_store.specs.Heaps.{heap_of}
 use Rattle.block_store.specs.Phases.{cycle_of, is_sweep}
 use Rattle.block_store.specs.Places.{ColourOf, FreeCount, Phase, extent, words_count}
-use Rattle.block_store.specs.Registers.{registers_end}
 use Rattle.block_store.specs.Widths.{payloads}
 use Rattle.block_store.proofs.Functions.{total_none}
-use Rattle.rate_plan.specs.Rates.{IsAdmitted, IsRate}
+use Rattle.rate_plan.specs.Rates.{IsRate}
+use Rattle.rate_plan.proofs.Rates.{one_rate, opening_room}
 use Rattle.never_heap.specs.declared.Command.{Command}
 use Rattle.never_heap.specs.declared.Command.TheVariants as commands
 use Rattle.never_heap.specs.Bounds.{IsCommandInBounds}
@@ -34,7 +34,6 @@ use Rattle.heap_system.specs.Alone.{most_events}
 use Rattle.heap_system.proofs.Kept.{Kept}
 use Rattle.heap_system.proofs.LawsOf.{laws_of}
 use Rattle.heap_system.proofs.RunTally.{RunTallied, run_tallied}
-use Rattle.heap_system.proofs.SystemStart.{one_rate}
 use Rattle.heap_system.proofs.TalliesOf.{tallies_of}
 use Rattle.heap_system.proofs.TallyLaw.{reserved_for}
 use Rattle.heap_system.proofs.TurnFacts.{rest_is}
@@ -152,14 +151,11 @@ module _ {M : Type 0} (h : ControlOf M) (r : Run) (st : Stands h r) (k : Command
 
 -- ---- the blocks in use
 
-roots_low : (c : Config) → IsAdmitted c → registers_end c.width c.threads ≤ c.blocks
-roots_low c is = omega (arith, is.opens, is.room)
-
 module _ {M : Type 0} (h : ControlOf M) (r : Run) (st : Stands h r) where
   live_here : live_blocks h.config.width (replay h.config r.order) + count_free (extent h.config) (λ x. heap_of (extent h.config) h.words (ColourOf x)) ≤ h.config.blocks
   live_here =
       let is = st.run.after in
-      let some = live_few h.config is.traces r (kept_of h.config st.single r is) (roots_low h.config is.job.plan) in
+      let some = live_few h.config is.traces r (kept_of h.config st.single r is) (opening_room h.config is.job.plan) in
       subst (λ ws. live_blocks h.config.width (replay h.config r.order) + count_free (extent h.config) (λ x. heap_of (extent h.config) ws (ColourOf x)) ≤ h.config.blocks) st.words some
 
   pub in_use_told : (n : ℕ) → n ≡ h.config.blocks - count_free (extent h.config) (λ x. heap_of (extent h.config) h.words (ColourOf x)) → live_blocks h.config.width (replay h.config r.order) ≤ n
@@ -169,7 +165,7 @@ module _ {M : Type 0} (h : ControlOf M) (r : Run) (st : Stands h r) where
   start_told n is mark =
       let a = st.run.after in
       let here : is_sweep (heap_in h.config r.state Phase) ≡ false = ap (λ ws. is_sweep (heap_of (extent h.config) ws Phase)) st.words ∙ mark in
-      let some = start_few h.config a.traces r (kept_of h.config st.single r a) (roots_low h.config a.job.plan) here (knows_start h.config r a) in
+      let some = start_few h.config a.traces r (kept_of h.config st.single r a) (opening_room h.config a.job.plan) here (knows_start h.config r a) in
       let low = subst (λ ws. live_at_start h.config r.order + count_free (extent h.config) (λ x. heap_of (extent h.config) ws (ColourOf x)) ≤ h.config.blocks) st.words some in
       omega (arith, is, low)
 

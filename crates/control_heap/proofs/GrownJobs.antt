@@ -7,31 +7,12 @@ use Rattle.never_heap.specs.Bounds.{IsCommandInBounds}
 use Rattle.rate_plan.specs.Rates.{IsRate}
 use Rattle.never_heap.specs.RightWork.{units_owed}
 use Rattle.heap_system.specs.Lives.{IsLife, sum_after, objects_of, most_commands, most_units, most_objects}
-use Rattle.never_heap.specs.declared.Entry.{Entry}
-use Rattle.heap_system.specs.Locals.{at_start, works}
-use Rattle.heap_system.specs.Units.{IsRight}
-use Rattle.block_store.specs.declared.Width.{Width}
+use Rattle.heap_system.specs.Locals.{at_start}
 use Rattle.heap_system.specs.Machines.{State, Run, IsJob, IsOpening, IsRunOf, starts_from, opened}
 use Rattle.heap_system.proofs.Always.{opening_kept}
+use Rattle.heap_system.proofs.TraceSums.{sum_more}
 use Rattle.control_heap.specs.Growth.{given, grown, state_grown, run_grown, AllGo, extended}
 use Rattle.control_heap.proofs.GrownRuns.{after_grown}
-
--- sums with one command more
-pub sum_more : (f : Command → ℕ) (xs : List Command) (k : Command) → sum_after f 0 (xs ++ k ∷ []) ≡ sum_after f 0 xs + f k
-sum_more f [] k = omega arith
-sum_more f (x ∷ xs) k = omega (arith, sum_more f xs k)
-
-sum_at : (f : Command → ℕ) (xs : List Command) (k : Command) → sum_after f (length xs) (xs ++ k ∷ []) ≡ f k
-sum_at f [] k = omega arith
-sum_at f (x ∷ xs) k = sum_at f xs k
-
-pub sum_last : (f : Command → ℕ) (xs : List Command) (k : Command) (n : ℕ) → n ≡ length xs → sum_after f n (xs ++ k ∷ []) ≡ f k
-sum_last f xs k n e = subst (λ m. sum_after f m (xs ++ k ∷ []) ≡ f k) (sym e) (sum_at f xs k)
-
--- what the commands of a log owe are its works
-pub owed_works : (w : Width) (rate : ℕ) (log : List Entry) → IsRight w rate log → sum_after (units_owed w rate) 0 (map (λ (e : Entry). e.command) log) ≡ works log
-owed_works w rate [] is = refl
-owed_works w rate (e ∷ log) is = omega (arith, is.0, owed_works w rate log is.1)
 
 module _ (c : Config) (t : ℕ) (k : Command) where
   start_grown : (rate space u : ℕ) (x : List Command) (b : Bool) → cond b (given k (at_start c rate space u x)) (at_start c rate space u x) ≡ at_start c rate space u (cond b (x ++ k ∷ []) x)

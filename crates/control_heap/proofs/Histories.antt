@@ -1,11 +1,9 @@
 -- Requests one after the other have one history, and the works of the one thread are all.
-use Rattle.std.proofs.Common.{◌≡◌, List, [], ◌∷◌, ◌++◌, length, get_or, append_assoc, append-nil, map, refl, sym, ap, ◌∙◌, subst, arith}
+use Rattle.std.proofs.Common.{List, [], ◌∷◌, ◌++◌, append_assoc, append-nil, map, refl, sym, ap, ◌∙◌, subst}
 use Rattle.never_heap.specs.declared.Command.{Command}
 use Rattle.never_heap.specs.declared.Entry.{Entry}
 use Rattle.never_heap.specs.declared.Reply.{Reply}
-use Rattle.heap_system.specs.Locals.{LocalState, works}
 use Rattle.heap_system.specs.Machines.{Run}
-use Rattle.heap_system.specs.Systems.{units_of}
 use Rattle.control_heap.specs.Controls.{ControlOf, Stands, AllAnswered, HasHistory, Answers, entries_in}
 use Rattle.control_heap.proofs.Items.{entries_append}
 
@@ -25,9 +23,3 @@ one_history (k ∷ ks) (a ∷ ys) h z r stands all =
       commands = ap (map (λ (e : Entry). e.command)) (entries_append one.items rest.items ∙ ap (λ x. x ++ entries_in rest.items) one.entries) ∙ (λ i. one.command i ∷ rest.commands i);
       replies = ap (map (λ (e : Entry). e.reply)) (entries_append one.items rest.items ∙ ap (λ x. x ++ entries_in rest.items) one.entries) ∙ (λ i. one.reply i ∷ rest.replies i);
     }
-
--- the works of one thread
-pub one_log : (ls : List LocalState) (d : LocalState) → length ls ≡ 1 → units_of (map (λ (l : LocalState). l.log) ls) ≡ works (get_or ls 0 d).log
-one_log [] d e = absurd (omega arith)
-one_log (l ∷ []) d e = omega arith
-one_log (l ∷ m ∷ ls) d e = absurd (omega arith)

@@ -5,24 +5,25 @@ use Rattle.std.proofs.lemmas.Bool.{cases_Bool, cases_eq, cases_lt}
 use Rattle.std.proofs.lemmas.List.Sums.{sum_by-cons, sum_by-le-sum_by}
 use Rattle.block_store.specs.declared.Config.{Config}
 use Rattle.block_store.specs.declared.Name.{Name}
-use Rattle.block_store.specs.declared.Width.{Width}
 use Rattle.block_store.specs.Colours.{is_free}
 use Rattle.block_store.specs.Counts.{times, total}
 use Rattle.block_store.specs.Phases.{bit, is_sweep}
 use Rattle.block_store.specs.Places.{ColourOf, Phase, extent}
 use Rattle.block_store.specs.Registers.{registers_end}
 use Rattle.block_store.proofs.Functions.{total_none}
+use Rattle.block_store.proofs.Totals.{total_below, times_append, total_plus, none_above}
 use Rattle.never_heap.specs.declared.Command.{Command}
 use Rattle.never_heap.specs.Cycles.{after_start, before_start, graph_at}
 use Rattle.never_heap.specs.Graphs.{Graph, object_of, same_name, start_graph}
 use Rattle.never_heap.specs.Histories.{replay, replay_from, starts_in}
 use Rattle.never_heap.specs.LiveBlocks.{live_blocks, live_of, object_blocks}
 use Rattle.never_heap.specs.Reach.{names, reachable}
-use Rattle.never_heap.proofs.LiveBlocksBound.{once_below}
+use Rattle.never_heap.proofs.LiveBlocksBound.{once_below, live_sum}
 use Rattle.never_heap.proofs.NameLists.{same_itself}
 use Rattle.never_heap.proofs.ReachSteps.{reachable_named}
 use Rattle.never_heap.proofs.StartGraph.{threads_of_start}
-use Rattle.never_heap.proofs.UnchangedBySteps.{replay_shape}
+use Rattle.never_heap.proofs.UnchangedBySteps.{replay_shape, threads_of_replay}
+use Rattle.never_heap.proofs.CycleGrowth.{replay_parts}
 use Rattle.graph_relation.specs.Events.{pending_registers}
 use Rattle.graph_relation.specs.Words.{block_words}
 use Rattle.graph_relation.proofs.WordReads.{blocks_apart}
@@ -34,16 +35,10 @@ use Rattle.heap_system.specs.Machines.{Run, heap_in}
 use Rattle.heap_system.specs.Pictures.{kept_state, tasks_in}
 use Rattle.heap_system.proofs.Kept.{Kept as KeptRun}
 use Rattle.cycle_tally.specs.InUse.{graph_then}
-use Rattle.cycle_tally.proofs.MadeNames.{replay_parts, same_blocks, threads_of_replay}
-use Rattle.cycle_tally.proofs.BlockLists.{blocks_at, length_blocks, length_these, these, times_append, total_plus}
-use Rattle.cycle_tally.proofs.Sums.{total_below}
+use Rattle.cycle_tally.proofs.MadeNames.{same_blocks}
+use Rattle.cycle_tally.proofs.BlockLists.{blocks_at, length_blocks, length_these, these}
+use Rattle.cycle_tally.proofs.InUse.{one_of}
 use Rattle.control_heap.proofs.KnownAtStart.{KnowsStart}
-
-none_above : (n y : ℕ) → n < y → total n (λ x. bit (eqb (suc x) y)) ≡ 0
-none_above zero y h = refl
-none_above (suc n) y h =
-    let e : bit (eqb (suc n) y) ≡ 0 = ap bit (ne_eqb (suc n) y (λ q. omega arith)) in
-    omega (arith, none_above n y (omega arith))
 
 one_there : (n y : ℕ) → 0 < y → y ≤ n → total n (λ x. bit (eqb (suc x) y)) ≡ 1
 one_there zero y some high = absurd (omega (arith, some, high))
@@ -187,14 +182,6 @@ module _ (g : Graph) (at : Name → ℕ → ℕ) (k : Name → ℕ)
         let count = all_counted m places within in
         let most = total_below m (λ x. times (suc x) places) (λ x. bit (not (free (suc x)))) (λ x l. at_most (suc x) (omega arith)) in
         omega (arith, count, most, length-append root_places (blocks_at at k (names g)), length_these (λ i. suc i) roots, length_blocks at k (names g))
-
-live_sum : (w : Width) (g : Graph) → live_blocks w g ≡ registers_end w (length g.mutators) + sum_by (live_of w g) (names g)
-unfolding live_blocks
-live_sum w g = refl
-
-one_of : (b : Bool) → bit b + bit (not b) ≡ 1
-one_of true = refl
-one_of false = refl
 
 both_counts : (m : ℕ) (free : ℕ → Bool) → total m (λ x. bit (free (suc x))) + total m (λ x. bit (not (free (suc x)))) ≡ m
 both_counts zero free = refl

@@ -1,5 +1,6 @@
 -- What was reachable at the last start is known since.
-use Rattle.std.proofs.Common.{◌≡◌, ℕ, ◌≤◌, Bool, true, false, cond, ◌||◌, List, [], ◌∷◌, ◌++◌, append-nil, refl, sym, ap, ◌∙◌, subst, arith}
+use Rattle.std.proofs.Common.{◌≡◌, ℕ, ◌≤◌, Bool, true, false, cond, List, [], ◌∷◌, ◌++◌, append-nil, refl, sym, ap, ◌∙◌, subst, arith}
+use Rattle.std.proofs.lemmas.Bool.{or_right}
 use Rattle.block_store.specs.declared.Config.{Config}
 use Rattle.block_store.specs.declared.Name.{Name}
 use Rattle.block_store.specs.Heaps.{Heap}
@@ -14,12 +15,13 @@ use Rattle.name_invariant.specs.Pictures.{Names}
 use Rattle.cycle_tally.specs.InUse.{graph_then}
 use Rattle.build_steps.specs.LinearizationPoints.{is_publishing}
 use Rattle.heap_system.specs.Parts.{Part, Rest, Enter, Serve, Mark, Sweep, Build, Retry, ToChange, PhaseChange, Leave}
-use Rattle.heap_system.specs.Locals.{Effect, Verdict, Open, AsStep, Refused, command_of, effect}
+use Rattle.heap_system.specs.Locals.{Effect, Verdict, Open, command_of, effect}
 use Rattle.heap_system.specs.Machines.{Run, IsAfterTurns, IsJob, after_turns, entries_by, has_event, heap_in, items_by, local_at, next, next_effect, opened, starts_by}
 use Rattle.heap_system.specs.Naming.{Naming, Same, Lost, Begun, Shaded, Made, renamed}
 use Rattle.heap_system.proofs.Always.{opening_kept, turn_kept}
 use Rattle.heap_system.proofs.Kept.{Kept}
 use Rattle.heap_system.proofs.LawsOf.{laws_of}
+use Rattle.heap_system.proofs.OrderGrowth.{entries_start_none}
 
 -- over an order and the names that are known
 abbrev pub KnowsThen : Config → List HistoryItem → (Name → Bool) → Type 0
@@ -52,11 +54,6 @@ begun_open c ToChange w is = refl
 begun_open c (PhaseChange g) w is = refl
 begun_open c Leave w is = refl
 
-entries_start_none : (c : Config) (t : ℕ) (k : Command) (work : ℕ) (order : List HistoryItem) (v : Verdict) → starts_in (entries_by c t k work order v) ≡ 0
-entries_start_none c t k work order Open = refl
-entries_start_none c t k work order AsStep = refl
-entries_start_none c t k work order (Refused r) = refl
-
 module _ (c : Config) (order : List HistoryItem) (some : 1 ≤ starts_in order) where
   -- items without a start leave the graph at the last one
   same_then : (k : List HistoryItem) → starts_in k ≡ 0 → graph_then c (order ++ k) ≡ graph_then c order
@@ -72,17 +69,13 @@ module _ (c : Config) (order : List HistoryItem) (some : 1 ≤ starts_in order) 
   then_next : graph_then c (order ++ Started ∷ []) ≡ replay c order
   then_next = ap (graph_at c (order ++ Started ∷ [])) (starts_append order (Started ∷ [])) ∙ graph_at_next c order []
 
-or_more : (b x : Bool) → x ≡ true → (b || x) ≡ true
-or_more true x is = refl
-or_more false x is = is
-
 moved : (c : Config) (order : List HistoryItem) → 1 ≤ starts_in order → (t : ℕ) (h : Heap) (ns : Names) (k : List HistoryItem) (n : Naming) → starts_in k ≡ 0 → (is_begun n ≡ true → k ≡ [])
     → KnowsThen c order ns.known → KnowsThen c (order ++ (k ++ starts_by n)) (renamed t (replay c order) h n ns).known
 moved c order some t h ns k Same none first is = still c order some ns.known k none is
 moved c order some t h ns k Lost none first is = still c order some ns.known k none is
 moved c order some t h ns k (Shaded u) none first is = still c order some ns.known k none is
 moved c order some t h ns k (Made blocks) none first is =
-    λ a reached. or_more (same_name (next_name (replay c order) t) a) (ns.known a) (still c order some ns.known k none is a reached)
+    λ a reached. or_right (same_name (next_name (replay c order) t) a) (ns.known a) (still c order some ns.known k none is a reached)
 moved c order some t h ns k Begun none first is =
     λ a reached.
     let e : order ++ (k ++ Started ∷ []) ≡ order ++ Started ∷ [] = ap (λ x. order ++ (x ++ Started ∷ [])) (first refl) in

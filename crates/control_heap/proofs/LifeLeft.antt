@@ -5,7 +5,7 @@ use Rattle.never_heap.specs.Bounds.{IsCommandInBounds}
 use Rattle.never_heap.specs.RightWork.{units_owed}
 use Rattle.heap_system.specs.Lives.{objects_of, most_commands, most_units, most_objects}
 use Rattle.heap_system.specs.Machines.{Run}
-use Rattle.heap_system.proofs.SystemStart.{one_rate}
+use Rattle.rate_plan.proofs.Rates.{one_rate}
 use Rattle.control_heap.specs.Controls.{ControlOf, HasLeft, Stands, asked, units}
 use Rattle.control_heap.proofs.CommandBound.{config_is, rate_is}
 use Rattle.control_heap.proofs.HeapAsRun.{kept_of, low}

@@ -1,5 +1,5 @@
 -- How many units a cycle can take: what a run that goes on makes of the units of the cycles before.
-use Rattle.std.proofs.Common.{◌≡◌, ℕ, zero, suc, ◌+◌, ◌*◌, ◌<◌, ◌≤◌, Bool, true, false, cond, eqb, List, ◌++◌, refl, sym, ap, ◌∙◌, subst, arith}
+use Rattle.std.proofs.Common.{◌≡◌, ℕ, zero, suc, ◌+◌, ◌*◌, ◌<◌, ◌≤◌, Bool, true, false, cond, eqb, List, refl, sym, ap, ◌∙◌, subst, arith}
 use Rattle.block_store.specs.declared.Config.{Config}
 use Rattle.block_store.specs.Colours.{black_word}
 use Rattle.block_store.specs.Counts.{total}
@@ -8,17 +8,14 @@ use Rattle.rate_plan.specs.Rates.{IsRate}
 use Rattle.never_heap.specs.declared.Command.{Command}
 use Rattle.never_heap.specs.declared.Reply.{Reply}
 use Rattle.never_heap.specs.Bounds.{IsCommandInBounds}
-use Rattle.never_heap.specs.Graphs.{Graph}
-use Rattle.never_heap.specs.Histories.{HistoryItem, replay, starts_in, work_in}
-use Rattle.never_heap.proofs.HistoryGrowth.{starts_append}
+use Rattle.never_heap.specs.Histories.{replay, starts_in, work_in}
 use Rattle.work_account.specs.Accounts.{units_in}
 use Rattle.cycle_tally.specs.Tallies.{made_now, units_now}
 use Rattle.cycle_tally.proofs.CycleUnits.{few_units}
-use Rattle.heap_system.specs.declared.Turn.{Turn}
-use Rattle.heap_system.specs.declared.Turn.TheVariants.{Went, Done}
+use Rattle.heap_system.specs.declared.Turn.TheVariants.{Went}
 use Rattle.heap_system.specs.Alone.{after_alone}
 use Rattle.heap_system.specs.Costs.{units_so_far}
-use Rattle.heap_system.specs.Locals.{LocalState, Effect, Verdict, Open, AsStep, Refused, command_of, is_done, turn_of}
+use Rattle.heap_system.specs.Locals.{LocalState, Effect, command_of, is_done, turn_of}
 use Rattle.heap_system.specs.Machines.{Run, IsJob, answer, local_at, local_in, next, next_effect, starts_by}
 use Rattle.heap_system.specs.Naming.{Naming, Begun}
 use Rattle.heap_system.proofs.Always.{turn_kept}
@@ -26,35 +23,19 @@ use Rattle.heap_system.proofs.Kept.{Kept}
 use Rattle.heap_system.proofs.KeptByTurns.{effect_here, next_is}
 use Rattle.heap_system.proofs.LawsOf.{laws_of}
 use Rattle.heap_system.proofs.RunTally.{RunTallied, run_tallied, spent_is, after, event_tallied}
-use Rattle.heap_system.proofs.SeenAndKept.{items_told}
 use Rattle.heap_system.proofs.TallyLaw.{past_by}
 use Rattle.heap_system.proofs.TalliesOf.{tallies_of}
+use Rattle.heap_system.proofs.OrderGrowth.{starts_after}
 use Rattle.control_heap.specs.Controls.{ControlOf, Stands, Answers, HasLeft}
 use Rattle.control_heap.specs.Growth.{given, grown, run_grown, state_grown}
-use Rattle.control_heap.proofs.CommandBound.{begins}
+use Rattle.control_heap.proofs.CommandBound.{begins, not_done}
 use Rattle.control_heap.proofs.GrownRuns.{local_grown}
 use Rattle.control_heap.proofs.HeapAsRun.{kept_of, low}
-
-not_done : (b : Bool) (x : Turn) → cond b Done x ≡ Went → b ≡ false
-not_done true x e = absurd cc
-not_done false x e = refl
 
 -- the units of the cycles before, where an event starts one or none
 past_step : (m : ℕ) (n : Naming) (now past : ℕ) → now ≤ 2 * m → past_by n now past ≤ past + 2 * m * starts_in (starts_by n)
 past_step m Begun now past few = omega (arith, few)
 past_step m _ now past few = omega arith
-
-no_starts : (g : Graph) (t : ℕ) (k : Command) (work : ℕ) (v : Verdict) → starts_in (items_told g t k work v) ≡ 0
-no_starts g t k work Open = refl
-no_starts g t k work AsStep = refl
-no_starts g t k work (Refused r) = refl
-
-told_starts : (g : Graph) (t : ℕ) (k : Command) (work : ℕ) (v : Verdict) (order starts : List HistoryItem) → starts_in (order ++ (items_told g t k work v ++ starts)) ≡ starts_in order + starts_in starts
-told_starts g t k work v order starts =
-    let a = starts_append order (items_told g t k work v ++ starts) in
-    let b = starts_append (items_told g t k work v) starts in
-    let none = no_starts g t k work v in
-    omega (arith, a, b, none)
 
 balance_grown : (k : Command) (b : Bool) (l : LocalState) → (cond b (given k l) l).balance ≡ l.balance
 balance_grown k true l = refl
@@ -125,7 +106,7 @@ module _ (c : Config) (rate : ℕ) (planned : IsRate c rate) where
         let few = few_units c rate black_word planned.some counts.tally counts.kept in
         let effect : Effect = effect_here c traces (laws_of c) job.bounds.config job.plan r kept t tl in
         let more : starts_in e.tally.order ≡ starts_in r.order + starts_in (starts_by n) =
-        ap starts_in e.of.order ∙ told_starts (replay c r.order) t (command_of (local_at c r.state t)) (local_at c r.state t).spent effect.verdict r.order (starts_by n) in
+        ap starts_in e.of.order ∙ starts_after (replay c r.order) t (command_of (local_at c r.state t)) (local_at c r.state t).spent effect.verdict r.order (starts_by n) in
         let now : starts_in r.order ≡ counts.tally.cycle = ap starts_in (sym counts.of.order) ∙ counts.kept.starts in
         subst (λ x. Onward c rate r x counts) (sym (next_is c traces (laws_of c) job.bounds.config job.plan r kept t tl going)) (record {
           counts = event_tallied c traces job rate planned (laws_of c) (tallies_of c) r kept counts t tl going;

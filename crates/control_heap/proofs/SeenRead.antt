@@ -2,6 +2,7 @@
 use Rattle.std.proofs.Common.{◌≡◌, ℕ, zero, suc, ◌<◌, ◌≤◌, true, List, ◌∷◌, ◌++◌, [], length, map, take, refl, sym, ap, ◌∙◌, subst, arith}
 use Rattle.std.specs.List.{AllByRecursion}
 use Rattle.std.proofs.Math.Seq.{take-length, take-suc}
+use Rattle.std.proofs.lemmas.List.{map_push}
 use Rattle.block_store.specs.declared.Name.{Name}
 use Rattle.block_store.specs.declared.Shape.{Shape}
 use Rattle.block_store.specs.declared.Value.{Value}
@@ -39,10 +40,6 @@ all_of P xs = AllByRecursion P xs
 all_push : {A : Type 0} (P : A → Type 0) (xs : List A) (x : A) → all_of P xs → P x → all_of P (xs ++ x ∷ [])
 all_push P [] x all one = (one, tt)
 all_push P (y ∷ xs) x all one = (all.0, all_push P xs x all.1 one)
-
-map_push : {A B : Type 0} (f : A → B) (xs : List A) (x : A) → map f (xs ++ x ∷ []) ≡ map f xs ++ f x ∷ []
-map_push f [] x = refl
-map_push f (y ∷ xs) x = ap (λ l. f y ∷ l) (map_push f xs x)
 
 -- a block of the heap, or none
 abbrev pub IsPlaced : ℕ → Seen → Type 0

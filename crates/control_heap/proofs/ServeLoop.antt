@@ -13,6 +13,7 @@ use Rattle.heap_system.specs.declared.Turn.{Turn}
 use Rattle.heap_system.specs.Locals.{LocalState, LocalReads, begun, is_done, local_got, op_wanted}
 use Rattle.heap_system.specs.Machines.{Run}
 use Rattle.heap_system.specs.Lives.{objects_of}
+use Rattle.heap_system.proofs.Runs.{ran_on}
 use Rattle.control_heap.specs.Controls.{HasLeft, HasMade, ControlOf, Machine, Served, HasAnswered, HasBegun, Stands, GoesOn, moved, moved_times, given_to}
 use Rattle.control_heap.proofs.HeapAsRun.{IsSafe}
 use Rattle.control_heap.proofs.CommandBound.{has_answered, events_few, events_near, never_long, stays_safe}
@@ -45,15 +46,6 @@ moves_on m n x at op wants w reads ws acts l gets =
 -- the words that a memory shows, and a thread
 abbrev pub machine : {M : Type 0} → (M → List ℕ) → M → LocalState → Machine
 machine shows m l = record { words = shows m; thread = l }
-
--- two courses of a memory, one behind the other
-pub ran_on : {M S : Type 0} (acts : Acts M S) (s : S) (m : M) (l : LocalState) (ws : List ℕ) (n : M)
-    (k : LocalState) (vs : List ℕ) (o : M) (j : LocalState)
-    → Ran acts s m l ws n k → Ran acts s n k vs o j → Ran acts s m l (ws ++ vs) o j
-ran_on acts s m l [] n k vs o j ran rest =
-    subst (λ x. Ran acts s x l vs o j) (sym ran.0) (subst (λ y. Ran acts s n y vs o j) (sym ran.1) rest)
-ran_on acts s m l (w ∷ ws) n k vs o j ran rest =
-    (ran.0, ran.1, ran.2, ran_on acts s ran.0 (local_got l w) ws n k vs o j ran.3 rest, ran.4)
 
 -- The memory and the thread after so many events, of which each run of them made one at least: the
 -- memory made their operations and no other.

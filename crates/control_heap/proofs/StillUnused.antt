@@ -1,7 +1,7 @@
 -- A heap that has done no command, in its first cycle, is as it was opened.
 use Rattle.std.proofs.Common.{◌≡◌, ℕ, zero, suc, Bool, IsTrue, true, eqb, cond, List, [], ◌∷◌, ◌++◌, length, refl, sym, ap, ◌∙◌, subst, arith}
 use Rattle.std.proofs.lemmas.Bool.{and_parts, eq-eqb, eqb-true}
-use Rattle.std.proofs.lemmas.List.{append-nil}
+use Rattle.std.proofs.lemmas.List.{append-nil, nil_from_length}
 use Rattle.never_heap.specs.declared.Entry.{Entry}
 use Rattle.never_heap.specs.Histories.{HistoryItem, Did, Started, part, replay, starts_in}
 use Rattle.heap_system.specs.Lives.{objects_of, sum_after}
@@ -13,10 +13,6 @@ use Rattle.heap_system.proofs.TurnFacts.{rest_is}
 use Rattle.control_heap.specs.Controls.{ControlOf, Stands, asked}
 use Rattle.control_heap.specs.Unused.{IsUnused}
 use Rattle.control_heap.proofs.HeapAsRun.{kept_of, low}
-
-none_of : {A : Type 0} (xs : List A) → length xs ≡ 0 → xs ≡ []
-none_of [] e = refl
-none_of (x ∷ xs) e = absurd (omega (arith, e))
 
 not_here : (e : Entry) (o : List HistoryItem) → part e.thread (Did e ∷ o) ≡ [] → ⊥
 not_here e o none = some (sym (ap (λ b. cond b (e ∷ part e.thread o) (part e.thread o)) (eq-eqb e.thread e.thread refl)) ∙ none)
@@ -42,13 +38,13 @@ module _ {M : Type 0} (h : ControlOf M) (r : Run) (st : Stands h r) (none : aske
   kept = kept_of h.config st.single r st.run.after
 
   log_is : l.log ≡ []
-  log_is = none_of l.log (st.count ∙ none)
+  log_is = nil_from_length l.log (st.count ∙ none)
 
   rests : (is_rest l.part ≡ true) × (eqb (length l.log) (length l.trace) ≡ true)
   rests = and_parts (is_rest l.part) (eqb (length l.log) (length l.trace)) st.done
 
   trace_is : l.trace ≡ []
-  trace_is = none_of l.trace (sym (eqb-true (length l.log) (length l.trace) rests.1) ∙ ap length log_is)
+  trace_is = nil_from_length l.trace (sym (eqb-true (length l.log) (length l.trace) rests.1) ∙ ap length log_is)
 
   own : part 0 r.order ≡ []
   own =

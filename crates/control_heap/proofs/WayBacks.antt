@@ -22,10 +22,10 @@ use Rattle.heap_system.proofs.LawsOf.{laws_of}
 use Rattle.heap_system.proofs.RunBounds.{all_done, licensed}
 use Rattle.heap_system.proofs.RunTally.{RunTallied, run_tallied}
 use Rattle.heap_system.proofs.TalliesOf.{tallies_of}
+use Rattle.heap_system.proofs.SystemStart.{one_log}
 use Rattle.control_heap.specs.Controls.{ControlOf, Stands, Answers, HasLeft, entries_in, units}
 use Rattle.control_heap.specs.WayBack.{AllDone, AreOf, HasWayBack, NoneFull, StartsSmallFrom}
 use Rattle.control_heap.proofs.HeapAsRun.{kept_of}
-use Rattle.control_heap.proofs.Histories.{one_log}
 use Rattle.control_heap.proofs.Items.{entries_append}
 use Rattle.control_heap.proofs.Pace.{Onward, now_few, past_few, onward_command, onward_on}
 

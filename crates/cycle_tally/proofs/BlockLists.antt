@@ -1,5 +1,5 @@
 -- What stands in a list of blocks is at most its length.
-use Rattle.std.proofs.Common.{◌≡◌, ℕ, zero, suc, ◌+◌, ◌≤◌, ◌<◌, Bool, true, false, eqb, refl, arith, ap, subst, List, [], ◌∷◌, ◌++◌, length, length-append, inl, inr, eq-eqb, ne_eqb}
+use Rattle.std.proofs.Common.{◌≡◌, ℕ, zero, suc, ◌+◌, ◌≤◌, ◌<◌, Bool, true, false, eqb, refl, arith, ap, subst, List, [], ◌∷◌, ◌++◌, length, length-append, inl, inr, eq-eqb}
 use Rattle.std.specs.List.{list_any, sum_by}
 use Rattle.std.proofs.lemmas.Bool.{cases_eq, or_cases}
 use Rattle.std.proofs.lemmas.List.Sums.{sum_by-cons}
@@ -8,40 +8,7 @@ use Rattle.block_store.specs.Phases.{bit}
 use Rattle.never_heap.specs.Graphs.{same_name}
 use Rattle.never_heap.proofs.NameLists.{one_name}
 use Rattle.block_store.specs.Counts.{times, total}
-use Rattle.block_store.proofs.Functions.{bit_le}
-use Rattle.cycle_tally.proofs.Sums.{total_below, total_nought}
-
-pub times_append : (x : ℕ) (xs ys : List ℕ) → times x (xs ++ ys) ≡ times x xs + times x ys
-times_append x [] ys = omega arith
-times_append x (y ∷ xs) ys = omega (arith, times_append x xs ys)
-
-pub total_plus : (n : ℕ) (f g : ℕ → ℕ) → total n (λ x. f x + g x) ≡ total n f + total n g
-total_plus zero f g = refl
-total_plus (suc n) f g = omega (arith, total_plus n f g)
-
-none_above : (n y : ℕ) → n < y → total n (λ x. bit (eqb (suc x) y)) ≡ 0
-none_above zero y h = refl
-none_above (suc n) y h =
-    let e : bit (eqb (suc n) y) ≡ 0 = ap bit (ne_eqb (suc n) y (λ q. omega arith)) in
-    omega (arith, none_above n y (omega arith))
-
-one_at_most : (n y : ℕ) → total n (λ x. bit (eqb (suc x) y)) ≤ 1
-one_at_most zero y = omega arith
-one_at_most (suc n) y = elim (cases_eq (suc n) y) [
-  | inl e ↦ omega (arith, none_above n y (omega arith), bit_le (eqb (suc n) y))
-  | inr ne ↦
-      let z : bit (eqb (suc n) y) ≡ 0 = ap bit (ne_eqb (suc n) y ne) in
-      omega (arith, one_at_most n y)
-]
-
-all_times : (n : ℕ) (ys : List ℕ) → total n (λ x. times (suc x) ys) ≤ length ys
-all_times n [] = omega (arith, total_nought n)
-all_times n (y ∷ ys) = omega (
-  arith,
-  total_plus n (λ x. bit (eqb (suc x) y)) (λ x. times (suc x) ys),
-  one_at_most n y,
-  all_times n ys,
-)
+use Rattle.block_store.proofs.Totals.{total_below, times_append, all_times}
 
 one_listed : (b : Bool) (k : ℕ) → (b ≡ true → 1 ≤ k) → bit b ≤ k
 one_listed true k h = h refl

@@ -1,26 +1,25 @@
 -- What a kept tally says of the units of its cycle, and of its order with one item more.
-use Rattle.std.proofs.Common.{◌≡◌, ℕ, suc, ◌+◌, ◌-◌, ◌*◌, ◌/◌, ◌≤◌, ◌<◌, max, Bool, true, false, ◌&&◌, ◌||◌, eqb, ltb, refl, arith, ap, sym, ◌∙◌, subst, List, [], ◌∷◌, ◌++◌, inl, inr}
-use Rattle.std.proofs.lemmas.Bool.{cases_eq, both_ways}
+use Rattle.std.proofs.Common.{◌≡◌, ℕ, suc, ◌+◌, ◌-◌, ◌*◌, ◌/◌, ◌≤◌, ◌<◌, max, ◌&&◌, ◌||◌, eqb, ltb, refl, arith, ap, sym, ◌∙◌, subst, List, [], ◌∷◌, ◌++◌, inl, inr}
+use Rattle.std.proofs.lemmas.Bool.{cases_eq}
 use Rattle.std.proofs.lemmas.Nat.{le-div}
 use Rattle.block_store.specs.declared.Config.{Config}
 use Rattle.rate_plan.specs.Rates.{ceiling}
 use Rattle.never_heap.specs.declared.Entry.{Entry}
 use Rattle.never_heap.specs.declared.Reply.{Reply}
 use Rattle.never_heap.specs.declared.Reply.TheVariants.{Full}
-use Rattle.never_heap.specs.Histories.{HistoryItem, Started, Did, is_full}
+use Rattle.never_heap.specs.Histories.{HistoryItem, Started, Did}
 use Rattle.never_heap.specs.Cycles.{graph_at}
 use Rattle.never_heap.specs.Given.{given}
-use Rattle.never_heap.specs.Licensed.{IsLicensedReply}
 use Rattle.never_heap.specs.LiveBlocks.{live_blocks}
 use Rattle.never_heap.specs.Taken.{taken_by, blocks_if_new}
-use Rattle.never_heap.proofs.CycleGrowth.{graph_at_more, given_more, given_past}
+use Rattle.never_heap.proofs.CycleGrowth.{graph_at_more, given_more, given_past, given_nought}
 use Rattle.block_store.specs.Counts.{changed, total}
 use Rattle.block_store.proofs.Functions.{changed_both, bit_le}
+use Rattle.block_store.proofs.Totals.{total_ones}
 use Rattle.work_account.proofs.Balances.{all_given, whole_paid}
 use Rattle.cycle_tally.specs.Tallies.{Spending, Tally, units_now, given_now}
 use Rattle.cycle_tally.specs.Entries.{entries_in, InThreads}
 use Rattle.cycle_tally.specs.Kept.{most_given, SpendingKept, live_before, TallyKept}
-use Rattle.cycle_tally.proofs.Sums.{total_ones, given_nought}
 
 -- plain arithmetic
 pub one_less : (z m : ℕ) → 1 ≤ z → z * m ≡ (z - 1) * m + m
@@ -51,20 +50,8 @@ pub floor_ceiling : (x y : ℕ) → 0 < y → x / y ≤ ceiling x y
 floor_ceiling x y some = let whole : x / y * y ≤ x = (let e = whole_paid y x in omega arith) in
     le-div (x / y) (x + (y - 1)) y some (omega arith)
 
-pub taken_none : (r : Reply) (k : ℕ) → k ≡ 0 → blocks_if_new r k ≡ 0
-taken_none (Rattle.never_heap.specs.declared.Reply.TheVariants.New a) k e = e
-taken_none _ k e = refl
-
 pub taken_full : (r : Reply) (z k : ℕ) → r ≡ Full z → blocks_if_new r k ≡ 0
 taken_full r z k e = ap (λ q. blocks_if_new q k) e
-
-pub not_full : (c : Config) (past : List HistoryItem) (r : Reply) → is_full r ≡ false
-    → IsLicensedReply c past r
-not_full c past (Full z) e = absurd cc
-not_full c past _ e = tt
-
-pub bool_no : (b : Bool) → b ≡ false → b ≡ true → ⊥
-bool_no b f t = both_ways b f t
 
 module _ (c : Config) (rate : ℕ) (black : ℕ → ℕ) (some : 0 < rate) (s : Tally)
     (k : TallyKept c rate black s) where

@@ -9,16 +9,18 @@ use Rattle.never_heap.specs.Given.{given}
 use Rattle.never_heap.specs.Licensed.{IsLicensedReply}
 use Rattle.never_heap.specs.Taken.{taken_by}
 use Rattle.never_heap.specs.Steps.{blocks_of}
+use Rattle.never_heap.proofs.CycleGrowth.{taken_none}
+use Rattle.never_heap.proofs.NoFullRuns.{needs_no_licence}
 use Rattle.block_store.specs.Counts.{changed, total}
 use Rattle.work_account.specs.Accounts.{published, refused, given_in}
 use Rattle.block_store.proofs.Functions.{changed_both, total_changed}
-use Rattle.work_account.proofs.Balances.{published_sound, refused_sound}
+use Rattle.block_store.proofs.Totals.{total_below}
+use Rattle.work_account.proofs.Balances.{published_sound, refused_sound, given_more_in}
 use Rattle.cycle_tally.specs.Tallies.{Spending, Tally, given_now, reserved_now}
 use Rattle.cycle_tally.specs.Events.{Credit, Reserve, Publish, Refuse, Answer, apply, Guard}
 use Rattle.cycle_tally.specs.Kept.{most_given, live_before, TallyKept}
-use Rattle.cycle_tally.proofs.Sums.{total_below, given_more_in}
 use Rattle.cycle_tally.proofs.OneThreadEvents.{goes, stays, decided}
-use Rattle.cycle_tally.proofs.CycleUnits.{floor_ceiling, taken_none, taken_full, not_full, all_given_now}
+use Rattle.cycle_tally.proofs.CycleUnits.{floor_ceiling, taken_full, all_given_now}
 
 module _ (c : Config) (rate : ℕ) (black : ℕ → ℕ) (some : 0 < rate) (s : Tally)
     (k : TallyKept c rate black s) where
@@ -87,7 +89,7 @@ module _ (c : Config) (rate : ℕ) (black : ℕ → ℕ) (some : 0 < rate) (s : 
         reserved = omega (arith, g.6, g.4);
         unpaid = omega (arith, none_idled);
         whole = omega (arith, g.5.paid, g.5.untold, none_idled);
-        licensed = not_full c s.order e.reply g.7;
+        licensed = needs_no_licence c s.order e.reply g.7;
       })
 
   pub answers : (t : ℕ) (e : Entry) → Guard c rate black s (Answer t e)
@@ -117,7 +119,7 @@ module _ (c : Config) (rate : ℕ) (black : ℕ → ℕ) (some : 0 < rate) (s : 
         reserved = omega arith;
         unpaid = omega arith;
         whole = omega (arith, g.4);
-        licensed = not_full c s.order e.reply g.3;
+        licensed = needs_no_licence c s.order e.reply g.3;
       })
 
   -- the blocks reserved, and those of a thread that has paid and not reserved, are paid

@@ -1,5 +1,5 @@
 -- The events of the example may come one after another.
-use Rattle.std.proofs.Common.{◌≡◌, ℕ, ◌≤◌, true, leb, refl, inl, false, inr, sym, subst, [], ◌∷◌}
+use Rattle.std.proofs.Common.{◌≡◌, ℕ, ◌≤◌, true, refl, inl, false, inr, sym, subst, [], ◌∷◌}
 use Rattle.std.proofs.lemmas.Bool.{leb-true}
 use Rattle.block_store.specs.declared.Width.{Width}
 use Rattle.block_store.specs.declared.Width.TheVariants.{Four, Eight}
@@ -17,19 +17,16 @@ use Rattle.cycle_tally.specs.Events.{Guarded}
 use Rattle.cycle_tally.proofs.GuardTests.{in_bounds, all_small, all_guarded}
 use Rattle.cycle_tally.specs.Example.{tight, tight_rate, asked_entry, full_events, full_start, full_end, small, small_rate, blacks, some_events, example_start, example_end}
 
-most : (a b : ℕ) → leb a b ≡ true → a ≤ b
-most a b h = leb-true a b h
-
 pub bounds : (w : Width) → IsInBounds (small w)
 bounds w = in_bounds (small w) refl
 
 pub room : (w : Width) → opening_blocks (small w) ≤ (small w).blocks
 unfolding tree
-room Four = most _ _ refl
-room Eight = most _ _ refl
+room Four = leb-true _ _ refl
+room Eight = leb-true _ _ refl
 
 pub keeps_up : (w : Width) → KeepsUp (small w) small_rate
-keeps_up w = most _ _ refl
+keeps_up w = leb-true _ _ refl
 
 pub example_runs : (w : Width)
     → Guarded (small w) small_rate blacks (example_start w) some_events
@@ -64,12 +61,12 @@ tight_bounds Eight = in_bounds (tight Eight) refl
 
 pub tight_room : (w : Width) → opening_blocks (tight w) ≤ (tight w).blocks
 unfolding tree
-tight_room Four = most _ _ refl
-tight_room Eight = most _ _ refl
+tight_room Four = leb-true _ _ refl
+tight_room Eight = leb-true _ _ refl
 
 pub tight_keeps_up : (w : Width) → KeepsUp (tight w) (tight_rate w)
-tight_keeps_up Four = most _ _ refl
-tight_keeps_up Eight = most _ _ refl
+tight_keeps_up Four = leb-true _ _ refl
+tight_keeps_up Eight = leb-true _ _ refl
 
 pub full_runs : (w : Width) → Guarded (tight w) (tight_rate w) blacks (full_start w) (full_events w)
 unfolding live_blocks reachable tree

@@ -1,6 +1,6 @@
 -- Events that move one thread or the phase, and the start of a cycle.
 use Rattle.std.proofs.Common.{◌≡◌, ℕ, suc, ◌+◌, ◌-◌, ◌*◌, ◌≤◌, ◌<◌, max, true, false, ◌&&◌, ltb, refl, arith, ap, sym, ◌∙◌, subst, [], ◌∷◌, ◌++◌, inl, inr, lt-ltb}
-use Rattle.std.proofs.lemmas.Bool.{cases_eq, cases_lt, le-ltb}
+use Rattle.std.proofs.lemmas.Bool.{cases_eq, cases_lt, le-ltb, both_ways}
 use Rattle.block_store.specs.declared.Config.{Config}
 use Rattle.block_store.specs.Phases.{bit}
 use Rattle.never_heap.specs.Histories.{Started, work_in}
@@ -12,14 +12,15 @@ use Rattle.never_heap.proofs.CycleGrowth.{right_work_more, licensed_more, graph_
 use Rattle.block_store.specs.Counts.{total}
 use Rattle.work_account.specs.Accounts.{entered, units_in, given_in}
 use Rattle.block_store.proofs.Functions.{total_none}
-use Rattle.work_account.proofs.Balances.{entered_sound}
+use Rattle.block_store.proofs.Totals.{total_least, total_nought}
+use Rattle.work_account.proofs.Balances.{entered_sound, paid_entered, cycle_entered, units_entered, given_entered, units_later, given_later}
 use Rattle.cycle_tally.specs.Tallies.{Spending, Tally, claims, given_now, made_of}
 use Rattle.cycle_tally.specs.Events.{Enter, Leave, SetCursor, Flip, Start, Clear, Next, with_thread, apply, Guard}
 use Rattle.cycle_tally.specs.Entries.{entries_in}
 use Rattle.cycle_tally.specs.Kept.{most_work, SpendingKept, live_before, TallyKept}
-use Rattle.cycle_tally.proofs.Sums.{total_least, total_nought, paid_entered, cycle_entered, units_entered, given_entered, units_later, given_later, no_claims}
+use Rattle.cycle_tally.proofs.Sums.{no_claims}
 use Rattle.cycle_tally.proofs.OneThreadEvents.{goes, stays}
-use Rattle.cycle_tally.proofs.CycleUnits.{one_less, entries_started, in_threads_more, bool_no, scanned_one, few_units, all_given_now, given_then}
+use Rattle.cycle_tally.proofs.CycleUnits.{one_less, entries_started, in_threads_more, scanned_one, few_units, all_given_now, given_then}
 
 -- plain arithmetic
 cheap_on : (new old now before : ℕ) → new ≡ old + 0 → now ≡ before → old ≤ before → new ≤ now
@@ -144,7 +145,7 @@ module _ (c : Config) (rate : ℕ) (black : ℕ → ℕ) (some : 0 < rate) (s : 
   pub outside_claims : (x t : ℕ) → t < c.threads → (s.threads t).inside ≡ false
       → claims x (s.threads t) ≡ 0
   outside_claims x t tl out = elim (cases_lt (s.threads t).low (s.threads t).high) [
-    | inl l ↦ absurd (bool_no _ out ((k.each t tl).claimed l).1)
+    | inl l ↦ absurd (both_ways _ out ((k.each t tl).claimed l).1)
     | inr g ↦ no_claims x (s.threads t) g
   ]
 
@@ -193,7 +194,7 @@ module _ (c : Config) (rate : ℕ) (black : ℕ → ℕ) (some : 0 < rate) (s : 
           claimed = o.claimed;
           reserved = o.reserved;
           entered = omega (arith, o.entered);
-          present = λ h. absurd (bool_no _ (g.2 t tl) h);
+          present = λ h. absurd (both_ways _ (g.2 t tl) h);
         });
         cursor = k.cursor;
         scans = λ x. omega arith;

@@ -45,9 +45,6 @@ flat8 p =
 yes_is : (b : Bool) → b ≡ true → b ≡ true
 yes_is b h = h
 
-no_is : (b : Bool) → not b ≡ true → b ≡ false
-no_is b h = not-true b h
-
 apart : (a b : ℕ) → not (eqb a b) ≡ true → a ≢ b
 apart a b h e = both_ways (eqb a b) (not-true (eqb a b) h) (eq-eqb a b e)
 
@@ -200,12 +197,12 @@ module _ (c : Config) (rate : ℕ) (black : ℕ → ℕ) where
   may_is : (s : Tally) (e : Event) → may s e ≡ true → Guard c rate black s e
   may_is s (Enter t) h = ltb-true _ _ h
   may_is s (Leave t) h = flat3 (both _ _ (ltb-true _ _) (both _ _ (leb-true _ _) (eqb-true _ _)) h)
-  may_is s SetCursor h = no_is _ h
-  may_is s Flip h = both _ _ (no_is _) (eqb-true _ _) h
+  may_is s SetCursor h = not-true _ h
+  may_is s Flip h = both _ _ (not-true _) (eqb-true _ _) h
   may_is s Start h = flat4 (both _ _ (yes_is _) (both _ _ (ltb-true _ _)
       (both _ _ (outside_is c.threads s.threads) (leb-true _ _))) h)
   may_is s (Paint x w) h = painted s x w h
-  may_is s (Scan t x) h = flat8 (both _ _ (ltb-true _ _) (both _ _ (yes_is _) (both _ _ (no_is _)
+  may_is s (Scan t x) h = flat8 (both _ _ (ltb-true _ _) (both _ _ (yes_is _) (both _ _ (not-true _)
       (both _ _ (ltb-true _ _) (both _ _ (leb-true _ _) (both _ _ (apart _ _)
       (both _ _ (ltb-true _ _) (leb-true _ _))))))) h)
   may_is s (Claim t r) h = flat6 (both _ _ (ltb-true _ _) (both _ _ (yes_is _) (both _ _ (yes_is _)
@@ -219,14 +216,14 @@ module _ (c : Config) (rate : ℕ) (black : ℕ → ℕ) where
   may_is s (Publish t e) h = flat8 (both _ _ (ltb-true _ _)
       (both _ _ (yes_is _) (both _ _ (leb-true _ _)
       (both _ _ (decides_is t (s.threads t) e) (both _ _ (eqb-true _ _)
-      (both _ _ (all_paid_is (s.threads t)) (both _ _ (eqb-true _ _) (no_is _))))))) h)
+      (both _ _ (all_paid_is (s.threads t)) (both _ _ (eqb-true _ _) (not-true _))))))) h)
   may_is s (Refuse t e) h = flat8 (both _ _ (ltb-true _ _)
       (both _ _ (yes_is _) (both _ _ (leb-true _ _)
       (both _ _ (decides_is t (s.threads t) e) (both _ _ (eqb-true _ _)
       (both _ _ (all_paid_is (s.threads t))
       (both _ _ (ltb-true _ _) (full_is (max 1 (s.cycle - 1)) e.reply))))))) h)
   may_is s (Answer t e) h = flat5 (both _ _ (ltb-true _ _) (both _ _ (decides_is t (s.threads t) e)
-      (both _ _ (eqb-true _ _) (both _ _ (no_is _) (eqb-true _ _)))) h)
+      (both _ _ (eqb-true _ _) (both _ _ (not-true _) (eqb-true _ _)))) h)
   may_is s (Next t k u) h = flat7 (both _ _ (ltb-true _ _)
       (both _ _ (leb-true _ _) (both _ _ (eqb-true _ _)
       (both _ _ (eqb-true _ _) (both _ _ (leb-true _ _)

@@ -5,7 +5,6 @@ use Rattle.std.specs.List.{sum_by}
 use Rattle.std.proofs.lemmas.Bool.{not-true}
 use Rattle.block_store.specs.declared.Config.{Config}
 use Rattle.block_store.specs.declared.Name.{Name}
-use Rattle.block_store.specs.declared.Width.{Width}
 use Rattle.block_store.specs.Phases.{bit}
 use Rattle.block_store.specs.Registers.{registers_end}
 use Rattle.never_heap.specs.Graphs.{Graph, start_graph, object_of, has_name, same_name}
@@ -16,26 +15,24 @@ use Rattle.never_heap.specs.LiveBlocks.{object_blocks, live_of, live_blocks}
 use Rattle.never_heap.specs.Reach.{reachable, names}
 use Rattle.never_heap.specs.Taken.{taken_in}
 use Rattle.never_heap.proofs.ReachSteps.{reachable_named}
-use Rattle.never_heap.proofs.UnchangedBySteps.{replay_shape}
+use Rattle.never_heap.proofs.UnchangedBySteps.{replay_shape, threads_of_replay}
 use Rattle.never_heap.proofs.Sums.{sum_same, all_named}
 use Rattle.never_heap.proofs.StartGraph.{threads_of_start}
 use Rattle.never_heap.proofs.NameLists.{same_itself, any_of_names}
+use Rattle.never_heap.proofs.CycleGrowth.{replay_parts}
+use Rattle.never_heap.proofs.LiveBlocksBound.{live_sum}
 use Rattle.block_store.specs.Counts.{times, total}
+use Rattle.block_store.proofs.Totals.{times_append}
 use Rattle.cycle_tally.specs.InUse.{IsBlockOfThese, IsCovered, count_free}
 use Rattle.cycle_tally.specs.Entries.{InThreads}
-use Rattle.cycle_tally.proofs.BlockLists.{times_append, listed, these, length_these, times_these, blocks_at, length_blocks, times_blocks}
-use Rattle.cycle_tally.proofs.MadeNames.{made_from, threads_of_replay, in_made, replay_parts, legal_rest, threads_rest, starts_rest, taken_first, same_blocks, made_taken}
+use Rattle.cycle_tally.proofs.BlockLists.{listed, these, length_these, times_these, blocks_at, length_blocks, times_blocks}
+use Rattle.cycle_tally.proofs.MadeNames.{made_from, in_made, legal_rest, threads_rest, starts_rest, taken_first, same_blocks, made_taken}
 
 legal_from : (c : Config) (h : List HistoryItem) → Legal c h
     → (1 ≤ starts_in h) × LegalFrom (start_graph c) h
 legal_from c [] l = absurd l
 legal_from c (Started ∷ h) l = (omega arith, (tt, l))
 legal_from c (Did e ∷ h) l = absurd l
-
-live_sum : (w : Width) (g : Graph)
-    → live_blocks w g ≡ registers_end w (length g.mutators) + sum_by (live_of w g) (names g)
-unfolding live_blocks
-live_sum w g = refl
 
 module _ (c : Config) (h : List HistoryItem) (at : Name → ℕ → ℕ) (free : ℕ → Bool)
     (legal : Legal c h) (threads : InThreads c.threads h) (cover : IsCovered c h at free) where
@@ -156,7 +153,7 @@ module _ (c : Config) (h : List HistoryItem) (at : Name → ℕ → ℕ) (free :
       ap (registers_end c.width) threads_here in
       omega (arith, live_sum c.width g, live_sizes, made_sizes)
 
-one_of : (b : Bool) → bit b + bit (not b) ≡ 1
+pub one_of : (b : Bool) → bit b + bit (not b) ≡ 1
 one_of true = refl
 one_of false = refl
 

@@ -12,6 +12,7 @@ use Rattle.never_heap.specs.Given.{given}
 use Rattle.never_heap.specs.Licensed.{Licensed}
 use Rattle.never_heap.specs.LiveBlocks.{live_blocks}
 use Rattle.never_heap.specs.RightWork.{RightWork}
+use Rattle.never_heap.proofs.CycleGrowth.{given_nought}
 use Rattle.block_store.specs.Counts.{total}
 use Rattle.work_account.specs.Accounts.{Balance, opened, IsSound, units_in, given_in}
 use Rattle.block_store.proofs.Functions.{total_none, bit_le}
@@ -22,7 +23,7 @@ use Rattle.cycle_tally.specs.Entries.{entries_in, InThreads}
 use Rattle.cycle_tally.specs.Kept.{most_work, SpendingKept, live_before, TallyKept}
 use Rattle.cycle_tally.specs.InitialHeaps.{Opened}
 use Rattle.cycle_tally.specs.Bounds.{AsksNothing, Bound}
-use Rattle.cycle_tally.proofs.Sums.{given_nought, no_claims}
+use Rattle.cycle_tally.proofs.Sums.{no_claims}
 use Rattle.cycle_tally.proofs.CycleUnits.{one_less, few_units, all_given_now}
 use Rattle.cycle_tally.proofs.GateAndPhaseEvents.{passed_all}
 use Rattle.cycle_tally.proofs.Steps.{step_kept}

@@ -14,7 +14,7 @@ use Rattle.array_trees.specs.Trees.{array_blocks}
 use Rattle.never_heap.specs.declared.Command.{Command}
 use Rattle.never_heap.specs.declared.Command.TheVariants as commands
 use Rattle.never_heap.specs.declared.Entry.{Entry}
-use Rattle.never_heap.specs.Graphs.{Graph, Object, Record, Array, SameShape, object_of, has_name, same_name, next_name, nils, with_object, with_register}
+use Rattle.never_heap.specs.Graphs.{Graph, Object, Record, Array, SameShape, object_of, has_name, same_name, next_name, nils, with_object}
 use Rattle.never_heap.specs.Histories.{HistoryItem, Started, Did, is_full, after, replay_from, starts_in, IsAnswered, LegalFrom}
 use Rattle.never_heap.specs.Cycles.{before_start, after_start}
 use Rattle.never_heap.specs.LiveBlocks.{blocks_of_kind, object_blocks}
@@ -22,8 +22,8 @@ use Rattle.never_heap.specs.Taken.{taken_by, taken_in, blocks_if_new}
 use Rattle.never_heap.specs.Steps.{step, made, makes_object, blocks_of}
 use Rattle.never_heap.proofs.GraphMoves.{object_with_register, has_name_with_register}
 use Rattle.never_heap.proofs.FieldStores.{object_with_object, has_name_with_object, has_name_with_field}
-use Rattle.never_heap.proofs.StepChanges.{Change, none, store, put, swap, make, change_of, has_field, with_object_threads, threads_put, step_threads}
-use Rattle.never_heap.proofs.UnchangedBySteps.{replay_keeps, replay_shape}
+use Rattle.never_heap.proofs.StepChanges.{Change, none, store, put, swap, make, change_of, has_field, with_object_threads, threads_put}
+use Rattle.never_heap.proofs.UnchangedBySteps.{replay_shape, threads_of_replay}
 use Rattle.never_heap.proofs.NameLists.{same_itself, one_name}
 use Rattle.cycle_tally.specs.Entries.{InThreads}
 
@@ -36,12 +36,6 @@ abbrev pub made_from : Graph → List HistoryItem → List Name
 made_from g [] = []
 made_from g (Started ∷ h) = made_from g h
 made_from g (Did e ∷ h) = made_by g e ++ made_from (after g (Did e)) h
-
--- the threads of a replay
-pub threads_of_replay : (g : Graph) (h : List HistoryItem)
-    → length (replay_from g h).mutators ≡ length g.mutators
-threads_of_replay g h = replay_keeps (λ k. length k.mutators ≡ length g.mutators)
-    (λ k t q e. step_threads k t q ∙ e) h g refl
 
 same_threads : (g : Graph) (e : Entry) (h : List HistoryItem) → InThreads (length g.mutators) h
     → InThreads (length (after g (Did e)).mutators) h
@@ -110,16 +104,6 @@ in_made g (Did e ∷ h) a t y n =
       | inr no_name ↦ or_right (list_any (same_name a) (made_by g e)) _
           (in_made (after g (Did e)) h a (same_threads g e h t.1) y no_name)
     ]
-
--- a history splits at the start of a cycle
-pub replay_parts : (g : Graph) (h : List HistoryItem) (z : ℕ) → 1 ≤ z → z ≤ starts_in h
-    → replay_from g h ≡ replay_from (replay_from g (before_start z h)) (after_start z h)
-replay_parts g [] z l m = absurd (omega arith)
-replay_parts g (Started ∷ h) z l m = elim (cases_eq z 1) [
-  | inl e ↦ rw (eq-eqb z 1 e) refl
-  | inr ne ↦ rw (ne_eqb z 1 ne) (replay_parts g h (z - 1) (omega arith) (omega arith))
-]
-replay_parts g (Did e ∷ h) z l m = replay_parts (after g (Did e)) h z l m
 
 pub legal_rest : (g : Graph) (h : List HistoryItem) (z : ℕ) → 1 ≤ z → z ≤ starts_in h
     → LegalFrom g h → LegalFrom (replay_from g (before_start z h)) (after_start z h)

@@ -1,10 +1,10 @@
 -- What an event of one thread makes of a tally.
-use Rattle.std.proofs.Common.{◌≡◌, ℕ, ◌+◌, ◌-◌, ◌*◌, ◌≤◌, ◌<◌, ◌&&◌, ◌||◌, eqb, ltb, arith, ap, sym, ◌∙◌, [], ◌∷◌, ◌++◌}
+use Rattle.std.proofs.Common.{◌≡◌, ℕ, ◌+◌, ◌-◌, ◌*◌, ◌≤◌, ◌<◌, ◌&&◌, ◌||◌, eqb, ltb, arith, ap, sym, ◌∙◌, [], ◌∷◌, ◌++◌, subst}
 use Rattle.std.proofs.lemmas.Nat.{mul-le}
 use Rattle.block_store.specs.declared.Config.{Config}
 use Rattle.block_store.specs.Counts.{changed, total}
 use Rattle.block_store.specs.Phases.{bit}
-use Rattle.block_store.proofs.Functions.{total_changed}
+use Rattle.block_store.proofs.Functions.{total_changed, changed_here, changed_else}
 use Rattle.never_heap.specs.declared.Entry.{Entry}
 use Rattle.never_heap.specs.Given.{given}
 use Rattle.never_heap.specs.Histories.{Did, work_in}
@@ -192,3 +192,13 @@ module _ (c : Config) (rate : ℕ) (black : ℕ → ℕ) (some : 0 < rate) (s : 
             ∙ ap (λ z. rate * blocks_of c.width e.command + z) (sym d.told));
         licensed = licensed_more c s.order (Did e) k.licensed q.licensed;
       }
+
+-- what holds of a thread that is changed once, and twice
+pub spends_here : (P : Spending → Type 0) (f : ℕ → Spending) (t : ℕ) (w : Spending) → P w → P (changed f t w t)
+spends_here P f t w p = subst P (sym (changed_here f t w)) p
+
+pub spends_twice : (P : Spending → Type 0) (f : ℕ → Spending) (t : ℕ) (w : Spending) (g : Spending → Spending) → P (g w) → P (changed (changed f t w) t (g (changed f t w t)) t)
+spends_twice P f t w g p = subst P (sym (changed_here (changed f t w) t (g (changed f t w t)) ∙ ap g (changed_here f t w))) p
+
+pub others_twice : (f : ℕ → Spending) (t : ℕ) (w v : Spending) (u : ℕ) → (t ≡ u → ⊥) → changed (changed f t w) t v u ≡ f u
+others_twice f t w v u other = changed_else (changed f t w) t u v other ∙ changed_else f t u w other

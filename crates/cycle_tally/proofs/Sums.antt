@@ -1,37 +1,12 @@
 -- Sums over the threads and the blocks, and what an event of one thread makes of them.
-use Rattle.std.proofs.Common.{◌≡◌, ℕ, zero, suc, ◌+◌, ◌*◌, ◌≤◌, ◌<◌, false, leb, refl, arith, ap, ◌∙◌, List, [], ◌∷◌, inl, inr, eq-eqb, ne_eqb, lt-ltb}
+use Rattle.std.proofs.Common.{◌≡◌, ℕ, zero, suc, ◌+◌, ◌*◌, ◌≤◌, ◌<◌, false, leb, refl, arith, ap, ◌∙◌, inl, inr, eq-eqb, ne_eqb, lt-ltb}
 use Rattle.std.proofs.lemmas.Bool.{cases_eq, cases_lt, le-leb, lt-leb, le-ltb, and_right}
-use Rattle.block_store.specs.declared.Width.{Width}
 use Rattle.block_store.specs.Phases.{bit}
-use Rattle.never_heap.specs.Histories.{HistoryItem, Started, Did}
-use Rattle.never_heap.specs.Given.{given}
-use Rattle.never_heap.specs.Cycles.{before_start, after_start}
-use Rattle.never_heap.specs.Taken.{taken_in}
 use Rattle.block_store.specs.Counts.{changed, total}
-use Rattle.work_account.specs.Accounts.{Balance, IsSound, entered, with_unit, published, units_in, given_in}
+use Rattle.work_account.specs.Accounts.{IsSound, units_in, given_in}
 use Rattle.cycle_tally.specs.Tallies.{Spending, claims, made_of, due_of, with_made}
 use Rattle.cycle_tally.specs.Kept.{IsTold}
 use Rattle.work_account.proofs.Balances.{unit_sound, idle_sound}
-
-pub total_ones : (n : ℕ) (f : ℕ → ℕ) → ((x : ℕ) → x < n → f x ≤ 1) → total n f ≤ n
-total_ones zero f h = omega arith
-total_ones (suc n) f h = let rest : total n f ≤ n = total_ones n f (λ x l. h x (omega arith)) in
-    let last : f n ≤ 1 = h n (omega arith) in omega arith
-
-pub total_least : (n : ℕ) (f : ℕ → ℕ) → ((x : ℕ) → x < n → f x ≡ 1) → total n f ≡ n
-total_least zero f h = refl
-total_least (suc n) f h = let rest : total n f ≡ n = total_least n f (λ x l. h x (omega arith)) in
-    let last : f n ≡ 1 = h n (omega arith) in omega arith
-
-pub total_below : (n : ℕ) (f g : ℕ → ℕ) → ((x : ℕ) → x < n → f x ≤ g x) → total n f ≤ total n g
-total_below zero f g h = omega arith
-total_below (suc n) f g h = let rest : total n f ≤ total n g =
-    total_below n f g (λ x l. h x (omega arith)) in let last : f n ≤ g n = h n (omega arith) in
-    omega arith
-
-pub total_nought : (n : ℕ) → total n (λ x. 0) ≡ 0
-total_nought zero = refl
-total_nought (suc n) = let rest : total n (λ x. 0) ≡ 0 = total_nought n in omega arith
 
 -- a count of blocks, from 1 on, that rises at one of them
 rises_above : (n : ℕ) (f : ℕ → ℕ) (y v : ℕ) → n < y
@@ -54,34 +29,6 @@ rises (suc n) f y pos low = elim (cases_eq y (suc n)) [
       let below = rises n f y pos (omega arith) in
       rw (ne_eqb y (suc n) ne) (omega arith)
 ]
-
--- what the calls of an account make of its counts in the cycle z
-pub paid_entered : (z : ℕ) (a : Balance) → (entered z a).paid ≡ a.paid
-paid_entered z a = elim (cases_lt a.cycle z) [
-  | inl l ↦ rw (lt-ltb a.cycle z l) refl
-  | inr g ↦ rw (le-ltb a.cycle z g) refl
-]
-
-pub cycle_entered : (z : ℕ) (a : Balance) → a.cycle ≤ z → (entered z a).cycle ≡ z
-cycle_entered z a low = elim (cases_lt a.cycle z) [
-  | inl l ↦ rw (lt-ltb a.cycle z l) refl
-  | inr g ↦ rw (le-ltb a.cycle z g) (omega arith)
-]
-
-pub units_entered : (z : ℕ) (a : Balance) → a.cycle ≤ z → units_in z (entered z a) ≡ units_in z a
-units_entered z a low = elim (cases_lt a.cycle z) [
-  | inl l ↦ rw (lt-ltb a.cycle z l, eq-eqb z z refl, ne_eqb a.cycle z (λ e. omega arith)) refl
-  | inr g ↦ rw (le-ltb a.cycle z g) refl
-]
-
-pub given_entered : (z : ℕ) (a : Balance) → a.cycle ≤ z → given_in z (entered z a) ≡ given_in z a
-given_entered z a low = elim (cases_lt a.cycle z) [
-  | inl l ↦ rw (lt-ltb a.cycle z l, eq-eqb z z refl, ne_eqb a.cycle z (λ e. omega arith)) refl
-  | inr g ↦ rw (le-ltb a.cycle z g) refl
-]
-
-pub units_more : (z : ℕ) (a : Balance) → a.cycle ≡ z → units_in z (with_unit a) ≡ units_in z a + 1
-units_more z a e = rw (eq-eqb a.cycle z e) refl
 
 -- a unit more for the command in hand
 pub made_more : (w : Spending) → made_of (with_made w) ≡ made_of w + 1
@@ -143,25 +90,6 @@ full_is_full rate w k some is paid less = elim k.apart [
   | inl untold ↦ omega arith
   | inr unasked ↦ some (is ∙ unasked)
 ]
-
-pub given_more_in : (z k : ℕ) (a : Balance) → a.cycle ≡ z
-    → given_in z (published k a) ≡ given_in z a + k
-given_more_in z k a e = rw (eq-eqb a.cycle z e) refl
-
-pub units_later : (z : ℕ) (a : Balance) → a.cycle ≤ z → units_in (z + 1) a ≡ 0
-units_later z a l = rw (ne_eqb a.cycle (z + 1) (λ e. omega arith)) refl
-
-pub given_later : (z : ℕ) (a : Balance) → a.cycle ≤ z → given_in (z + 1) a ≡ 0
-given_later z a l = rw (ne_eqb a.cycle (z + 1) (λ e. omega arith)) refl
-
--- no cycle has the number 0
-after_nought : (h : List HistoryItem) → after_start 0 h ≡ []
-after_nought [] = refl
-after_nought (Started ∷ h) = after_nought h
-after_nought (Did e ∷ h) = after_nought h
-
-pub given_nought : (w : Width) (h : List HistoryItem) → given w h 0 ≡ 0
-given_nought w h = ap (λ k. taken_in w (before_start 1 k)) (after_nought h)
 
 -- how many claims there are on a block where one thread's claim changes
 pub no_claims : (x : ℕ) (w : Spending) → w.high ≤ w.low → claims x w ≡ 0

@@ -10,10 +10,10 @@ use Rattle.exit_statuses.specs.Exits.{Exit, IsDue, IsDueOrFails, IsDueFor, IsTol
 use Rattle.exit_statuses.specs.Sides.{Sides}
 
 -- where a text is known and it holds of it, it holds of what is told
-if_told : (o : Option (List ℕ)) (P Q : List ℕ → Type 0) → ((b : List ℕ) → P b → Q b)
+pub map_told : (o : Option (List ℕ)) (P Q : List ℕ → Type 0) → ((b : List ℕ) → P b → Q b)
     → IfSome o P → IfSome o Q
-if_told None P Q f h = tt
-if_told (Some b) P Q f h = f b h
+map_told None P Q f h = tt
+map_told (Some b) P Q f h = f b h
 
 always : (P : List ℕ → Type 0) → ((b : List ℕ) → P b) → (o : Option (List ℕ)) → IfSome o P
 always P f None = tt
@@ -112,11 +112,11 @@ module _ (Ask AskForText : List (List ℕ) → Type 0) (limit : ℕ)
 
         known : IfSome x.source.bytes (λ b. Found b x.due) → Known
         known found = record {
-          too_long = if_told x.source.bytes (λ b. Found b x.due) _
+          too_long = map_told x.source.bytes (λ b. Found b x.due) _
               (λ b h l. when_long apart b x.due h l) found;
-          caused = λ r. if_told x.source.bytes (λ b. Found b x.due) _
+          caused = λ r. map_told x.source.bytes (λ b. Found b x.due) _
               (λ b h l. when_caused apart b x.due h r l) found;
-          fine = if_told x.source.bytes (λ b. Found b x.due) _
+          fine = map_told x.source.bytes (λ b. Found b x.due) _
               (λ b h l. when_fine apart b x.due h l) found;
         }
 
@@ -140,7 +140,7 @@ module _ (Ask AskForText : List (List ℕ) → Type 0) (limit : ℕ)
         }
           where
             found : AskForText x.words → IfSome x.source.bytes (λ b. Found b x.due)
-            found a = if_told x.source.bytes (λ b. (length b ≤ limit) × IsFine b)
+            found a = map_told x.source.bytes (λ b. (length b ≤ limit) × IsFine b)
                 (λ b. Found b x.due) (λ b h. Done due h.0 h.1)
                 (told_so IsFine x.source (read a))
 
@@ -171,7 +171,7 @@ module _ (Ask AskForText : List (List ℕ) → Type 0) (limit : ℕ)
             read_fault = λ five. absurd (not_five (sym e ∙ five));
             read_fault_told = λ more.
                 absurd (not_risen x.source.faults x.source.faults_now c.1.unfailed more);
-            found = λ _. if_told x.source.bytes (λ b. (length b ≤ limit) × Causes b q)
+            found = λ _. map_told x.source.bytes (λ b. (length b ≤ limit) × Causes b q)
                 (λ b. Found b x.due) (λ b h. Caused q e h.0 h.1)
                 (told_so (λ text. Causes text q) x.source c.1);
           }
@@ -191,7 +191,7 @@ module _ (Ask AskForText : List (List ℕ) → Type 0) (limit : ℕ)
             read_fault = λ five. absurd (omega arith);
             read_fault_told = λ more.
                 absurd (not_risen x.source.faults x.source.faults_now c.1.1 more);
-            found = λ _. if_told x.source.bytes _ (λ b. Found b x.due) (λ b h. Long e h.0) c.1.0;
+            found = λ _. map_told x.source.bytes _ (λ b. Found b x.due) (λ b h. Long e h.0) c.1.0;
           }
           told_by ReadFault e c = record {
             is_due = inr (inr (inr (inl e)));

@@ -6,8 +6,8 @@ use Rattle.trace_text.specs.Inputs as inputs
 use Rattle.trace_text.specs.Streams.{IsAtEnd, TookAtMost}
 use Rattle.exit_statuses.specs.declared.refusal.Refusal.{Refusal}
 use Rattle.exit_statuses.specs.declared.refusal.Refusal.TheVariants as refusals
-use Rattle.exit_statuses.specs.Refusals.{IsReadWhole, IsReadTooFar, IsReadInPart, IsReadRefusal, IsCause}
-use Rattle.exit_statuses.specs.Sides.{Sides}
+use Rattle.exit_statuses.specs.Refusals.{IsReadWhole, IsReadTooFar, IsReadInPart, IsReadRefusal, IsCause, HasRead}
+use Rattle.exit_statuses.specs.Sides.{Sides, IsUnfailed}
 
 left_behind : (bytes front rest : List ℕ) → bytes ≡ front ++ rest → drop (length front) bytes ≡ rest
 left_behind bytes front rest e = ap (drop (length front)) e ∙ drop-append_seam front rest
@@ -29,6 +29,16 @@ whole None new front h e = tt
 whole (Some bytes) new front h e =
     let none : h.0 ≡ [] = same_Some h.0 [] (sym h.2 ∙ e) in
     h.1 ∙ ap (λ (r : List ℕ). front ++ r) none ∙ append-nil front
+
+-- what holds of a text that was read whole was read
+pub has_read : {limit : ℕ} (source : Sides) (text : List ℕ) → IsReadWhole limit source text
+    → IsUnfailed source → (P : List ℕ → Type 0) → P text → HasRead limit P source
+has_read source text whole still P p = record {
+  text = text;
+  whole = whole;
+  holds = p;
+  unfailed = still;
+}
 
 module _ (limit : ℕ) (source : Sides) (front : List ℕ)
     (read : inputs.HasRead source.bytes front source.bytes_now) where

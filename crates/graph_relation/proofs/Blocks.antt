@@ -8,11 +8,12 @@ use Rattle.block_store.specs.declared.Value.{Value}
 use Rattle.block_store.specs.declared.Value.TheVariants.{Nil}
 use Rattle.never_heap.specs.Graphs.{Object, same_name, field_of, set_field}
 use Rattle.never_heap.proofs.GraphMoves.{get_or_set}
+use Rattle.never_heap.proofs.NameLists.{one_name}
 use Rattle.object_lists.specs.Parts.{Part, Link, Field, Blank}
 use Rattle.graph_relation.specs.Layouts.{layout_blocks, layout_part, object_blocks, object_part, object_slot}
 use Rattle.graph_relation.specs.Words.{Agrees, BlockWords, value_word, part_word, kind_word, with_payload}
 use Rattle.graph_relation.specs.Shown.{heads, BlockShows, Written, Numbered}
-use Rattle.graph_relation.proofs.Names.{apart, same_is, true≢false}
+use Rattle.graph_relation.proofs.Names.{apart, true≢false}
 use Rattle.graph_relation.proofs.ObjectLayouts.{object_layout}
 
 pub block_stays : (W : Width) (head : Name → ℕ) (w u : BlockWords) (a : Name) (object : Object)
@@ -126,7 +127,7 @@ field_written W K object object' at w a i v numbered ka within change written = 
       ((object_layout W (object a)).fields i within)).1 in
       elim (cases_Bool (same_name a b)) [
         | inl same ↦
-            let e : a ≡ b = same_is a b same in
+            let e : a ≡ b = one_name a b same in
             let is : object' b ≡ set_field (object a) i v =
             change b ∙ ap (λ t. cond t (set_field (object a) i v) (object b)) same in
             let low : o < object_blocks W (object a) =

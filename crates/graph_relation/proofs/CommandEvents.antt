@@ -16,6 +16,7 @@ use Rattle.block_store.specs.Payloads.{target}
 use Rattle.block_store.specs.Shapes.{shape_of}
 use Rattle.block_store.proofs.PayloadWords.{target-reference, target-number, target-nil}
 use Rattle.never_heap.specs.Graphs.{Graph, Object, ObjectKind, Record, Array, start_graph, object_of, field_of, register_of, same_name, set_field, with_register, with_field}
+use Rattle.never_heap.proofs.NameLists.{one_name}
 use Rattle.object_lists.specs.Parts.{Part, Link, Field}
 use Rattle.graph_relation.specs.Layouts.{layout_blocks, layout_part, object_blocks, object_part, object_slot, kind_shape, shape_part}
 use Rattle.graph_relation.specs.Words.{value_word, part_word, with_payload}
@@ -25,7 +26,6 @@ use Rattle.graph_relation.specs.InitialHeaps.{opening_at}
 use Rattle.graph_relation.specs.Events.{ObjectLoad, ValueLoad, Loading, unloaded, late, value_in, with_load, is_pending, pending_registers, IsPrompt, GraphState, Event, object_at, value_at, expected_at, register_word_in, apply, HasObject, HasValue, HasExpected, IsAtField, IsAtLink, IsConstant, Guard, run, Guarded, ObjectIs, ValueIs, LoadIs, Follows, opening_state}
 use Rattle.graph_relation.specs.Events.Event.{ReadObject, ReadValue, ReadExpected, ReadShape, ReadLink, ReadField, StorePending, StoreValue, StoreConstant, StoreField, ExchangeField, Finish}
 use Rattle.graph_relation.proofs.ObjectLayouts.{object_layout}
-use Rattle.graph_relation.proofs.Names.{same_is}
 use Rattle.graph_relation.proofs.OpeningWords.{opening_shows}
 use Rattle.graph_relation.proofs.WordReads.{length_read, link_read, register_read}
 use Rattle.graph_relation.proofs.Stores.{register_store, register_pending, pending_store, field_store, more_pending, register_same, register_new, object_same, changed_object, register_kept}
@@ -455,7 +455,7 @@ module _ (W : Width) (n m : ℕ) (K : Name → Type 0) (at : Name → ℕ → �
             ≡ set_field (object_of s.graph a) i v =
             e ∙ ap (λ c. cond c (set_field (object_of s.graph a) i v)
             (object_of s.graph b)) is in
-            let one : a ≡ b = same_is a b is in (
+            let one : a ≡ b = one_name a b is in (
               ap (λ (x : Object). x.kind) f
                   ∙ ap (λ c. (object_of s.graph c).kind) one,
               ap (λ (x : Object). length x.fields) f

@@ -11,11 +11,11 @@ use Rattle.block_store.specs.Payloads.{reference_word}
 use Rattle.never_heap.specs.Graphs.{Graph, ObjectKind, object_of, has_name, same_name, with_register, with_field, with_object, next_name}
 use Rattle.never_heap.proofs.GraphMoves.{has_name_with_register}
 use Rattle.never_heap.proofs.FieldStores.{has_name_with_field, has_name_with_object}
+use Rattle.never_heap.proofs.NameLists.{same_itself}
 use Rattle.graph_relation.specs.Layouts.{object_slot}
 use Rattle.graph_relation.specs.Words.{Agrees, BlockWords, value_word, with_payload}
 use Rattle.graph_relation.specs.Shown.{IsValueOf, heads, Shows, every_name}
 use Rattle.graph_relation.specs.Made.{new_object, with_blocks, and_name, IsMade}
-use Rattle.graph_relation.proofs.Names.{same_self}
 use Rattle.graph_relation.proofs.Stores.{register_store, register_pending, field_store, same_names, words_change}
 use Rattle.graph_relation.proofs.Publish.{publish, fresh_head}
 
@@ -103,7 +103,7 @@ module _ (W : Width) (n m : ℕ) (g : Graph) (at : Name → ℕ → ℕ) (w : Bl
 
     -- the grown graph has the new name
     pub has_fresh : has_name (with_object g t (new_object k f)) (next_name g t) ≡ true
-    has_fresh = new_or_old (next_name g t) (inl (same_self (next_name g t)))
+    has_fresh = new_or_old (next_name g t) (inl (same_itself (next_name g t)))
 
 -- The object that was made is referred to by register d.
 pub every_new : (W : Width) (n m : ℕ) (g : Graph) (at : Name → ℕ → ℕ) (w : BlockWords)

@@ -1,13 +1,14 @@
 -- Names, kept values, and their words.
-use Rattle.std.proofs.Common.{◌≡◌, ℕ, ◌<◌, ◌≤◌, inl, inr, true, false, eqb, refl, sym, ap, ◌∙◌, subst, arith, eq-eqb}
-use Rattle.std.proofs.lemmas.Bool.{cases_Bool, eqb-true, and_parts}
+use Rattle.std.proofs.Common.{◌≡◌, ℕ, ◌<◌, true, false, refl, sym, ap, ◌∙◌, subst, arith, eq-eqb}
+use Rattle.std.proofs.lemmas.Bool.{eqb-true}
 use Rattle.block_store.specs.declared.Width.{Width}
 use Rattle.block_store.specs.declared.Name.{Name}
 use Rattle.block_store.specs.declared.Value.{Value}
 use Rattle.block_store.specs.declared.Value.TheVariants.{Nil, Int, Ref}
 use Rattle.block_store.proofs.WideWords.{one_wide}
-use Rattle.never_heap.specs.Graphs.{Graph, Object, same_name, has_name, count_of, next_name}
-use Rattle.never_heap.proofs.GraphMoves.{name_of_thread, same_from}
+use Rattle.never_heap.specs.Graphs.{Object, same_name}
+use Rattle.never_heap.proofs.GraphMoves.{same_from}
+use Rattle.never_heap.proofs.NameLists.{same_itself, one_name}
 use Rattle.never_heap.specs.Steps.{same_value}
 use Rattle.graph_relation.specs.Layouts.{object_blocks}
 use Rattle.graph_relation.specs.Words.{BlockWords, value_word}
@@ -20,31 +21,8 @@ true≢false e = cc
 pub name_one : (a b : Name) → a.thread ≡ b.thread → a.serial ≡ b.serial → a ≡ b
 name_one a b t s = λ i. record { thread = t i; serial = s i }
 
-pub same_parts : (a b : Name) → same_name a b ≡ true → (a.thread ≡ b.thread) × (a.serial ≡ b.serial)
-same_parts a b h = let p = and_parts (eqb a.thread b.thread) (eqb a.serial b.serial) h in
-    (eqb-true _ _ p.0, eqb-true _ _ p.1)
-
-pub same_is : (a b : Name) → same_name a b ≡ true → a ≡ b
-same_is a b h = let p = same_parts a b h in name_one a b p.0 p.1
-
-pub same_self : (a : Name) → same_name a a ≡ true
-same_self a = same_from a a refl refl
-
 pub is_same : (a b : Name) → a ≡ b → same_name a b ≡ true
-is_same a b e = subst (λ (c : Name). same_name a c ≡ true) e (same_self a)
-
--- a name of the graph is not the next one
-pub not_next : (g : Graph) (t : ℕ) (b : Name) → has_name g b ≡ true
-    → same_name (next_name g t) b ≡ false
-not_next g t b h = elim (cases_Bool (same_name (next_name g t) b)) [
-  | inr e ↦ e
-  | inl e ↦
-      let p = same_parts (next_name g t) b e in
-      let few : b.serial ≤ count_of g b.thread =
-      name_of_thread g b (λ z. absurd (omega (arith, p.1))) h in
-      let more : count_of g b.thread ≡ count_of g t = ap (λ k. count_of g k) (sym p.0) in
-      absurd (omega (arith, p.1))
-]
+is_same a b e = subst (λ (c : Name). same_name a c ≡ true) e (same_itself a)
 
 -- a value stays kept while its name does
 pub value_stays : (K L : Name → Type 0) (v : Value) → ((a : Name) → K a → L a) → IsValueOf K v
@@ -78,10 +56,10 @@ apart W K object at w numbered written a b o p ka kb ol pl e =
 pub same_as_itself : (v : Value) → same_value v v ≡ true
 same_as_itself Nil = refl
 same_as_itself (Int n) = eq-eqb n n refl
-same_as_itself (Ref a) = same_self a
+same_as_itself (Ref a) = same_itself a
 
 pub values_one : (u v : Value) → same_value u v ≡ true → u ≡ v
 values_one Nil Nil h = refl
 values_one (Int m) (Int n) h = ap Int (eqb-true m n h)
-values_one (Ref a) (Ref b) h = ap Ref (same_is a b h)
+values_one (Ref a) (Ref b) h = ap Ref (one_name a b h)
 values_one _ _ h = absurd (true≢false (sym h))

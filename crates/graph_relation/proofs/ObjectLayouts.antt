@@ -3,11 +3,12 @@ use Rattle.std.proofs.Common.{ℕ, ◌≤◌, length, arith}
 use Rattle.block_store.specs.declared.Width.{Width}
 use Rattle.block_store.specs.declared.Width.TheVariants.{Four, Eight}
 use Rattle.block_store.specs.Widths.{payloads}
+use Rattle.block_store.proofs.Registers.{many}
 use Rattle.object_lists.specs.Layouts.{IsLayout}
 use Rattle.object_lists.proofs.Lists.{record_layout}
 use Rattle.array_trees.specs.Trees.{leaves}
 use Rattle.array_trees.proofs.Arrays.{tree_layout}
-use Rattle.array_trees.proofs.Counts.{le-tree, many}
+use Rattle.array_trees.proofs.Counts.{le-tree}
 use Rattle.never_heap.specs.Graphs.{ObjectKind, Record, Array, Object}
 use Rattle.graph_relation.specs.Layouts.{layout_blocks, layout_part, layout_slot, object_blocks, object_part, object_slot}
 

@@ -13,13 +13,13 @@ use Rattle.block_store.specs.Payloads.{reference_word}
 use Rattle.block_store.specs.Registers.{root_block, register_block, register_slot, registers_end, register_ordinal}
 use Rattle.block_store.specs.Shapes.{array_word}
 use Rattle.block_store.specs.Widths.{payloads, register_blocks}
-use Rattle.block_store.proofs.Registers.{root_low, thread_of, ordinal_of, arrays_small}
+use Rattle.block_store.proofs.Registers.{root_low, thread_of, ordinal_of, arrays_small, many}
 use Rattle.object_lists.specs.Parts.{Part, Link, Field, Blank, link_below}
 use Rattle.array_trees.specs.Trees.{array_blocks}
 use Rattle.array_trees.specs.Levels.{array_part, array_slot}
 use Rattle.array_trees.specs.InitialHeaps.{opening_blocks}
 use Rattle.array_trees.proofs.Arrays.{tree_layout}
-use Rattle.array_trees.proofs.Counts.{few_shared, many}
+use Rattle.array_trees.proofs.Counts.{few_shared}
 use Rattle.array_trees.proofs.RegisterArrays.{array_of, slot_of, root_of}
 use Rattle.never_heap.specs.Graphs.{Object, Array, shared_name, start_graph, object_of, field_of, register_of, has_name}
 use Rattle.never_heap.proofs.StartGraph.{threads_of_start, name_of_start, object_of_start, has_shared, register_of_start, registers_of_start}

@@ -8,12 +8,13 @@ use Rattle.block_store.specs.declared.Name.{Name}
 use Rattle.block_store.specs.declared.Value.TheVariants.{Nil}
 use Rattle.never_heap.specs.Graphs.{Graph, Object, ObjectKind, nils, object_of, field_of, register_of, mutator_at, same_name, with_object, next_name}
 use Rattle.never_heap.proofs.FieldStores.{object_with_object, has_name_with_object, registers_with_object}
+use Rattle.never_heap.proofs.NameLists.{same_itself, one_name, same_parts, not_next}
 use Rattle.object_lists.specs.Parts.{Part, Link, Field, Blank, link_in}
 use Rattle.graph_relation.specs.Layouts.{layout_blocks, layout_part, object_blocks, object_part}
 use Rattle.graph_relation.specs.Words.{BlockWords, value_word, part_word, kind_word}
 use Rattle.graph_relation.specs.Shown.{IsValueOf, heads, BlockShows, Written, Shows}
 use Rattle.graph_relation.specs.Made.{new_object, with_blocks, and_name, IsMade, link_word, IsWritten}
-use Rattle.graph_relation.proofs.Names.{same_parts, same_is, same_self, not_next, value_stays, word_stays}
+use Rattle.graph_relation.proofs.Names.{value_stays, word_stays}
 use Rattle.graph_relation.proofs.RegisterBlocks.{registers_renamed, registers_stay}
 
 -- each field of a new object is nil
@@ -132,7 +133,7 @@ module _ (W : Width) (n m : ℕ) (K : Name → Type 0) (g : Graph) (at : Name �
         → BlockShows W (heads (with_blocks at (next_name g t) block_of)) w a x b o)
         (λ a is ol. subst (λ (c : Name). BlockShows W
         (heads (with_blocks at (next_name g t) block_of)) w c (new_object k f) block_of o)
-        (same_is (next_name g t) a is)
+        (one_name (next_name g t) a is)
         (new_shows W (λ a. 0) (heads (with_blocks at (next_name g t) block_of)) w
         (next_name g t) k f block_of o (made.blocks o (low_new o ol))))
         (λ a ka ol. (let s = shows.written.blocks a o ka ol in
@@ -205,4 +206,4 @@ module _ (W : Width) (n m : ℕ) (K : Name → Type 0) (g : Graph) (at : Name �
 
   -- its first block is the first of the new blocks
   pub fresh_head : heads (with_blocks at (next_name g t) block_of) (next_name g t) ≡ block_of 0
-  fresh_head = ap (λ (b : ℕ → ℕ). b 0) (more_new (next_name g t) (same_self (next_name g t)))
+  fresh_head = ap (λ (b : ℕ → ℕ). b 0) (more_new (next_name g t) (same_itself (next_name g t)))

@@ -14,10 +14,11 @@ use Rattle.block_store.specs.declared.Value.TheVariants.{Nil}
 use Rattle.never_heap.specs.Graphs.{Graph, Object, object_of, field_of, register_of, mutator_at, same_name, with_register, with_field, set_field}
 use Rattle.never_heap.proofs.GraphMoves.{get_or_set, object_with_register, has_name_with_register, register_with_register, sixteen_with_register}
 use Rattle.never_heap.proofs.FieldStores.{object_with_field, has_name_with_field, registers_with_field, threads_with_field}
+use Rattle.never_heap.proofs.NameLists.{one_name}
 use Rattle.graph_relation.specs.Layouts.{layout_blocks, object_blocks, object_slot}
 use Rattle.graph_relation.specs.Words.{Agrees, BlockWords, value_word, with_payload}
 use Rattle.graph_relation.specs.Shown.{IsValueOf, heads, Placed, Numbered, Closed, IsSized, Shows}
-use Rattle.graph_relation.proofs.Names.{same_is, true≢false, value_stays}
+use Rattle.graph_relation.proofs.Names.{true≢false, value_stays}
 use Rattle.graph_relation.proofs.Blocks.{other_block, payload_other, field_written, others_written}
 use Rattle.graph_relation.proofs.RegisterBlocks.{registers_stored, registers_stay, registers_fewer, registers_renamed}
 use Rattle.graph_relation.proofs.ObjectLayouts.{object_layout}
@@ -280,7 +281,7 @@ module _ (W : Width) (n m : ℕ) (K : Name → Type 0) (g : Graph) (at : Name �
       | inl same ↦ ap (λ t. object_blocks W
           (cond t (set_field (object_of g a) i v) (object_of g b))) same
           ∙ ap (layout_blocks W (object_of g a).kind) (length-set (object_of g a).fields i v)
-          ∙ ap (λ c. object_blocks W (object_of g c)) (same_is a b same)
+          ∙ ap (λ c. object_blocks W (object_of g c)) (one_name a b same)
       | inr other ↦ ap (λ t. object_blocks W
           (cond t (set_field (object_of g a) i v) (object_of g b))) other
     ]

@@ -18,6 +18,7 @@ use Rattle.block_store.proofs.PayloadWords.{payload-code, one_reference, one_num
 use Rattle.block_store.proofs.ShapeWords.{shape-code}
 use Rattle.never_heap.specs.Graphs.{Graph, ObjectKind, Record, Array, object_of, field_of, register_of}
 use Rattle.never_heap.specs.Steps.{same_value}
+use Rattle.never_heap.proofs.NameLists.{one_name}
 use Rattle.object_lists.specs.Parts.{Link}
 use Rattle.object_lists.specs.Layouts.{IsWay}
 use Rattle.graph_relation.specs.Layouts.{kind_shape, object_blocks, object_part, object_slot}
@@ -25,7 +26,7 @@ use Rattle.graph_relation.specs.Words.{BlockWords, value_word, part_word, kind_w
 use Rattle.graph_relation.specs.Shown.{IsValueOf, heads, Shows}
 use Rattle.graph_relation.specs.Read.{value_payload}
 use Rattle.graph_relation.proofs.ObjectLayouts.{object_layout, few_fields}
-use Rattle.graph_relation.proofs.Names.{apart, same_is, same_as_itself, values_one}
+use Rattle.graph_relation.proofs.Names.{apart, same_as_itself, values_one}
 
 module _ (W : Width) (n m : ℕ) (K : Name → Type 0) (g : Graph) (at : Name → ℕ → ℕ)
     (w : BlockWords) (pending : ℕ → ℕ → Bool) (shows : Shows W n m K g at w pending) where
@@ -146,7 +147,7 @@ module _ (W : Width) (n m : ℕ) (K : Name → Type 0) (g : Graph) (at : Name �
       (omega (arith, shows.placed.behind a 0 kv (first_block a kv))) e)
   one_value (values.Ref a) (values.Int k) kv ku e = absurd (number-reference k (at a 0) (sym e))
   one_value (values.Ref a) (values.Ref b) kv ku e =
-      ap values.Ref (same_is a b
+      ap values.Ref (one_name a b
       (apart W K (object_of g) at w shows.numbered shows.written a b 0 0 kv ku
       (first_block a kv) (first_block b ku) (one_reference (at a 0) (at b 0) e)).0)
 
@@ -167,4 +168,4 @@ module _ (W : Width) (n m : ℕ) (K : Name → Type 0) (g : Graph) (at : Name �
       → p < object_blocks W (object_of g b) → at a o ≡ at b p → (a ≡ b) × (o ≡ p)
   blocks_apart a b o p ka kb ol pl e = let one =
       apart W K (object_of g) at w shows.numbered shows.written a b o p ka kb ol pl e in
-      (same_is a b one.0, one.1)
+      (one_name a b one.0, one.1)

@@ -8,7 +8,7 @@ use Rattle.never_heap.specs.declared.Reply.{Reply}
 use Rattle.never_heap.specs.Cycles.{graph_at}
 use Rattle.never_heap.specs.Graphs.{Graph, start_graph}
 use Rattle.never_heap.specs.Histories.{HistoryItem, Did, after, replay, replay_from, starts_in}
-use Rattle.never_heap.proofs.HistoryGrowth.{starts_append}
+use Rattle.never_heap.proofs.HistoryGrowth.{starts_append, replay_append}
 use Rattle.heap_system.specs.Machines.{Run}
 use Rattle.heap_system.proofs.LawsOf.{laws_of}
 use Rattle.heap_system.proofs.RunTally.{RunTallied, run_tallied}
@@ -18,7 +18,7 @@ use Rattle.control_heap.specs.WayBack.{AllDone, StartsSmallFrom}
 use Rattle.control_heap.proofs.Pace.{Onward, onward_on}
 use Rattle.control_heap.proofs.WayBacks.{command_at, few_cycles, paced}
 use Rattle.graph_view.specs.Shown.{IsSmall, StaySmall, Leaves, Shows, AllStaySmall, graph_at_last, graph_told}
-use Rattle.graph_view.proofs.GraphAnswers.{HasOne, one_entry, own_items, replay_append, small_append, small_behind, small_last, told_is}
+use Rattle.graph_view.proofs.GraphAnswers.{HasOne, one_entry, own_items, small_append, small_behind, small_last, told_is}
 
 module _ (c : Config) (rate : ℕ) (planned : IsRate c rate) where
   record Told (z : Control) (ks : List Command) (ys : List Reply) (g : Graph) (r : Run) (from : RunTallied c rate r) : Type 0 where

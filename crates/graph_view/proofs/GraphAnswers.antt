@@ -12,7 +12,8 @@ use Rattle.never_heap.specs.Histories.{HistoryItem, Started, Did, is_full, after
 use Rattle.never_heap.specs.Licensed.{Licensed, NoFulls, StartsSmall}
 use Rattle.never_heap.specs.Steps.{makes_object, step}
 use Rattle.never_heap.proofs.CycleGrowth.{graph_at_more}
-use Rattle.never_heap.proofs.HistoryGrowth.{starts_append}
+use Rattle.never_heap.proofs.HistoryGrowth.{starts_append, replay_append, legal_back}
+use Rattle.never_heap.proofs.StepAnswers.{answered_by_step}
 use Rattle.heap_system.specs.Alone.{after_alone}
 use Rattle.heap_system.specs.Machines.{Run}
 use Rattle.control_heap.specs.Controls.{Control, Stands, Answers, HasAnswered, entries_in}
@@ -24,11 +25,6 @@ use Rattle.control_heap.proofs.Items.{Added, added_alone}
 use Rattle.control_heap.proofs.WayBacks.{licensed_behind, none_from}
 use Rattle.graph_view.specs.Shown.{IsSmall, StaySmall, Shows, HasMetNoFull, Leaves, Follows, Goes, graph_told}
 
-pub replay_append : (g : Graph) (h k : List HistoryItem)
-    → replay_from g (h ++ k) ≡ replay_from (replay_from g h) k
-replay_append g [] k = refl
-replay_append g (i ∷ h) k = replay_append (after g i) h k
-
 pub small_append : (c : Config) (g : Graph) (h k : List HistoryItem) → StaySmall c g h
     → StaySmall c (replay_from g h) k → StaySmall c g (h ++ k)
 small_append c g [] k a b = b
@@ -39,15 +35,10 @@ pub small_last : (c : Config) (g : Graph) (h : List HistoryItem) → StaySmall c
 small_last c g [] a = a
 small_last c g (i ∷ h) a = small_last c (after g i) h a.1
 
-legal_behind : (g : Graph) (h k : List HistoryItem) → LegalFrom g (h ++ k)
-    → LegalFrom (replay_from g h) k
-legal_behind g [] k l = l
-legal_behind g (i ∷ h) k l = legal_behind (after g i) h k l.1
-
 legal_history : (c : Config) (h k : List HistoryItem) → Legal c h → Legal c (h ++ k)
     → LegalFrom (replay c h) k
 legal_history c [] k a l = absurd a
-legal_history c (Started ∷ h) k a l = legal_behind (start_graph c) h k l
+legal_history c (Started ∷ h) k a l = legal_back (start_graph c) h k l
 legal_history c (Did e ∷ h) k a l = absurd a
 
 -- each cycle of a history that stays small began small
@@ -221,15 +212,6 @@ own_items c k a r z s =
     (sym added.order ∙ ap (λ (x : Run). x.order) (sym s.after) ∙ s.order) in
     subst (λ is. part 0 is ≡ entries_in is) same added.own
 
--- a reply that is not full is that of the heap that never frees
-told_by : (g : Graph) (e : Entry) → IsAnswered g (Did e) → is_full e.reply ≡ false
-    → e.reply ≡ (step g e.thread e.command).1
-told_by g e (inl is) f = is
-told_by g e (inr full) f = absurd (differ (sym full.0 ∙ f))
-  where
-    differ : true ≡ false → ⊥
-    differ e = absurd cc
-
 -- which is small in each case
 small_after : (c : Config) (g : Graph) (e : Entry) → IsSmall c g
     → IsSmall c (step g e.thread e.command).0 → IsSmall c (after g (Did e))
@@ -316,7 +298,7 @@ module _ (laws_legal : (h : Control) (r : Run) → Stands h r → Legal h.config
       not_full = one.full none
 
       answered : e.reply ≡ (step g e.thread e.command).1
-      answered = told_by g e by_graph not_full
+      answered = answered_by_step g e by_graph not_full
 
       left : replay c z.order ≡ (step g 0 k).0
       left =

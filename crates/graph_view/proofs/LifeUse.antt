@@ -8,17 +8,13 @@ use Rattle.never_heap.specs.declared.Entry.{Entry}
 use Rattle.never_heap.specs.Bounds.{IsCommandInBounds}
 use Rattle.never_heap.specs.Histories.{HistoryItem, Started, Did, work_in}
 use Rattle.never_heap.specs.RightWork.{RightWork, units_owed}
+use Rattle.never_heap.proofs.HistoryGrowth.{work_append}
 use Rattle.heap_system.specs.Lives.{sum_after}
 use Rattle.heap_system.specs.Machines.{Run}
 use Rattle.control_heap.specs.Controls.{Control, Stands, Answers, entries_in, units}
 use Rattle.control_heap.specs.declared.control.Refused.{Refused}
 use Rattle.control_heap.specs.declared.control.Refused.TheVariants.{OutOfBounds, NoLifeLeft}
 use Rattle.graph_view.specs.Asked.{HasDone, HasDoneAll, RefusesOne, HasRoomFor, HasUsed}
-
-work_append : (h k : List HistoryItem) → work_in (h ++ k) ≡ work_in h + work_in k
-work_append [] k = omega arith
-work_append (Started ∷ h) k = work_append h k
-work_append (Did e ∷ h) k = let rest = work_append h k in omega (arith, rest)
 
 work_none : (is : List HistoryItem) → entries_in is ≡ [] → work_in is ≡ 0
 work_none [] e = refl

@@ -1,11 +1,12 @@
 -- What holds of the rows: their places are in range, and a row that fits becomes one that fits.
-use Rattle.std.proofs.Common.{◌≡◌, ℕ, ◌<◌, ◌≤◌, ◌+◌, true, is_some, arith, refl, ap, sym, subst, inl, inr, eqb, ltb, leb, eq-eqb, ne_eqb, ltb-true}
-use Rattle.std.proofs.lemmas.Bool.{cases_Bool, cases_eq, lt-ltb, le-leb}
+use Rattle.std.proofs.Common.{◌≡◌, ℕ, ◌<◌, ◌≤◌, ◌+◌, true, is_some, arith, refl, ap, sym, subst, inl, inr, eqb, ltb, eq-eqb, ne_eqb, ltb-true}
+use Rattle.std.proofs.lemmas.Bool.{cases_Bool, cases_eq, lt-ltb}
 use Rattle.block_store.specs.declared.Config.{Config}
 use Rattle.block_store.specs.declared.Colour.TheVariants.{Grey}
 use Rattle.block_store.specs.Colours.{grey_word, black_word, white_word}
 use Rattle.block_store.proofs.ColourWords.{colour-code, colour-black, link-grey, link-black}
 use Rattle.block_store.proofs.Registers.{wide}
+use Rattle.block_store.proofs.Indexes.{block_in, hand_block}
 use Rattle.block_store.specs.Heaps.{Heap}
 use Rattle.block_store.specs.Payloads.{target}
 use Rattle.block_store.specs.Widths.{payloads}
@@ -29,13 +30,6 @@ pub shade_fits : (c : Config) (p : Pass) (y : ℕ) → p.threads ≡ c.threads �
     → c.blocks ≤ 65535 → p.thread < p.threads → IsBlock c y → GreyFits c (shading p y)
 shade_fits c p y same few blocks low is =
     record { threads = same; few = few; blocks = blocks; thread = low; row = is }
-
-block_in : (c : Config) (x : ℕ) → IsBlock c x → is_block (extent c) x ≡ true
-block_in c x h = let low : leb 1 x ≡ true = le-leb 1 x h.0 in rw low (le-leb x c.blocks h.1)
-
--- a hand that is not 0 is a block
-hand_block : (c : Config) (a : ℕ) → (a ≡ 0 → ⊥) → a ≤ c.blocks → IsBlock c a
-hand_block c a ne high = (omega arith, high)
 
 word_fits : (c : Config) (x j a : ℕ) → IsBlock c x → a ≤ c.blocks
     → RowFits c (after_word (payloads c.width) x j a)

@@ -3,7 +3,7 @@ use Rattle.std.proofs.Common.{◌≡◌, ◌≢◌, ℕ, ◌<◌, ◌+◌, eqb, 
 use Rattle.std.proofs.lemmas.Bool.{cases_eq, cases_Bool, eqb-false}
 use Rattle.block_store.specs.declared.Config.{Config}
 use Rattle.block_store.specs.Colours.{grey_word, white_word, black_word}
-use Rattle.block_store.proofs.ColourWords.{black-white, grey-white, grey-black}
+use Rattle.block_store.proofs.ColourWords.{black-white, grey-white, grey-black, colours}
 use Rattle.block_store.specs.Heaps.{Heap, put_at}
 use Rattle.block_store.specs.Payloads.{target}
 use Rattle.block_store.specs.Widths.{payloads}
@@ -13,7 +13,7 @@ use Rattle.heap_machine.specs.declared.pass.Pass.{Pass}
 use Rattle.heap_machine.specs.Holdings.{tricolour_held}
 use Rattle.heap_machine.specs.Operations.{place_of, heap_after}
 use Rattle.heap_machine.specs.Tricolour.{TricolourHolding, no_tricolour, NotWhite, TricolourKept}
-use Rattle.heap_machine.proofs.Tricolours.{colours, HeldAt, held_as, held_colour, goes_on, lets_go, kept_colour}
+use Rattle.heap_machine.proofs.Tricolours.{HeldAt, held_as, held_colour, goes_on, lets_go, kept_colour}
 use Rattle.grey_steps.specs.declared.rows.GreyRow.{GreyRow}
 use Rattle.grey_steps.specs.declared.rows.GreyRow.TheVariants.{Take, Pop, ScanWord, Shade, Blacken, Put, Scanned, NothingGrey, TakeOwn, ShadeStored, PutOwn, Shaded}
 use Rattle.grey_steps.specs.MarkUnits.{is_blackening, is_shading, grey_after}

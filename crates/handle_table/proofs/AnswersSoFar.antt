@@ -3,7 +3,7 @@ use Rattle.std.proofs.Common.{◌≡◌, ℕ, ◌≤◌, List, ◌++◌, length,
 use Rattle.std.proofs.lemmas.List.{drop_all}
 use Rattle.never_heap.specs.declared.Command.{Command}
 use Rattle.never_heap.specs.declared.Entry.{Entry}
-use Rattle.operations.proofs.PartLogs.{replies}
+use Rattle.never_heap.proofs.PartLogs.{replies}
 use Rattle.handle_table.specs.declared.operation.Operation.{Operation}
 use Rattle.handle_table.specs.declared.told.Outcome.{Outcome}
 use Rattle.handle_table.specs.Handles.{outcomes_told, sizes_of, commands_from, rows_of, command_at, deeds_of}

@@ -8,7 +8,7 @@ use Rattle.never_heap.specs.declared.Reply.{Reply}
 use Rattle.never_heap.specs.declared.Reply.TheVariants.{Yes, No}
 use Rattle.never_heap.specs.Graphs.{Object, register_of, object_of, field_of}
 use Rattle.never_heap.specs.Steps.{same_value}
-use Rattle.operations.proofs.Effects.{nothing}
+use Rattle.never_heap.proofs.Effects.{nothing}
 use Rattle.operations.proofs.LiveBound.{IsPlain}
 use Rattle.operations.proofs.Pairs.{◌▸◌}
 use Rattle.operations.proofs.Records.{HasField, reply_by, value_by, tell_known, tell_null, tell_kind, tell_field}

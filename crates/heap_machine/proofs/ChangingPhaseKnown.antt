@@ -1,6 +1,6 @@
 -- What a thread that has closed the gate knows stays over its own events, and no other thread at
 -- the gate changes a word.
-use Rattle.std.proofs.Common.{◌≡◌, ℕ, ◌+◌, ◌-◌, ◌≤◌, ◌<◌, ◌⊎◌, Bool, true, false, cond, eqb, ltb, refl, arith, subst, sym, ap, ◌∙◌, inl, inr, eq-eqb, ne_eqb, eqb-true}
+use Rattle.std.proofs.Common.{◌≡◌, ℕ, ◌+◌, ◌-◌, ◌≤◌, ◌<◌, ◌⊎◌, true, false, cond, eqb, ltb, refl, arith, subst, sym, ap, ◌∙◌, inl, inr, eq-eqb, ne_eqb, eqb-true}
 use Rattle.std.proofs.lemmas.Bool.{cases_eq, cases_Bool, lt-ltb, le-ltb}
 use Rattle.block_store.specs.declared.Config.{Config}
 use Rattle.block_store.specs.declared.Width.{Width}
@@ -22,39 +22,35 @@ use Rattle.heap_machine.specs.ChangingPhase.{turns_over, stands_outside, roots_s
 use Rattle.heap_machine.specs.declared.gate.GateRow.{GateRow}
 use Rattle.heap_machine.specs.declared.gate.GateRow.TheVariants.{Look, Enter, Entered, Leave, Left, CloseLook, Close, CheckList, SetCursor, Flip, Reopen, ShadeRoot, PutRoots, KeptOut}
 use Rattle.heap_machine.specs.declared.pass.Pass.{Pass}
-use Rattle.heap_machine.proofs.GateRows.{gate_stores}
+use Rattle.heap_machine.proofs.GateRows.{gate_stores, either_row}
 use Rattle.heap_machine.proofs.Gatings.{gate_closing, inside_most}
 use Rattle.heap_machine.proofs.GreyBlocks.{none_is_grey}
 use Rattle.heap_machine.proofs.Held.{held_put, held_after}
 use Rattle.heap_machine.proofs.Turnovers.{checked_empty, empty_gate}
 use Rattle.heap_machine.proofs.ChangingPhaseRules.{nobody_holds}
 
-either : (P : GateRow → Type 0) (b : Bool) (p q : GateRow) → P p → P q → P (cond b p q)
-either P true p q h k = h
-either P false p q h k = k
-
 -- a row that says nothing of the cursor and the roots
 abbrev Says : GateRow → Type 0
 Says r = (cursor_set r ≡ false) × (roots_shaded r ≡ 0)
 
 looked_says : (p : Pass) (w : ℕ) → Says (look_to_close p w)
-looked_says p w = either Says (is_of_pass p w) (cond (is_empty w) (Close p w) KeptOut) KeptOut
-    (either Says (is_empty w) (Close p w) KeptOut (refl, refl) (refl, refl)) (refl, refl)
+looked_says p w = either_row Says (is_of_pass p w) (cond (is_empty w) (Close p w) KeptOut) KeptOut
+    (either_row Says (is_empty w) (Close p w) KeptOut (refl, refl) (refl, refl)) (refl, refl)
 
 closed_says : (p : Pass) → Says (closed_by p)
-closed_says p = either Says p.sweep (ShadeRoot p 0 0) (CheckList p 0) (refl, refl) (refl, refl)
+closed_says p = either_row Says p.sweep (ShadeRoot p 0 0) (CheckList p 0) (refl, refl) (refl, refl)
 
 tried_says : (W : Width) (p : Pass) (seen w : ℕ) → Says (gate_got W (Close p seen) w)
-tried_says W p seen w = either Says (eqb w seen) (closed_by p) KeptOut (closed_says p) (refl, refl)
+tried_says W p seen w = either_row Says (eqb w seen) (closed_by p) KeptOut (closed_says p) (refl, refl)
 
 checked_says : (p : Pass) (u w : ℕ) → Says (list_checked p u w)
-checked_says p u w = either Says (eqb w 0)
+checked_says p u w = either_row Says (eqb w 0)
     (cond (ltb (u + 1) p.threads) (CheckList p (u + 1)) (SetCursor p)) (Reopen p)
-    (either Says (ltb (u + 1) p.threads) (CheckList p (u + 1)) (SetCursor p) (refl, refl)
+    (either_row Says (ltb (u + 1) p.threads) (CheckList p (u + 1)) (SetCursor p) (refl, refl)
     (refl, refl)) (refl, refl)
 
 shaded_cursor : (W : Width) (p : Pass) (u : ℕ) → cursor_set (root_shaded W p u) ≡ false
-shaded_cursor W p u = either (λ r. cursor_set r ≡ false) (ltb (u + 1) p.threads)
+shaded_cursor W p u = either_row (λ r. cursor_set r ≡ false) (ltb (u + 1) p.threads)
     (ShadeRoot p (u + 1) (root_block W u)) (PutRoots p (root_block W u)) refl refl
 
 -- one root more is shaded
@@ -132,18 +128,18 @@ module _ (W : Width) (h : Heap) where
 
 -- the part stays one of its thread
 pub turn_of : (W : Width) (t : ℕ) (r : GateRow) (w : ℕ) → IsTurnOf t r → IsTurnOf t (gate_got W r w)
-turn_of W t Look w k = either (IsTurnOf t) (is_closed w) Look (Enter w) tt tt
-turn_of W t (Enter seen) w k = either (IsTurnOf t) (eqb w seen) (Entered seen) Look tt tt
+turn_of W t Look w k = either_row (IsTurnOf t) (is_closed w) Look (Enter w) tt tt
+turn_of W t (Enter seen) w k = either_row (IsTurnOf t) (eqb w seen) (Entered seen) Look tt tt
 turn_of W t (CloseLook p) w k =
-    either (IsTurnOf t) (is_of_pass p w) (cond (is_empty w) (Close p w) KeptOut) KeptOut
-    (either (IsTurnOf t) (is_empty w) (Close p w) KeptOut k tt) tt
-turn_of W t (Close p seen) w k = either (IsTurnOf t) (eqb w seen) (closed_by p) KeptOut
-    (either (IsTurnOf t) p.sweep (ShadeRoot p 0 0) (CheckList p 0) k k) tt
-turn_of W t (CheckList p u) w k = either (IsTurnOf t) (eqb w 0)
+    either_row (IsTurnOf t) (is_of_pass p w) (cond (is_empty w) (Close p w) KeptOut) KeptOut
+    (either_row (IsTurnOf t) (is_empty w) (Close p w) KeptOut k tt) tt
+turn_of W t (Close p seen) w k = either_row (IsTurnOf t) (eqb w seen) (closed_by p) KeptOut
+    (either_row (IsTurnOf t) p.sweep (ShadeRoot p 0 0) (CheckList p 0) k k) tt
+turn_of W t (CheckList p u) w k = either_row (IsTurnOf t) (eqb w 0)
     (cond (ltb (u + 1) p.threads) (CheckList p (u + 1)) (SetCursor p)) (Reopen p)
-    (either (IsTurnOf t) (ltb (u + 1) p.threads) (CheckList p (u + 1)) (SetCursor p) k k) k
+    (either_row (IsTurnOf t) (ltb (u + 1) p.threads) (CheckList p (u + 1)) (SetCursor p) k k) k
 turn_of W t (SetCursor p) w k = k
-turn_of W t (ShadeRoot p u hand) w k = either (IsTurnOf t) (ltb (u + 1) p.threads)
+turn_of W t (ShadeRoot p u hand) w k = either_row (IsTurnOf t) (ltb (u + 1) p.threads)
     (ShadeRoot p (u + 1) (root_block W u)) (PutRoots p (root_block W u)) k k
 turn_of W t (PutRoots p hand) w k = k
 turn_of W t _ w k = tt

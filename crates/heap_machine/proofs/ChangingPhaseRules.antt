@@ -1,6 +1,6 @@
 -- The events of a part that changes the phase or starts a cycle keep what a heap keeps in each
 -- phase, and what their thread knows.
-use Rattle.std.proofs.Common.{◌≡◌, ◌≢◌, ℕ, ◌+◌, ◌≤◌, ◌<◌, Bool, true, false, cond, eqb, ltb, refl, arith, subst, sym, ap, ◌∙◌, inl, inr, eq-eqb, ne_eqb, eqb-true, None}
+use Rattle.std.proofs.Common.{◌≡◌, ◌≢◌, ℕ, ◌+◌, ◌≤◌, ◌<◌, Bool, true, false, cond, eqb, ltb, refl, arith, subst, sym, ap, ◌∙◌, inl, inr, eqb-true, None}
 use Rattle.std.proofs.lemmas.Bool.{cases_eq, cases_Bool}
 use Rattle.block_store.specs.declared.Config.{Config}
 use Rattle.block_store.specs.declared.Width.{Width}
@@ -12,8 +12,8 @@ use Rattle.block_store.specs.Places.{Extent, extent, Phase, Cursor, GreyList, Co
 use Rattle.block_store.specs.Registers.{root_block}
 use Rattle.block_store.specs.Payloads.{target}
 use Rattle.block_store.specs.Widths.{payloads}
-use Rattle.block_store.proofs.ColourWords.{black-next, black-white, grey-white, not_free_black, not_free_grey, not_grey_black}
-use Rattle.block_store.proofs.Functions.{funext}
+use Rattle.block_store.proofs.ColourWords.{black-next, black-white, grey-white, not_free_black, not_free_grey, not_grey_black, colours}
+use Rattle.block_store.proofs.Functions.{changed_self}
 use Rattle.block_store.proofs.Registers.{root_some}
 use Rattle.heap_machine.specs.Gates.{gate_want, gate_got, closed_by, list_checked, look_to_close, root_shaded, is_of_pass, is_empty, GateFits}
 use Rattle.heap_machine.specs.Gating.{Gating, Closing, is_closing, closed_word, open_word}
@@ -28,7 +28,7 @@ use Rattle.heap_machine.specs.declared.gate.GateRow.TheVariants.{Look, Enter, En
 use Rattle.heap_machine.specs.declared.pass.Pass.{Pass}
 use Rattle.heap_machine.proofs.GateReuse.{enter_keeps, leave_keeps}
 use Rattle.heap_machine.proofs.Gatings.{closed_phase, open_parts}
-use Rattle.heap_machine.proofs.GreyBlocks.{colours, first_is_grey, kept_held, kept_other}
+use Rattle.heap_machine.proofs.GreyBlocks.{first_is_grey, kept_held, kept_other}
 use Rattle.heap_machine.proofs.GreyEvents.{shades, puts}
 use Rattle.heap_machine.proofs.HeapRules.{part_changed}
 use Rattle.heap_machine.proofs.PhaseRules.{from_mark, from_sweep, phase_stays, phase_flips}
@@ -36,39 +36,30 @@ use Rattle.heap_machine.proofs.ReuseRules.{reuse_stays, reuse_other, reuse_colou
 use Rattle.heap_machine.proofs.Solids.{solid_other}
 use Rattle.heap_machine.proofs.Tricolours.{begins, tricolour_other}
 use Rattle.heap_machine.proofs.Turnovers.{closing_pass, empty_gate, of_pass}
-
-pub changed_same : {A : Type 0} (f : ℕ → A) (t : ℕ) (v : A) → f t ≡ v → changed f t v ≡ f
-changed_same f t v same = funext _ _ (λ u. elim (cases_eq t u) [
-  | inl e ↦ rw (eq-eqb t u e) (sym same ∙ ap f e)
-  | inr ne ↦ rw (ne_eqb t u ne) refl
-])
+use Rattle.heap_machine.proofs.GateRows.{either_row}
 
 -- a row at which its thread holds w
 abbrev Holds : Holding → GateRow → Type 0
 Holds w r = changing_holding r ≡ w
 
-either : (P : GateRow → Type 0) (b : Bool) (p q : GateRow) → P p → P q → P (cond b p q)
-either P true p q h k = h
-either P false p q h k = k
-
 looked_holds : (p : Pass) (w : ℕ) → Holds holds_nothing (look_to_close p w)
-looked_holds p w = either (Holds holds_nothing) (is_of_pass p w) (cond (is_empty w) (Close p w) KeptOut) KeptOut (either (Holds holds_nothing) (is_empty w) (Close p w) KeptOut refl refl) refl
+looked_holds p w = either_row (Holds holds_nothing) (is_of_pass p w) (cond (is_empty w) (Close p w) KeptOut) KeptOut (either_row (Holds holds_nothing) (is_empty w) (Close p w) KeptOut refl refl) refl
 
 checked_holds : (p : Pass) (u w : ℕ) → Holds holds_nothing (list_checked p u w)
-checked_holds p u w = either (Holds holds_nothing) (eqb w 0) (cond (ltb (u + 1) p.threads) (CheckList p (u + 1)) (SetCursor p)) (Reopen p) (either (Holds holds_nothing) (ltb (u + 1) p.threads) (CheckList p (u + 1)) (SetCursor p) refl refl) refl
+checked_holds p u w = either_row (Holds holds_nothing) (eqb w 0) (cond (ltb (u + 1) p.threads) (CheckList p (u + 1)) (SetCursor p)) (Reopen p) (either_row (Holds holds_nothing) (ltb (u + 1) p.threads) (CheckList p (u + 1)) (SetCursor p) refl refl) refl
 
 -- the roots in the hand
 abbrev in_hand : ℕ → Holding
 in_hand a = record holds_nothing { hand = a; emptied = true }
 
 shaded_holds : (W : Width) (p : Pass) (u : ℕ) → Holds (in_hand (root_block W u)) (root_shaded W p u)
-shaded_holds W p u = either (Holds (in_hand (root_block W u))) (ltb (u + 1) p.threads) (ShadeRoot p (u + 1) (root_block W u)) (PutRoots p (root_block W u)) refl refl
+shaded_holds W p u = either_row (Holds (in_hand (root_block W u))) (ltb (u + 1) p.threads) (ShadeRoot p (u + 1) (root_block W u)) (PutRoots p (root_block W u)) refl refl
 
 module _ (e : Extent) (h : Heap) (hs : ℕ → Holding) (k : PhaseKept e h hs) (t : ℕ)
     (low : t < e.threads) where
   -- the thread goes on and holds what it held
   still : (g : Heap) (w : Holding) → hs t ≡ w → PhaseKept e g hs → PhaseKept e g (changed hs t w)
-  still g w is kept = subst (λ (ws : ℕ → Holding). PhaseKept e g ws) (sym (changed_same hs t w is)) kept
+  still g w is kept = subst (λ (ws : ℕ → Holding). PhaseKept e g ws) (sym (changed_self hs t w is)) kept
 
   grey_goes : (g : Heap) (w : Holding)
       → GreyKept e.threads g (changed (λ u. grey_held (hs u)) t (grey_held w))

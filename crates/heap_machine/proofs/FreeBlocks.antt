@@ -1,8 +1,8 @@
 -- What keeps the rule of the Free blocks, by the kind of write; and what it says of a block.
 use Rattle.std.proofs.Common.{◌≡◌, ◌≢◌, ℕ, zero, suc, ◌+◌, ◌-◌, ◌≤◌, ◌<◌, ◌&&◌, Bool, true, false, cond, eqb, refl, arith, subst, sym, ap, ◌∙◌, List, [], ◌∷◌, length, inl, inr, eq-eqb, ne_eqb}
-use Rattle.std.proofs.lemmas.Bool.{cases_eq, cases_Bool, and_from, le-leb}
+use Rattle.std.proofs.lemmas.Bool.{cases_eq, cases_Bool, and_from}
 use Rattle.block_store.specs.Colours.{is_free, link, free_word}
-use Rattle.block_store.proofs.ColourWords.{link-free, free_free}
+use Rattle.block_store.proofs.ColourWords.{link-free, free_free, colours}
 use Rattle.block_store.specs.Heaps.{Heap, put_at}
 use Rattle.block_store.specs.Phases.{bit}
 use Rattle.block_store.specs.Places.{Extent, Place, Phase, Cursor, FreeCount, GreyList, FreeList, ColourOf, OwnerOf, ShapeOf, PayloadOf, is_block}
@@ -13,9 +13,7 @@ use Rattle.heap_machine.specs.Operations.{Operation, Load, Exchange, CompareExch
 use Rattle.heap_machine.proofs.ChainLaws.{Chain-zero, Chain-step, Chain-outside, Chain-front}
 use Rattle.heap_machine.proofs.GreyBlocks.{first_stands}
 use Rattle.block_store.proofs.Functions.{changed_both, total_changed, total_part, total_parts, total_same, total_bits, bit_one, bit_le}
-
-abbrev pub colours : Heap → ℕ → ℕ
-colours h x = h (ColourOf x)
+use Rattle.block_store.proofs.Indexes.{block_is}
 
 abbrev free_lists : Heap → ℕ → ℕ
 free_lists h t = h (FreeList t)
@@ -27,9 +25,6 @@ and_bit false b e = refl
 and_le : (a b : Bool) → bit (a && b) ≤ bit b
 and_le true b = omega arith
 and_le false b = omega arith
-
-pub block_is : (e : Extent) (y : ℕ) → 1 ≤ y → y ≤ e.blocks → is_block e y ≡ true
-block_is e y some low = and_from _ _ (le-leb 1 y some) (le-leb y e.blocks low)
 
 -- how the colour of block y changes the number of Free blocks
 count_above : (colour : ℕ → ℕ) (n y v : ℕ) → n < y

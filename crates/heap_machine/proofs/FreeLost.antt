@@ -9,8 +9,9 @@ use Rattle.heap_machine.specs.Chains.{Chain}
 use Rattle.block_store.specs.Counts.{changed, times}
 use Rattle.heap_machine.specs.FreeBlocks.{FreeHolding, FreeKept}
 use Rattle.heap_machine.proofs.ChainLaws.{Chain-zero, Chain-one}
-use Rattle.heap_machine.proofs.FreeBlocks.{colours, free_first}
+use Rattle.heap_machine.proofs.FreeBlocks.{free_first}
 use Rattle.block_store.proofs.Functions.{total_none, total_part, total_parts, bit_le}
+use Rattle.block_store.proofs.ColourWords.{colours}
 use Rattle.heap_machine.proofs.GreyBlocks.{first_stands}
 
 module _ (ex : Extent) (h : Heap) (fs : ℕ → FreeHolding) (k : FreeKept ex h fs) (t : ℕ)

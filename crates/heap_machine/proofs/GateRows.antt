@@ -83,7 +83,8 @@ gate_at c (ShadeRoot p u hand) w f a =
 gate_at c (PutRoots p hand) w f a = a.0
 gate_at c _ w f a = tt
 
-inside_low : (w : ℕ) → 1 ≤ inside_of w → 1 ≤ w
+-- a word that counts one inside is not 0
+pub inside_low : (w : ℕ) → 1 ≤ inside_of w → 1 ≤ w
 unfolding inside_of
 inside_low w h = omega arith
 
@@ -131,3 +132,8 @@ gate_stores c TurnedOver e f a room = tt
 gate_stores c (StartedCycle y) e f a room = tt
 gate_stores c KeptOut e f a room = tt
 gate_stores c _ e f a room = absurd cc
+
+-- the same, where it holds of both rows whatever the test says
+pub either_row : (P : GateRow → Type 0) (b : Bool) (p q : GateRow) → P p → P q → P (cond b p q)
+either_row P true p q h k = h
+either_row P false p q h k = k

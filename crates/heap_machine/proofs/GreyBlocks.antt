@@ -11,6 +11,7 @@ use Rattle.heap_machine.specs.Grey.{GreyHolding, GreyKept, Stands, is_of_grey}
 use Rattle.heap_machine.specs.Operations.{Operation, Load, Exchange, CompareExchange, FetchAdd, FetchSub, place_of, heap_after}
 use Rattle.heap_machine.proofs.ChainLaws.{Chain-zero, Chain-step, Chain-outside}
 use Rattle.block_store.proofs.Functions.{changed_both, total_changed, total_part, total_parts, total_none, bit_one, bit_zero, bit_le}
+use Rattle.block_store.proofs.ColourWords.{colours}
 
 pub Stands-outside : (c : ℕ → ℕ) (y v : ℕ) (o : Option ℕ) (a : ℕ) (xs : List ℕ) → times y xs ≡ 0 → Stands c o a xs → Stands (λ x. cond (eqb y x) v (c x)) o a xs
 Stands-outside c y v None a xs out k = Chain-outside c y v xs a out k
@@ -21,9 +22,6 @@ Stands-outside c y v (Some x) a (z ∷ zs) out k = (k.0, Chain-outside c y v zs 
 pub Stands-scan : (c : ℕ → ℕ) (x a : ℕ) (xs : List ℕ) → Stands c (Some x) a xs → (zs : List ℕ) × (xs ≡ x ∷ zs) × Chain c a zs
 Stands-scan c x a [] k = absurd k
 Stands-scan c x a (y ∷ ys) k = (ys, ap (λ z. z ∷ ys) (sym k.0), k.1)
-
-abbrev pub colours : Heap → ℕ → ℕ
-colours h x = h (ColourOf x)
 
 module _ (n : ℕ) (h : Heap) (hs : ℕ → GreyHolding) (k : GreyKept n h hs) (t : ℕ) (low : t < n) where
   -- an event that writes nothing, after which thread t holds w

@@ -3,7 +3,7 @@ use Rattle.std.proofs.Common.{◌≡◌, ℕ, ◌<◌, ◌+◌, true, false, con
 use Rattle.std.proofs.lemmas.Bool.{cases_eq}
 use Rattle.block_store.specs.Places.{GreyList, ColourOf}
 use Rattle.block_store.specs.Colours.{is_grey, link, grey_word}
-use Rattle.block_store.proofs.ColourWords.{link-grey, grey_grey}
+use Rattle.block_store.proofs.ColourWords.{link-grey, grey_grey, colours}
 use Rattle.block_store.specs.Heaps.{Heap, put_at}
 use Rattle.block_store.specs.Phases.{bit}
 use Rattle.heap_machine.specs.Chains.{Chain}
@@ -11,7 +11,7 @@ use Rattle.block_store.specs.Counts.{changed, times, total}
 use Rattle.heap_machine.specs.Grey.{GreyHolding, no_grey, GreyKept, Stands}
 use Rattle.heap_machine.proofs.ChainLaws.{Chain-zero, Chain-step, Chain-outside, Chain-front}
 use Rattle.block_store.proofs.Functions.{total_part, bit_le}
-use Rattle.heap_machine.proofs.GreyBlocks.{Stands-scan, none_stands, colours, kept_held, kept_list, kept_colour}
+use Rattle.heap_machine.proofs.GreyBlocks.{Stands-scan, none_stands, kept_held, kept_list, kept_colour}
 
 -- the hand with y in front, behind the block under scan
 with_front : (c : ℕ → ℕ) (o : Option ℕ) (a y v : ℕ) (xs : List ℕ) → (y ≡ 0 → ⊥) → link v ≡ a → times y xs ≡ 0 → Stands c o a xs

@@ -8,7 +8,8 @@ use Rattle.block_store.specs.Counts.{changed, times}
 use Rattle.heap_machine.specs.Grey.{GreyHolding, no_grey, GreyKept, Stands}
 use Rattle.heap_machine.proofs.ChainLaws.{Chain-zero, Chain-one}
 use Rattle.block_store.proofs.Functions.{total_none}
-use Rattle.heap_machine.proofs.GreyBlocks.{Stands-scan, colours, stands_once, one_list, list_or_hand, first_is_grey, first_stands}
+use Rattle.block_store.proofs.ColourWords.{colours}
+use Rattle.heap_machine.proofs.GreyBlocks.{Stands-scan, stands_once, one_list, list_or_hand, first_is_grey, first_stands}
 
 Stands-one : (c : ℕ → ℕ) (o : Option ℕ) (a : ℕ) (xs ys : List ℕ) → Stands c o a xs → Stands c o a ys → xs ≡ ys
 Stands-one c None a xs ys k l = Chain-one c a xs ys k l

@@ -1,5 +1,6 @@
 -- What keeps all rules of a heap at once, and what a thread does that goes on.
-use Rattle.std.proofs.Common.{◌≡◌, ℕ, ◌||◌, Bool, true, false, refl, sym}
+use Rattle.std.proofs.Common.{◌≡◌, ℕ, false, refl, sym}
+use Rattle.std.proofs.lemmas.Bool.{or_parts}
 use Rattle.block_store.specs.Heaps.{Heap, put_at}
 use Rattle.block_store.specs.Payloads.{target}
 use Rattle.block_store.specs.Places.{Extent, ColourOf, PayloadOf}
@@ -19,13 +20,9 @@ pub part_changed : {A : Type 0} (part : Holding → A) (hs : ℕ → Holding) (t
     → changed (λ u. part (hs u)) t (part w) ≡ (λ u. part (changed hs t w u))
 part_changed part hs t w = sym (changed_map part hs t w)
 
-neither : (a b : Bool) → (a || b) ≡ false → (a ≡ false) × (b ≡ false)
-neither true b e = absurd cc
-neither false b e = (refl, e)
-
 pub heap_other : (e : Extent) (c : ℕ) (h : Heap) (hs : ℕ → Holding) (o : Operation) → is_ruled (place_of o) ≡ false → HeapKept e c h hs → HeapKept e c (heap_after h o) hs
 heap_other e c h hs o away k =
-    let n = neither (is_of_grey (place_of o)) (is_of_tricolour (place_of o)) away in
+    let n = or_parts (is_of_grey (place_of o)) (is_of_tricolour (place_of o)) away in
     record {
       grey = kept_other e.threads h (λ t. grey_held (hs t)) o n.0 k.grey;
       tricolour = tricolour_other e c h (λ t. tricolour_held (hs t)) o n.1 k.tricolour;

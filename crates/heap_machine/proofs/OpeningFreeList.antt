@@ -2,15 +2,15 @@
 use Rattle.std.proofs.Common.{◌≡◌, ℕ, zero, suc, ◌+◌, ◌-◌, ◌≤◌, ◌<◌, ◌&&◌, true, false, cond, leb, ltb, refl, arith, subst, sym, ap, ◌∙◌, List, [], ◌∷◌, length, inl, inr, eq-eqb, ne_eqb, le-ltb}
 use Rattle.std.proofs.lemmas.Bool.{cases_eq, cases_lt, cases_Bool, and_parts, lt-ltb, leb-true}
 use Rattle.block_store.specs.Colours.{is_free, link}
-use Rattle.block_store.proofs.ColourWords.{link-free, free_free}
+use Rattle.block_store.proofs.ColourWords.{link-free, free_free, colours}
 use Rattle.block_store.specs.Heaps.{Heap}
 use Rattle.block_store.specs.Phases.{bit}
 use Rattle.block_store.specs.Places.{Extent, FreeList, ColourOf, is_block}
 use Rattle.heap_machine.specs.Chains.{Chain}
 use Rattle.block_store.specs.Counts.{changed, times, total}
 use Rattle.heap_machine.specs.FreeBlocks.{FreeHolding, no_free, FreeKept, FreeFrom}
-use Rattle.heap_machine.proofs.FreeBlocks.{colours, block_is}
 use Rattle.block_store.proofs.Functions.{total_changed, total_none}
+use Rattle.block_store.proofs.Indexes.{block_is}
 
 -- n blocks from x on
 abbrev ascending : ℕ → ℕ → List ℕ

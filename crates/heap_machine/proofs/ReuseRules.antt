@@ -1,5 +1,6 @@
 -- What keeps both rules on blocks that are used again at once.
-use Rattle.std.proofs.Common.{◌≡◌, ◌≢◌, ℕ, ◌+◌, ◌≤◌, ◌<◌, ◌||◌, Bool, true, false, refl, subst}
+use Rattle.std.proofs.Common.{◌≡◌, ◌≢◌, ℕ, ◌+◌, ◌≤◌, ◌<◌, true, false, refl, subst}
+use Rattle.std.proofs.lemmas.Bool.{or_parts}
 use Rattle.block_store.specs.Colours.{is_free, white_word}
 use Rattle.block_store.specs.Heaps.{Heap, put_at}
 use Rattle.block_store.specs.Phases.{is_sweep, cycle_of}
@@ -13,10 +14,6 @@ use Rattle.heap_machine.specs.Sweeping.{SweepHolding, SweepKept, no_claim, is_of
 use Rattle.heap_machine.proofs.FreeBlocks.{free_other, free_other_colour, free_stays}
 use Rattle.heap_machine.proofs.HeapRules.{part_changed}
 use Rattle.heap_machine.proofs.SweepRule.{sweep_other, sweep_colour, sweep_phase, sweep_turns, sweep_cursor, sweep_stays}
-
-neither : (a b : Bool) → (a || b) ≡ false → (a ≡ false) × (b ≡ false)
-neither true b e = absurd cc
-neither false b e = (refl, e)
 
 -- both rules, where one thread has gone on
 pub reuse_goes : (e : Extent) (h : Heap) (hs : ℕ → Holding) (t : ℕ) (w : Holding)
@@ -40,7 +37,7 @@ module _ (e : Extent) (h : Heap) (hs : ℕ → Holding) (k : ReuseKept e h hs) w
   pub reuse_other : (o : Operation) → is_of_reuse (place_of o) ≡ false
       → ReuseKept e (heap_after h o) hs
   reuse_other o away =
-      let n = neither (is_of_free (place_of o)) (is_of_sweep (place_of o)) away in
+      let n = or_parts (is_of_free (place_of o)) (is_of_sweep (place_of o)) away in
       record {
         free = free_other e h (λ u. free_held (hs u)) o n.0 k.free;
         sweep = sweep_other e h (λ u. sweep_held (hs u)) o n.1 k.sweep;

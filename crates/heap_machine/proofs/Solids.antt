@@ -7,10 +7,10 @@ use Rattle.block_store.specs.Payloads.{target}
 use Rattle.block_store.specs.Registers.{root_block}
 use Rattle.block_store.specs.Widths.{payloads}
 use Rattle.block_store.specs.Places.{Extent, Place, Phase, Cursor, FreeCount, GreyList, FreeList, ColourOf, OwnerOf, ShapeOf, PayloadOf}
+use Rattle.block_store.proofs.ColourWords.{colours}
 use Rattle.heap_machine.specs.Operations.{Operation, Load, Exchange, CompareExchange, FetchAdd, FetchSub, place_of, heap_after}
 use Rattle.heap_machine.specs.Tricolour.{is_of_tricolour}
 use Rattle.heap_machine.specs.Solid.{NotFree, IsMarked, SolidKept}
-use Rattle.heap_machine.proofs.Tricolours.{colours}
 
 -- block x gets colour v
 put_colour : (P : ℕ → Type 0) (h : Heap) (x v y : ℕ) → (x ≡ y → P v) → P (h (ColourOf y)) → P (put_at h (ColourOf x) v (ColourOf y))

@@ -10,9 +10,7 @@ use Rattle.block_store.specs.Counts.{changed}
 use Rattle.heap_machine.specs.Operations.{Operation, Load, Exchange, CompareExchange, FetchAdd, FetchSub, place_of, heap_after}
 use Rattle.heap_machine.specs.Tricolour.{TricolourHolding, no_tricolour, NotWhite, TricolourKept, is_of_tricolour}
 use Rattle.block_store.proofs.Functions.{changed_both}
-
-abbrev pub colours : Heap → ℕ → ℕ
-colours h x = h (ColourOf x)
+use Rattle.block_store.proofs.ColourWords.{colours}
 
 -- what holds of what one thread has in hand
 pub record TricolourHeld (c : ℕ) (colour : ℕ → ℕ) (payload : ℕ → ℕ → ℕ) (w : TricolourHolding) : Type 0 where

@@ -1,6 +1,6 @@
 -- The part that changes the phase keeps the gate, and looks at every list.
 use Rattle.std.proofs.Common.{◌≡◌, ℕ, zero, suc, ◌+◌, ◌-◌, ◌<◌, Bool, true, false, not, cond, eqb, ltb, refl, arith, subst, sym, ap, ◌∙◌, inl, inr, eqb-true, eq-eqb, ne_eqb, List, [], ◌∷◌, ◌++◌, replicate, Some}
-use Rattle.std.proofs.lemmas.Bool.{cases_Bool, cases_eq, and_parts, lt-ltb, le-ltb}
+use Rattle.std.proofs.lemmas.Bool.{cases_Bool, cases_eq, and_parts, lt-ltb, le-ltb, not-true}
 use Rattle.block_store.specs.declared.Width.{Width}
 use Rattle.block_store.specs.Heaps.{Heap, put_at}
 use Rattle.block_store.specs.Places.{Phase, Cursor, GreyList}
@@ -15,6 +15,7 @@ use Rattle.heap_machine.specs.declared.gate.GateRow.{GateRow}
 use Rattle.heap_machine.specs.declared.gate.GateRow.TheVariants.{Enter, Leave, CloseLook, Close, CheckList, SetCursor, Flip, Reopen, ShadeRoot, PutRoots, Start, TurnedOver, StartedCycle, KeptOut}
 use Rattle.heap_machine.specs.declared.pass.Pass.{Pass}
 use Rattle.heap_machine.proofs.Gatings.{open_parts, closed_phase, gate_closes, gate_closing, gate_opens, gate_stays}
+use Rattle.heap_machine.proofs.GateRows.{either_row}
 
 same_phase : (a b : Bool) → cond a b (not b) ≡ true → b ≡ a
 same_phase true b e = e
@@ -27,39 +28,30 @@ of_pass p w e =
     let parts = and_parts (eqb (cycle_of w) p.cycle) (cond (is_sweep w) p.sweep (not p.sweep)) e in
     (sym (eqb-true _ _ parts.0), same_phase (is_sweep w) p.sweep parts.1)
 
-not_true : (b : Bool) → not b ≡ true → b ≡ false
-not_true true e = cc
-not_true false e = refl
-
 -- the word of an empty gate is open and counts nobody
 pub empty_gate : (w : ℕ) → is_empty w ≡ true → (is_closed w ≡ false) × (inside_of w ≡ 0)
 empty_gate w e =
     let parts = and_parts (not (is_closed w)) (eqb (inside_of w) 0) e in
-    (not_true (is_closed w) parts.0, eqb-true _ _ parts.1)
-
--- what holds of both rows of a choice holds of the one that is taken
-either : (P : GateRow → Type 0) (b : Bool) (p q : GateRow) → P p → P q → P (cond b p q)
-either P true p q h k = h
-either P false p q h k = k
+    (not-true (is_closed w) parts.0, eqb-true _ _ parts.1)
 
 abbrev IsOut : GateRow → Type 0
 IsOut r = (changing_gating r).stand ≡ Outside
 
 looks_out : (p : Pass) (w : ℕ) → IsOut (look_to_close p w)
-looks_out p w = either IsOut (is_of_pass p w) (cond (is_empty w) (Close p w) KeptOut) KeptOut (either IsOut (is_empty w) (Close p w) KeptOut refl refl) refl
+looks_out p w = either_row IsOut (is_of_pass p w) (cond (is_empty w) (Close p w) KeptOut) KeptOut (either_row IsOut (is_empty w) (Close p w) KeptOut refl refl) refl
 
 abbrev IsAt : Gating → GateRow → Type 0
 IsAt g r = changing_gating r ≡ g
 
 checks_closing : (p : Pass) (u w : ℕ) → IsAt (in_pass p Closing) (list_checked p u w)
 checks_closing p u w =
-    either (IsAt (in_pass p Closing)) (eqb w 0) (cond (ltb (u + 1) p.threads) (CheckList p (u + 1)) (SetCursor p)) (Reopen p) (either (IsAt (in_pass p Closing)) (ltb (u + 1) p.threads) (CheckList p (u + 1)) (SetCursor p) refl refl) refl
+    either_row (IsAt (in_pass p Closing)) (eqb w 0) (cond (ltb (u + 1) p.threads) (CheckList p (u + 1)) (SetCursor p)) (Reopen p) (either_row (IsAt (in_pass p Closing)) (ltb (u + 1) p.threads) (CheckList p (u + 1)) (SetCursor p) refl refl) refl
 
 closed_closing : (p : Pass) → IsAt (in_pass p Closing) (closed_by p)
-closed_closing p = either (IsAt (in_pass p Closing)) p.sweep (ShadeRoot p 0 0) (CheckList p 0) refl refl
+closed_closing p = either_row (IsAt (in_pass p Closing)) p.sweep (ShadeRoot p 0 0) (CheckList p 0) refl refl
 
 shades_closing : (W : Width) (p : Pass) (u : ℕ) → IsAt (in_pass p Closing) (root_shaded W p u)
-shades_closing W p u = either (IsAt (in_pass p Closing)) (ltb (u + 1) p.threads) (ShadeRoot p (u + 1) (root_block W u)) (PutRoots p (root_block W u)) refl refl
+shades_closing W p u = either_row (IsAt (in_pass p Closing)) (ltb (u + 1) p.threads) (ShadeRoot p (u + 1) (root_block W u)) (PutRoots p (root_block W u)) refl refl
 
 module _ (W : Width) (n : ℕ) (h : Heap) (gs : ℕ → Gating) (k : GateOf n (h Phase) gs) (t : ℕ) (tl : t < n) where
   -- a thread outside stays there
@@ -317,13 +309,13 @@ abbrev ReadNone : GateRow → Type 0
 ReadNone r = lists_read r ≡ 0
 
 close_look_read : (p : Pass) (w : ℕ) → ReadNone (look_to_close p w)
-close_look_read p w = either ReadNone (is_of_pass p w) (cond (is_empty w) (Close p w) KeptOut) KeptOut (either ReadNone (is_empty w) (Close p w) KeptOut refl refl) refl
+close_look_read p w = either_row ReadNone (is_of_pass p w) (cond (is_empty w) (Close p w) KeptOut) KeptOut (either_row ReadNone (is_empty w) (Close p w) KeptOut refl refl) refl
 
 close_read : (W : Width) (p : Pass) (seen w : ℕ) → ReadNone (gate_got W (Close p seen) w)
-close_read W p seen w = either ReadNone (eqb w seen) (closed_by p) KeptOut (either ReadNone p.sweep (ShadeRoot p 0 0) (CheckList p 0) refl refl) refl
+close_read W p seen w = either_row ReadNone (eqb w seen) (closed_by p) KeptOut (either_row ReadNone p.sweep (ShadeRoot p 0 0) (CheckList p 0) refl refl) refl
 
 shade_read : (W : Width) (p : Pass) (u : ℕ) → ReadNone (root_shaded W p u)
-shade_read W p u = either ReadNone (ltb (u + 1) p.threads) (ShadeRoot p (u + 1) (root_block W u)) (PutRoots p (root_block W u)) refl refl
+shade_read W p u = either_row ReadNone (ltb (u + 1) p.threads) (ShadeRoot p (u + 1) (root_block W u)) (PutRoots p (root_block W u)) refl refl
 
 none_below : (r : GateRow) (v : ℕ) → ReadNone r → v < lists_read r → ⊥
 none_below r v e low = omega arith

@@ -1,7 +1,7 @@
 -- The same commands on two graphs of one thread that are one up to names.
 use Rattle.std.proofs.Common.{◌≡◌, ℕ, ◌<◌, Bool, true, false, inl, inr, ltb, cond, get_or, zero, suc, List, [], ◌∷◌, length, map, refl, sym, ap, ◌∙◌, subst, arith}
 use Rattle.std.specs.List.{AllByRecursion, list_all}
-use Rattle.std.proofs.lemmas.Bool.{and_from, both_ways, cases_Bool, cases_lt, false_from_ne_true, ltb-true, or_left}
+use Rattle.std.proofs.lemmas.Bool.{and_from, both_ways, cases_Bool, false_from_ne_true, ltb-true, or_left}
 use Rattle.std.proofs.lemmas.List.{length-map}
 use Rattle.block_store.specs.declared.Config.{Config}
 use Rattle.block_store.specs.declared.Name.{Name}
@@ -14,14 +14,13 @@ use Rattle.never_heap.specs.declared.Reply.{Reply}
 use Rattle.never_heap.specs.declared.Reply.TheVariants as replies
 use Rattle.never_heap.specs.Bounds.{IsCommandInRange}
 use Rattle.never_heap.specs.Histories.{HistoryItem, replay}
-use Rattle.never_heap.specs.Graphs.{Graph, Object, ObjectKind, Record, Array, field_of, has_name, mutator_at, next_name, nil_object, object_of, register_of, same_name, start_graph, with_field, with_object, with_register}
-use Rattle.never_heap.specs.Steps.{at_field, at_object, made, makes_object, same_value, step, swapped}
+use Rattle.never_heap.specs.Graphs.{Graph, Object, ObjectKind, Record, Array, field_of, has_name, next_name, nil_object, object_of, register_of, same_name, start_graph, with_field, with_object, with_register}
+use Rattle.never_heap.specs.Steps.{at_field, at_object, made, same_value, step, swapped}
 use Rattle.never_heap.proofs.FieldStores.{registers_with_field, registers_with_object, threads_with_field}
-use Rattle.never_heap.proofs.GraphMoves.{sixteen_with_register}
-use Rattle.never_heap.proofs.NameLists.{one_name, same_itself}
+use Rattle.never_heap.proofs.NameLists.{one_name, same_itself, ref_name}
 use Rattle.never_heap.proofs.StartGraph.{registers_of_start, threads_of_start}
-use Rattle.never_heap.proofs.UnchangedBySteps.{replay_keeps, step_past}
-use Rattle.never_heap.proofs.StepChanges.{Change, none, store, put, swap, make, change_of, has_field, step_threads, threads_put, with_object_threads}
+use Rattle.never_heap.proofs.UnchangedBySteps.{replay_keeps, step_registers}
+use Rattle.never_heap.proofs.StepChanges.{step_threads, with_object_threads}
 use Rattle.heap_pictures.specs.Following.{HasOneThread, StayOneUpToNames, names_only, renamed_reply, replies_to}
 use Rattle.heap_pictures.specs.Plans.{graph_after}
 use Rattle.heap_pictures.specs.UpToNames.{AreOneUpToNames, renamed}
@@ -29,36 +28,11 @@ use Rattle.heap_pictures.proofs.RenamedGraphs.{AreOneUnder, IsNamed, and_next, f
 
 -- ---- one thread stays
 
-abbrev registers_in : Graph → ℕ
-registers_in g = length (mutator_at g 0).registers
-
-same_registers : (g : Graph) (t : ℕ) (new : Bool) (h : Graph) → t < length g.mutators
-    → Change g t new h → registers_in h ≡ registers_in g
-same_registers g t new _ there none = refl
-same_registers g t new _ there (store d v s) = sixteen_with_register g t d 0 v there
-same_registers g t new _ there (put s i v a e l) =
-    ap length (registers_with_field g a i (register_of g t v) (has_field g a i l) 0)
-same_registers g t new _ there (swap s i v a e l) =
-    sixteen_with_register (with_field g a i (register_of g t v)) t v 0
-    (field_of (object_of g a) i) (omega (arith, there, threads_put g a i (register_of g t v) l))
-    ∙ ap length (registers_with_field g a i (register_of g t v) (has_field g a i l) 0)
-same_registers g t new _ there (make d o n e y) =
-    sixteen_with_register (with_object g t o) t d 0 (Ref (next_name g t))
-    (omega (arith, there, with_object_threads g t o))
-    ∙ ap length (registers_with_object g t o there 0)
-
-step_registers : (g : Graph) (t : ℕ) (k : Command)
-    → registers_in (step g t k).0 ≡ registers_in g
-step_registers g t k = elim (cases_lt t (length g.mutators)) [
-  | inl there ↦ same_registers g t (makes_object k) (step g t k).0 there (change_of g t k)
-  | inr past ↦ ap registers_in (step_past g t k past)
-]
-
-any_thread_stays : (g : Graph) (t : ℕ) (k : Command) → HasOneThread g
+pub any_thread_stays : (g : Graph) (t : ℕ) (k : Command) → HasOneThread g
     → HasOneThread (step g t k).0
 any_thread_stays g t k lone = record {
   threads = step_threads g t k ∙ lone.threads;
-  registers = step_registers g t k ∙ lone.registers;
+  registers = step_registers g t k 0 ∙ lone.registers;
 }
 
 pub thread_stays : (g : Graph) (k : Command) → HasOneThread g → HasOneThread (step g 0 k).0
@@ -104,14 +78,6 @@ record GoOn (R : Name → Bool) (T : Name → Name) (p q : Graph × Reply) : Typ
   next : AreOneUnder reached to p.0 q.0
   reply : q.1 ≡ renamed_reply to p.1
   names : names_only reached p.1 ≡ true
-
--- a reference has one name
-name_of_ref : Value → Name → Name
-name_of_ref (Ref a) b = a
-name_of_ref v b = b
-
-ref_name : (b a : Name) → Ref b ≡ Ref a → b ≡ a
-ref_name b a e = cc
 
 named_by_ref : (R : Name → Bool) (b a : Name) → R b ≡ true → Ref b ≡ Ref a → R a ≡ true
 named_by_ref R b a rb e = subst (λ c. R c ≡ true) (ref_name b a e) rb

@@ -13,7 +13,7 @@ use Rattle.never_heap.specs.Graphs.{Graph, Mutator, field_of, no_mutator, object
 use Rattle.never_heap.specs.LiveBlocks.{blocks_of_kind, live_blocks, live_of, object_blocks}
 use Rattle.never_heap.specs.Reach.{is_among, names, reachable}
 use Rattle.never_heap.proofs.LiveBlocksBound.{within}
-use Rattle.never_heap.proofs.NameLists.{any_of_names, one_name, same_itself}
+use Rattle.never_heap.proofs.NameLists.{any_of_names, one_name, same_itself, ref_name}
 use Rattle.never_heap.proofs.ReachableNames.{reachable_closed, reachable_within}
 use Rattle.heap_pictures.specs.Following.{HasOneThread}
 use Rattle.heap_pictures.specs.UpToNames.{AreOneUpToNames, renamed}
@@ -24,15 +24,6 @@ ref_of : (T : Name → Name) (v : Value) (b : Name) → renamed T v ≡ Ref b
 ref_of T Nil b e = absurd cc
 ref_of T (Int n) b e = absurd cc
 ref_of T (Ref a) b e = (a, refl, e)
-
--- a reference has one name
-name_of_ref : Value → Name → Name
-name_of_ref (Ref a) b = a
-name_of_ref v b = b
-
-ref_name : (a b : Name) → Ref a ≡ Ref b → a ≡ b
-unfolding name_of_ref
-ref_name a b e = ap (λ v. name_of_ref v a) e
 
 -- no other thread has a register
 other_register : (g : Graph) (t r : ℕ) (a : Name) → HasOneThread g → register_of g (suc t) r ≡ Ref a

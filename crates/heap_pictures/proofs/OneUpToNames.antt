@@ -1,6 +1,6 @@
 -- What is built of a picture is the picture up to names, and names follow one another.
-use Rattle.std.proofs.Common.{◌≡◌, ℕ, zero, suc, ◌-◌, ◌<◌, ◌≤◌, Bool, true, false, ◌&&◌, leb, List, [], ◌∷◌, length, map, get_or, refl, sym, ap, ◌∙◌, subst, arith}
-use Rattle.std.proofs.lemmas.Bool.{and_parts}
+use Rattle.std.proofs.Common.{◌≡◌, ℕ, zero, suc, ◌-◌, ◌<◌, ◌≤◌, Bool, true, ◌&&◌, leb, List, [], ◌∷◌, length, map, get_or, refl, sym, ap, ◌∙◌, subst, arith}
+use Rattle.std.proofs.lemmas.Bool.{and_parts, and_from}
 use Rattle.block_store.specs.declared.Config.{Config}
 use Rattle.block_store.specs.declared.Name.{Name}
 use Rattle.block_store.specs.declared.Value.{Value}
@@ -17,10 +17,6 @@ use Rattle.heap_pictures.proofs.Building.{Sound, built, less_one, moved, moved_o
 abbrev both : (Name → Bool) → (Name → Bool) → (Name → Name) → Name → Bool
 both f s to a = f a && s (to a)
 
-true_of_both : (x y : Bool) → x ≡ true → y ≡ true → (x && y) ≡ true
-true_of_both true y a b = b
-true_of_both false y a b = absurd cc
-
 renamed_twice : (f s : Name → Name) (v : Value) → renamed s (renamed f v) ≡ renamed (λ a. s (f a)) v
 renamed_twice f s Nil = refl
 renamed_twice f s (Int n) = refl
@@ -34,14 +30,14 @@ pub follow : (g h z : Graph) → AreOneUpToNames g h → AreOneUpToNames h z →
 follow g h z one two = record {
   reached = both one.reached two.reached one.to;
   to = λ a. two.to (one.to a);
-  roots = λ r a is. true_of_both (one.reached a) (two.reached (one.to a)) (one.roots r a is)
+  roots = λ r a is. and_from (one.reached a) (two.reached (one.to a)) (one.roots r a is)
       (two.roots r (one.to a) (one.registers r ∙ ap (renamed one.to) is));
   closed = λ b a i reached is.
       let parts = and_parts (one.reached b) (two.reached (one.to b)) reached in
       let there : field_of (object_of h (one.to b)) i ≡ Ref (one.to a) =
       ap (λ (o : Object). field_of o i) (one.objects b parts.0)
       ∙ get_map (renamed one.to) Nil (object_of g b).fields i ∙ ap (renamed one.to) is in
-      true_of_both (one.reached a) (two.reached (one.to a)) (one.closed b a i parts.0 is)
+      and_from (one.reached a) (two.reached (one.to a)) (one.closed b a i parts.0 is)
       (two.closed (one.to b) (one.to a) i parts.1 there);
   apart = λ a b ra rb same.
       let pa = and_parts (one.reached a) (two.reached (one.to a)) ra in

@@ -11,6 +11,7 @@ use Rattle.never_heap.proofs.FieldStores.{has_name_with_field, has_name_with_obj
 use Rattle.never_heap.proofs.GraphMoves.{get_or_set, has_name_with_register, object_with_register, register_with_register}
 use Rattle.never_heap.proofs.NameLists.{one_name, same_itself}
 use Rattle.never_heap.proofs.UnchangedBySteps.{next_is_new}
+use Rattle.never_heap.proofs.ReachSteps.{nil_of}
 use Rattle.heap_pictures.specs.Following.{HasOneThread}
 use Rattle.heap_pictures.specs.UpToNames.{AreOneUpToNames, renamed, renamed_object}
 
@@ -92,11 +93,6 @@ renamed_store T false o p i v = refl
 nils_under : (T : Name → Name) (n : ℕ) → map (renamed T) (nils n) ≡ nils n
 nils_under T zero = refl
 nils_under T (suc n) = ap (λ vs. Nil ∷ vs) (nils_under T n)
-
-nil_at : (n i : ℕ) → get_or (nils n) i Nil ≡ Nil
-nil_at zero i = refl
-nil_at (suc n) zero = refl
-nil_at (suc n) (suc i) = nil_at n i
 
 nil_no_name : (v : Value) (a : Name) → v ≡ Nil → v ≡ Ref a → ⊥
 nil_no_name v a n e = let same : Nil ≡ Ref a = sym n ∙ e in absurd cc
@@ -261,7 +257,7 @@ module _ (R : Name → Bool) (T : Name → Name) (g z : Graph) (one : AreOneUnde
   closed_next : (b c : Name) (i : ℕ) → and_next R g b ≡ true
       → field_of (object_of (with_object g 0 new) b) i ≡ Ref c → and_next R g c ≡ true
   closed_next b c i rb e = elim (or_cases (same_name (next_name g 0) b) (R b) rb) [
-    | inl y ↦ absurd (nil_no_name (field_of new i) c (nil_at n i)
+    | inl y ↦ absurd (nil_no_name (field_of new i) c (nil_of n i)
         (sym (ap (λ o. field_of o i) (new_object g next_here b y)) ∙ e))
     | inr r ↦ old_is_reached c (one.closed b c i r
         (sym (ap (λ o. field_of o i) (old_object g next_here b (old b r))) ∙ e))

@@ -1,14 +1,10 @@
 -- Alarms of a list, and their values in the array.
 use Rattle.std.proofs.Common.{◌≡◌, ℕ, suc, zero, inl, inr, eq-eqb, ◌+◌, ◌*◌, ◌<◌, ◌≤◌, ◌==◌, ◌||◌, Bool, true, false, if◌then◌else◌, Some, None, List, [], ◌∷◌, ◌++◌, length, take, map, slice_index_or, slice_set, sym, refl, ap, ◌∙◌, subst, arith, eqb-true}
-use Rattle.std.proofs.lemmas.Bool.{both_ways, cases_Bool, ne_eqb}
+use Rattle.std.proofs.lemmas.Bool.{both_ways, cases_Bool, ne_eqb, or_parts}
 use Rattle.std.proofs.lemmas.List.{get_or-map, map-append, take_all}
 use Rattle.block_store.specs.declared.Value.TheVariants.{Nil, Int}
 use Rattle.heap_structures.specs.declared.alarms.Alarm.{Alarm}
 use Rattle.heap_structures.specs.Alarms.{IsFound, StandOnce, acknowledged, alarm_at, cleared, raised, stands, value_of, without}
-
-either_not : (x y : Bool) → (x || y) ≡ false → (x ≡ false) × (y ≡ false)
-either_not true y e = absurd (both_ways true e refl)
-either_not false y e = (refl, e)
 
 abbrev pub none : Alarm
 none = record { number = 0; acknowledged = false }
@@ -39,7 +35,7 @@ pub found_here : (n : ℕ) (xs : List Alarm) (p : ℕ) → p < length xs
 found_here n [] p low first is = absurd (omega (arith, low))
 found_here n (x ∷ xs) zero low first is = is
 found_here n (x ∷ xs) (suc p) low first is =
-    let e = either_not (x.number == n) (stands n (take p xs)) first in
+    let e = or_parts (x.number == n) (stands n (take p xs)) first in
     (e.0, found_here n xs p (omega arith) e.1 is)
 
 pub not_here : (n : ℕ) (xs : List Alarm) (p : ℕ) → p < length xs
@@ -54,7 +50,7 @@ not_here n xs p low first is =
     by [] p low first is = absurd (omega (arith, low))
     by (x ∷ xs) zero low first is = ap (λ t. t || false) is
     by (x ∷ xs) (suc p) low first is =
-        let e = either_not (x.number == n) (stands n (take p xs)) first in
+        let e = or_parts (x.number == n) (stands n (take p xs)) first in
         ap (λ t. t || stands n (take (suc p) xs)) e.0 ∙ by xs p (omega arith) e.1 is
 
 pub not_at_all : (n : ℕ) (xs : List Alarm) (p : ℕ) → length xs ≤ p → stands n (take p xs) ≡ false
@@ -101,7 +97,7 @@ found_acknowledged n (suc p) (x ∷ xs) f =
 pub none_cleared : (n : ℕ) (xs : List Alarm) → stands n xs ≡ false → cleared n xs ≡ xs
 none_cleared n [] e = refl
 none_cleared n (x ∷ xs) e =
-    let p = either_not (x.number == n) (stands n xs) e in
+    let p = or_parts (x.number == n) (stands n xs) e in
     ap (λ (t : Bool). if t then xs else x ∷ cleared n xs) p.0
     ∙ ap (λ bs. x ∷ bs) (none_cleared n xs p.1)
 
@@ -109,7 +105,7 @@ pub none_acknowledged : (n : ℕ) (xs : List Alarm) → stands n xs ≡ false
     → acknowledged n xs ≡ xs
 none_acknowledged n [] e = refl
 none_acknowledged n (x ∷ xs) e =
-    let p = either_not (x.number == n) (stands n xs) e in
+    let p = or_parts (x.number == n) (stands n xs) e in
     ap (λ (t : Bool). if t then acked x ∷ xs else x ∷ acknowledged n xs) p.0
     ∙ ap (λ bs. x ∷ bs) (none_acknowledged n xs p.1)
 
@@ -128,14 +124,14 @@ stands_raised : (m n : ℕ) (xs : List Alarm) → (n == m) ≡ false → stands 
     → stands m (raised n xs) ≡ false
 stands_raised m n [] e f = ap (λ t. t || false) e
 stands_raised m n (x ∷ xs) e f =
-    let p = either_not (x.number == m) (stands m xs) f in
+    let p = or_parts (x.number == m) (stands m xs) f in
     ap (λ t. t || stands m (raised n xs)) p.0 ∙ stands_raised m n xs e p.1
 
 pub once_raised : (n : ℕ) (xs : List Alarm) → StandOnce xs → stands n xs ≡ false
     → StandOnce (raised n xs)
 once_raised n [] once f = (refl, tt)
 once_raised n (x ∷ xs) once f =
-    let p = either_not (x.number == n) (stands n xs) f in (
+    let p = or_parts (x.number == n) (stands n xs) f in (
       stands_raised x.number n xs (apart x.number n p.0) once.0,
       once_raised n xs once.1 p.1,
     )
@@ -168,7 +164,7 @@ stands_cleared : (m n : ℕ) (xs : List Alarm) → stands m xs ≡ false
     → stands m (cleared n xs) ≡ false
 stands_cleared m n [] f = refl
 stands_cleared m n (x ∷ xs) f =
-    let p = either_not (x.number == m) (stands m xs) f in elim (cases_Bool (x.number == n)) [
+    let p = or_parts (x.number == m) (stands m xs) f in elim (cases_Bool (x.number == n)) [
       | inl e ↦ ap (λ t. stands m (after_clear n x xs t)) e ∙ p.1
       | inr e ↦ ap (λ t. stands m (after_clear n x xs t)) e
           ∙ ap (λ t. t || stands m (cleared n xs)) p.0 ∙ stands_cleared m n xs p.1

@@ -10,20 +10,13 @@ use Rattle.control_heap.specs.declared.faults.Fault.{Fault}
 use Rattle.heap_structures.specs.declared.cells.Cells.{Cells}
 use Rattle.heap_structures.specs.Alarms.{Shows, without}
 use Rattle.heap_structures.specs.Cells.{IsCells, held}
-use Rattle.heap_structures.specs.Heaps.{Does, HasRoom, Ready, Sight, Took}
+use Rattle.heap_structures.specs.Heaps.{Does, HasRoom, Ready, Sight}
 use Rattle.heap_structures.specs.Rings.{IsRound}
 use Rattle.heap_structures.proofs.Answered.{ok_map, room_after, room_less}
 use Rattle.heap_structures.proofs.Chained.{does_both}
 use Rattle.heap_structures.proofs.Closing.{IsClosed, at0, circle_set, circle_without, closed_more, closed_none, length_without}
 use Rattle.heap_structures.proofs.Rounds.{round_more}
-
-pub took_less : (n m : ℕ) (h z : Control) → n ≤ m → Took n h z → Took m h z
-took_less n m h z less t = record {
-  config = t.config;
-  commands = omega (arith, t.commands, less);
-  objects = t.objects;
-  units = t.units;
-}
+use Rattle.heap_structures.proofs.TableCalls.{took_more}
 
 -- more commands are allowed, and more is known
 abbrev pub shows_as : (s : Sight) (n m : ℕ) (h z : Control) (c : Cells) (g : Graph)
@@ -32,7 +25,7 @@ abbrev pub shows_as : (s : Sight) (n m : ℕ) (h z : Control) (c : Cells) (g : G
 shows_as s n m h z c g P Q less d f = record {
   graph = d.graph;
   has = d.has;
-  took = took_less n m h z less d.took;
+  took = took_more n m h z less d.took;
   spares = d.spares;
   holds = f d.holds;
 }

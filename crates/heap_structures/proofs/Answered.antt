@@ -19,10 +19,11 @@ use Rattle.control_heap.specs.Controls.{Control, HasLeft}
 use Rattle.control_heap.specs.declared.faults.Fault.{Fault}
 use Rattle.control_heap.specs.declared.faults.Fault.TheVariants as faults
 use Rattle.graph_view.specs.Asked.{HasDone}
+use Rattle.heap_pictures.specs.Following.{HasOneThread}
 use Rattle.heap_structures.specs.declared.cells.Cells.{Cells}
 use Rattle.heap_structures.specs.Cells.{IsCells, held}
 use Rattle.heap_structures.specs.Heaps.{Does, Has, HasRoom, IsQuiet, Ready, Sight, Took}
-use Rattle.heap_structures.proofs.CellMoves.{IsLone, Stored, Put, get_step, get_stores, nil_stores, put_puts, put_step, set_stores}
+use Rattle.heap_structures.proofs.CellMoves.{Stored, Put, get_step, get_stores, nil_stores, put_puts, put_step, set_stores}
 use Rattle.heap_structures.proofs.Quiet.{lone_of}
 
 -- such a command is done where there is room for one
@@ -122,7 +123,7 @@ ok_map P Q (Err e) f p = p
 
 module _ (law : QuietLaw) (s : Sight) (h z : Control) (c : Cells) (g : Graph) (vs : List Value)
     (ready : Ready s 1 h c g vs) (same : z.config ≡ h.config) where
-  abbrev lone : IsLone g
+  abbrev lone : HasOneThread g
   lone = lone_of s h g ready.has
 
   abbrev loaded : ℕ → Value

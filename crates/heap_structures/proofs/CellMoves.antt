@@ -13,14 +13,10 @@ use Rattle.never_heap.specs.Graphs.{Graph, Object, Array, has_name, mutator_at, 
 use Rattle.never_heap.specs.Steps.{made, step}
 use Rattle.never_heap.proofs.FieldStores.{has_name_with_field}
 use Rattle.never_heap.proofs.UnchangedBySteps.{next_is_new, step_names}
-use Rattle.operations.proofs.Effects.{Effect, gets, makes, puts, puts_is, stores}
+use Rattle.never_heap.proofs.Effects.{Effect, gets, makes, puts, puts_is, stores}
+use Rattle.heap_pictures.specs.Following.{HasOneThread}
 use Rattle.heap_structures.specs.declared.cells.Cells.{Cells}
 use Rattle.heap_structures.specs.Cells.{IsCells, IsNone, IsPlaced, Saves, Spares, held}
-
--- a graph of one thread, with its registers
-pub record IsLone (g : Graph) : Type 0 where
-  pub threads : length g.mutators ≡ 1
-  pub sixteen : length (mutator_at g 0).registers ≡ 16
 
 -- a step that stores in one register, and changes one object
 spared : (g z : Graph) (k : Command) (d : ℕ) (v : Value) (a : Name) (o : Object) (more : ℕ)
@@ -74,12 +70,14 @@ cells_spared rs a g z c vs s apart none is = record {
   placed = is.placed;
 }
 
-module _ (g : Graph) (c : Cells) (vs : List Value) (lone : IsLone g) (is : IsCells g c vs) where
+module _ (g : Graph) (c : Cells) (vs : List Value) (lone : HasOneThread g) (is : IsCells g c vs) where
   there : 0 < length g.mutators
   there = omega (arith, lone.threads)
 
   room : (d : ℕ) → d < 16 → d < length (mutator_at g 0).registers
-  room d low = omega (arith, lone.sixteen)
+  room d low =
+      let sixteen : length (mutator_at g 0).registers ≡ 16 = lone.registers in
+      omega (arith, sixteen)
 
   inside : (i : ℕ) → i < length vs → i < length (object_of g c.array).fields
   inside i low = subst (λ fs. i < length fs) (sym is.values) low
@@ -175,11 +173,12 @@ pub record Made (g z : Graph) (b n : ℕ) : Type 0 where
   pub spares : Spares (b ∷ []) (next_name g 0) g z
   pub fresh : has_name g (next_name g 0) ≡ false
 
-pub makes_cells : (g : Graph) (b n : ℕ) → IsLone g → b < 16
+pub makes_cells : (g : Graph) (b n : ℕ) → HasOneThread g → b < 16
     → has_name (made g 0 b (nil_object Array n)).0 (next_name g 0) ≡ true
     → Made g (step g 0 (commands.Arr b n)).0 b n
 makes_cells g b n lone low named =
-    let e = makes g 0 b (nil_object Array n) (omega (arith, lone.threads)) (omega (arith, lone.sixteen, low)) in
+    let sixteen : length (mutator_at g 0).registers ≡ 16 = lone.registers in
+    let e = makes g 0 b (nil_object Array n) (omega (arith, lone.threads)) (omega (arith, sixteen, low)) in
     let z : Graph = (made g 0 b (nil_object Array n)).0 in
     record {
       cells = λ c array base size placed. record {

@@ -1,6 +1,5 @@
 pub mod Circling
 pub mod CellMoves
-pub mod CellLone
 pub mod Quiet
 pub mod Answered
 pub mod Chained
@@ -17,3 +16,7 @@ pub mod TableCalls
 pub mod TableChains
 pub mod MapCalls
 pub mod Renewed
+pub mod TrendLists
+pub mod TrendHeaps
+pub mod TrendOpens
+pub mod TrendCalls

@@ -12,12 +12,14 @@ use Rattle.never_heap.specs.declared.Command.TheVariants as commands
 use Rattle.never_heap.specs.declared.Reply.{Reply}
 use Rattle.never_heap.specs.declared.Reply.TheVariants as replies
 use Rattle.never_heap.specs.Bounds.{IsCommandInBounds}
-use Rattle.never_heap.specs.Graphs.{Graph, Object, field_of, has_name, next_name, object_of, ObjectKind, Record, Array, register_of, same_name}
+use Rattle.never_heap.specs.Graphs.{Graph, Object, field_of, has_name, next_name, nils, object_of, ObjectKind, Record, Array, register_of, same_name}
 use Rattle.never_heap.specs.Steps.{step}
 use Rattle.never_heap.proofs.CommandBounds.{plain_fits}
 use Rattle.never_heap.proofs.StepChanges.{has_field}
 use Rattle.heap_machine.specs.Memories.{Acts}
 use Rattle.heap_pictures.specs.UpToNames.{AreOneUpToNames, renamed}
+use Rattle.heap_pictures.specs.Following.{HasOneThread}
+use Rattle.heap_pictures.proofs.Following.{any_thread_stays}
 use Rattle.heap_system.specs.Lives.{most_objects, most_units}
 use Rattle.control_heap.specs.Calls.{HasTold}
 use Rattle.control_heap.specs.Controls.{Control, HasLeft, units}
@@ -33,8 +35,7 @@ use Rattle.heap_structures.specs.Opened.{NotOpened, Opens, OpensNils, StaysSmall
 use Rattle.heap_structures.specs.Records.{AreNumbers, Grows, HasBox, IsRecords, MayPush, NotPushed, first_of, ArePlain, ReferOnly}
 use Rattle.heap_structures.specs.Rings.{Gives, IsNoTarget, IsRing}
 use Rattle.heap_structures.proofs.Answered.{QuietLaw, ok_map, room_after, told_ok, took_both, value_in}
-use Rattle.heap_structures.proofs.CellLone.{lone_step}
-use Rattle.heap_structures.proofs.CellMoves.{IsLone, get_step, makes_cells, set_stores, spares_both, spares_wider}
+use Rattle.heap_structures.proofs.CellMoves.{get_step, makes_cells, set_stores, spares_both, spares_wider}
 use Rattle.heap_structures.proofs.Opening.{new_named}
 use Rattle.heap_structures.proofs.Quiet.{lone_of}
 use Rattle.heap_structures.proofs.Rounds.{at_place, not_stopped, round_same, round_stays}
@@ -47,8 +48,9 @@ use Rattle.block_store.specs.Registers.{registers_end}
 use Rattle.never_heap.specs.LiveBlocks.{blocks_of_kind, live_blocks, object_blocks}
 use Rattle.never_heap.specs.Reach.{is_among}
 use Rattle.never_heap.proofs.LiveBlocksBound.{within}
-use Rattle.never_heap.proofs.NameLists.{one_name}
-use Rattle.operations.proofs.Among.{name_self, thread_of}
+use Rattle.never_heap.proofs.NameLists.{one_name, same_itself}
+use Rattle.never_heap.proofs.ReachSteps.{nil_of}
+use Rattle.never_heap.proofs.UnchangedBySteps.{thread_of}
 use Rattle.heap_structures.specs.declared.alarms.Alarm.{Alarm}
 use Rattle.heap_structures.specs.declared.alarms.AlarmList.{AlarmList}
 use Rattle.heap_structures.specs.Alarms.{IsAlarms, value_of}
@@ -234,7 +236,7 @@ module _ (s : Sight) (h y : Control) (g : Graph) (r : Records) (ns : List ℕ) (
             fields = made.values;
             fresh = m.fresh;
             spares = m.spares;
-            threads = (lone_step g 0 (commands.Arr d 1) lone).threads ∙ sym lone.threads;
+            threads = (any_thread_stays g 0 (commands.Arr d 1) lone).threads ∙ sym lone.threads;
           }
 
       by : (s : Sight) → MayPush s h.config g d → StaysSmall s h.config g d 1
@@ -472,7 +474,7 @@ module _ (s : Sight) (h y : Control) (g : Graph) (r : Records) (ns : List ℕ) (
       let fields : (object_of k t.0).fields ≡ Int n ∷ [] =
       ap (λ (o : Object). o.fields) (e.spares.objects t.0
       (not_ring g r.ring is.names is.ring t.0 n t.3)) ∙ t.3 in
-      let alone : IsLone k = lone_of s y k e.has in
+      let alone : HasOneThread k = lone_of s y k e.has in
       let one : IsCells k (record { array = t.0; base = d; spare = cs.spare; size = 1 })
       (Int n ∷ []) = record {
         base = t.2;
@@ -560,10 +562,11 @@ alarms_plain g l xs is x i e =
     let at = at_place g l.cells 0 l.count (map value_of xs) is i in no_alarm xs at.0 x (sym at.1 ∙
     e)
 
-pub nil_plain : (g : Graph) (b : Name) → (object_of g b).fields ≡ Nil ∷ [] → (x : Name) (i : ℕ)
-    → field_of (object_of g b) i ≢ Ref x
-nil_plain g b nil x i =
-    not_ref (object_of g b).fields Nil i x nil (λ bad. let no : Nil ≡ Ref x = bad in absurd cc)
+pub nils_plain : (g : Graph) (b : Name) (n : ℕ) → (object_of g b).fields ≡ nils n → (x : Name)
+    (i : ℕ) → field_of (object_of g b) i ≢ Ref x
+nils_plain g b n nil x i e =
+    let bad : Nil ≡ Ref x =
+    sym (nil_of n i) ∙ sym (ap (λ fs. slice_index_or fs i Nil) nil) ∙ e in absurd cc
 
 -- these objects refer to none, one by one
 pub plain_by : (g : Graph) (bs : List Name)
@@ -586,7 +589,7 @@ refer_by g q b (o ∷ os) all none e = elim (cases_eq q o.0) [
       let both : Ref o.1 ≡ Ref b = sym all.0 ∙ ap (held g) (sym is) ∙ e in
       let same : b ≡ o.1 = cc in
       or_left (same_name b o.1) (is_among (map (λ p. p.1) os) b)
-      (subst (λ y. same_name b y ≡ true) same (name_self b))
+      (subst (λ y. same_name b y ≡ true) same (same_itself b))
   | inr ne ↦ or_right (same_name b o.1) (is_among (map (λ p. p.1) os) b)
       (refer_by g q b os all.1 (λ no. none (ne, no)) e)
 ]
@@ -596,7 +599,7 @@ in_names : (bs : List Name) (i : ℕ) (x : Name) → slice_index_or (map Ref bs)
 in_names [] i x e = absurd cc
 in_names (b ∷ bs) zero x e =
     let same : x ≡ b = cc in
-    or_left (same_name x b) (is_among bs x) (subst (λ y. same_name x y ≡ true) same (name_self x))
+    or_left (same_name x b) (is_among bs x) (subst (λ y. same_name x y ≡ true) same (same_itself x))
 in_names (b ∷ bs) (suc i) x e = or_right (same_name x b) (is_among bs x) (in_names bs i x e)
 
 number_of : (g : Graph) (bs : List Name) (ns : List ℕ) → AreNumbers g bs ns → (b : Name)

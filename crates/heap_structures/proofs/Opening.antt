@@ -28,15 +28,16 @@ use Rattle.control_heap.specs.declared.faults.Fault.TheVariants as faults
 use Rattle.graph_view.specs.Asked.{HasDone, HasDoneAll, HasUsed}
 use Rattle.graph_view.specs.Shown.{Follows, Goes, HasMetNoFull, IsSmall, Leaves, Shows, graph_told}
 use Rattle.graph_view.proofs.GraphAnswers.{follows_ok, goes_ok, never_ok}
+use Rattle.heap_pictures.specs.Following.{HasOneThread}
 use Rattle.heap_structures.specs.declared.cells.Cells.{Cells}
 use Rattle.heap_structures.specs.Cells.{IsCells, IsPlaced, Spares}
 use Rattle.heap_structures.specs.Heaps.{Any, Small, Always, Has, Sight}
 use Rattle.heap_structures.specs.Opened.{FullOf, MayOpen, NotOpened, Opens, StaysSmall}
-use Rattle.heap_structures.proofs.CellMoves.{IsLone, Made, makes_cells}
+use Rattle.heap_structures.proofs.CellMoves.{Made, makes_cells}
 use Rattle.heap_structures.proofs.Quiet.{lone_of, run_of, stands_of}
 
 -- the new name is there
-pub new_named : (g : Graph) (b n : ℕ) → IsLone g
+pub new_named : (g : Graph) (b n : ℕ) → HasOneThread g
     → has_name (made g 0 b (nil_object Array n)).0 (next_name g 0) ≡ true
 new_named g b n lone =
     has_name_with_register (Rattle.never_heap.specs.Graphs.with_object g 0 (nil_object Array n)) 0 b

@@ -16,8 +16,8 @@ use Rattle.control_heap.specs.Controls.{Control, Stands}
 use Rattle.graph_view.specs.Asked.{HasDone, HasDoneAll, HasUsed}
 use Rattle.graph_view.specs.Shown.{Follows, Goes, HasMetNoFull, IsSmall, Leaves, Shows, graph_told}
 use Rattle.graph_view.proofs.GraphAnswers.{follows_ok, goes_ok, never_ok}
-use Rattle.heap_structures.proofs.CellLone.{lone_graphs}
-use Rattle.heap_structures.proofs.CellMoves.{IsLone}
+use Rattle.heap_pictures.specs.Following.{HasOneThread}
+use Rattle.heap_pictures.proofs.Following.{thread_of_replay}
 use Rattle.heap_structures.specs.Heaps.{Any, Small, Always, Has, IsQuiet, Sight, Took}
 
 -- the run that a heap has with a graph
@@ -31,10 +31,10 @@ stands_of Any h g has = has.stands
 stands_of Small h g has = has.stands
 stands_of Always h g has = has.shows.stands
 
-pub lone_of : (s : Sight) (h : Control) (g : Graph) → Has s h g → IsLone g
+pub lone_of : (s : Sight) (h : Control) (g : Graph) → Has s h g → HasOneThread g
 lone_of s h g has =
-    subst IsLone (graph_of s h g has)
-    (lone_graphs h.config (run_of s h g has).order (stands_of s h g has).single)
+    subst HasOneThread (graph_of s h g has)
+    (thread_of_replay h.config (run_of s h g has).order (stands_of s h g has).single)
   where
     graph_of : (s : Sight) (h : Control) (g : Graph) (has : Has s h g)
         → replay h.config (run_of s h g has).order ≡ g

@@ -9,3 +9,4 @@ pub mod Pairs
 pub mod Tables
 pub mod Maps
 pub mod Renewed
+pub mod Trends

@@ -20,7 +20,7 @@ use crate::places::REGISTERS;
 use block_store::{Name, Value};
 use control_heap::{ControlHeap, Fault, histories_are_right};
 use graph_view::lives_add_up;
-use rt_limit::live_grows;
+use never_heap::live_grows;
 
 /// An array of `size` values. Register `base` refers to it; register `spare` is the structure's
 /// own, for values on their way.

@@ -1,6 +1,6 @@
-//! The examples of `docs/CONTROL.md`: each structure in five lines.
+//! The examples of `docs/CONTROL.md`: each structure in at most five lines.
 
-use crate::{Alarm, AlarmList, Insertion, Map, Queue, Ring};
+use crate::{Alarm, AlarmList, Insertion, Map, Queue, Ring, Sample, Trend};
 use block_store::{Config, Value, Width};
 use control_heap::{ControlHeap, Fault};
 use std::process::Abort;
@@ -38,6 +38,13 @@ fn list_of_one(heap: &mut ControlHeap) -> Result<Option<Alarm>, Fault> {
     alarms.get(heap, 0) // the oldest
 }
 
+fn trend_of_one(trend: &mut Trend) -> Result<Option<u64>, Fault> {
+    let (value, alarm) = (20, true);
+    trend.push(Sample { value, alarm })?; // the oldest goes if all places are taken
+    let _oldest = trend.get(0)?; // Some(20)
+    trend.alarm(0) // Some(0): the first sample pushed is an alarm
+}
+
 #[test]
 fn each_structure_takes_five_lines(rt: HostRuntime) -> Result<(), Fail> {
     let config = Config {
@@ -58,5 +65,10 @@ fn each_structure_takes_five_lines(rt: HostRuntime) -> Result<(), Fail> {
         acknowledged: true,
     };
     assert_eq!(rt; list_of_one(&mut heap), Ok(Some(alarm)));
+    if !Trend::fits(&config, 9) {
+        return Err(Fail::from("the heap holds no trend of nine samples"));
+    }
+    let mut trend = Trend::open(rt.alloc(), config, 9).ok().ok_or("trend")?;
+    assert_eq!(rt; trend_of_one(&mut trend), Ok(Some(0)));
     Ok(())
 }

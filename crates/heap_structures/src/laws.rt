@@ -17,8 +17,7 @@ ghost use Rattle.heap_structures.specs.Rings.{IsRound};
 use block_store::Width;
 use control_heap::histories_are_right;
 use graph_view::lives_add_up;
-use never_heap::Command;
-use rt_limit::live_grows;
+use never_heap::{Command, live_grows};
 
 /// A command that makes neither an object nor a unit is answered as the graph says, whatever is
 /// known of the heap's past, and as much is known afterwards.

@@ -20,6 +20,9 @@ mod ring;
 mod table;
 #[cfg(test)]
 mod tests;
+mod trend;
+#[cfg(test)]
+mod trend_tests;
 
 pub use alarms::{Alarm, AlarmList, NUMBERS, Raised, alarms_stand_once};
 pub use cells::Cells;
@@ -28,3 +31,4 @@ pub use map::{Insertion, Map, other_maps_stay};
 pub use queue::Queue;
 pub use records::{Records, few_blocks_live, other_records_stay};
 pub use ring::Ring;
+pub use trend::{Sample, Trend};

@@ -1,13 +1,15 @@
 //! The last numbers of a sequence, each in an object of its own.
 
-ghost use Rattle.std.specs.Prelude.{◌≡◌, ◌≢◌, ◌<◌, ◌≤◌, ◌+◌, ◌^◌, ◌++◌, ◌∷◌, ℕ, List, [], drop, length, IfOk, MatchResult};
+ghost use Rattle.std.specs.Prelude.{◌≡◌, ◌≢◌, ◌<◌, ◌≤◌, ◌+◌, ◌^◌, ◌++◌, ◌∷◌, ℕ, List, [], drop, length, IfOk, MatchResult, OnOk};
 ghost use Rattle.std.specs.List.{sum_by};
 ghost use Rattle.block_store.specs.declared.Name.{Name};
 ghost use Rattle.block_store.specs.declared.Value.TheVariants.{Int};
 ghost use Rattle.block_store.specs.declared.Width.{Width};
 ghost use Rattle.block_store.specs.Registers.{registers_end};
+ghost use Rattle.never_heap.specs.declared.Command.TheVariants.{Arr};
 ghost use Rattle.never_heap.specs.Graphs.{Graph, object_of};
 ghost use Rattle.never_heap.specs.LiveBlocks.{live_blocks, object_blocks};
+ghost use Rattle.control_heap.specs.Controls.{HasLeft};
 ghost use Rattle.heap_structures.specs.declared.records.Records.{Records};
 ghost use Rattle.heap_structures.specs.Cells.{HasPlace, IsNone, Spares};
 ghost use Rattle.heap_structures.specs.Circles.{last_of};
@@ -60,6 +62,7 @@ impl Records {
     /// heap's life has no room for four commands. The heap's graph is then unchanged.
     pub fn push(&mut self, heap: &mut ControlHeap, number: u32, d: u8) -> Result<(), Fault>
         ensures same { records_cells self.new ≡ records_cells self.old }
+        ensures left { OnOk result (HasLeft heap.old (Arr d 1)) }
         ensures shows { (s : Sight) (g : Graph) (ns : List ℕ)
             → Has s heap.old g → IsRecords g self.old ns → MayPush s heap.old.config g d
             → MatchResult result

@@ -1,7 +1,7 @@
 -- What is kept holds of the opening, and so after every list of turns.
 use Rattle.std.proofs.Common.{◌≡◌, ℕ, zero, suc, ◌+◌, ◌-◌, ◌*◌, ◌<◌, ◌≤◌, true, false, cond, List, [], ◌∷◌, ◌++◌, length, get_or, map, append-nil, refl, sym, ap, ◌∙◌, subst, arith, inl, inr, le-ltb}
 use Rattle.std.proofs.lemmas.Bool.{cases_lt}
-use Rattle.std.proofs.lemmas.List.{get_or_past}
+use Rattle.std.proofs.lemmas.List.{get_or_past, get_or_default}
 use Rattle.block_store.specs.declared.Config.{Config}
 use Rattle.block_store.specs.declared.PhaseWord.{PhaseWord}
 use Rattle.block_store.specs.Phases.{bit, inside_of, is_closed, is_sweep, cycle_of}
@@ -67,12 +67,17 @@ module _ (c : Config) (traces : List (List Command)) (job : IsJob c traces) (s :
       let e : 0 + t ≡ t = omega arith in
       ap (λ ls. get_or ls t (no_local c)) start.locals ∙ starts_at c start.rate start.space 0 t traces (no_local c) (omega (arith, tl, job.bounds.threads)) ∙ ap (λ u. at_start c start.rate (start.space u) u (get_or traces t [])) e
 
-  many : length s.locals ≡ c.threads
-  many = ap length start.locals ∙ length_starts c start.rate start.space 0 traces ∙ job.bounds.threads
+  -- the threads of the opening
+  pub start_count : length s.locals ≡ c.threads
+  start_count = ap length start.locals ∙ length_starts c start.rate start.space 0 traces ∙ job.bounds.threads
+
+  pub start_at : (i : ℕ) (d : LocalState) → i < length s.locals
+      → get_or s.locals i d ≡ at_start c start.rate (start.space i) i (get_or traces i [])
+  start_at i d low = get_or_default s.locals i d (no_local c) low ∙ here i (omega (arith, start_count))
 
   -- a thread that there is not is at nothing either
   away : (t : ℕ) → c.threads ≤ t → local_at c s t ≡ no_local c
-  away t out = get_or_past s.locals t (no_local c) (omega (arith, many, out))
+  away t out = get_or_past s.locals t (no_local c) (omega (arith, start_count, out))
 
   idle : tasks_in c s ≡ (λ t. no_task)
   idle = funext _ _ (λ t. elim (cases_lt t c.threads) [
@@ -133,7 +138,7 @@ module _ (c : Config) (traces : List (List Command)) (job : IsJob c traces) (s :
   pub opening_kept : Kept c traces (opened c s)
   opening_kept = record {
     long = start.count;
-    threads = many;
+    threads = start_count;
     gate = record {
       count = total_none c.threads _ (λ t tl. ap (λ (g : Gating). bit (is_inside g.stand)) (outside t tl)) ∙ sym first.none;
       closers = total_none c.threads _ (λ t tl. ap (λ (g : Gating). bit (is_closing g.stand)) (outside t tl)) ∙ sym (ap bit first.opened);

@@ -6,8 +6,7 @@ use Rattle.block_store.specs.declared.PhaseWord.{PhaseWord}
 use Rattle.never_heap.specs.declared.Reply.{Reply}
 use Rattle.never_heap.specs.declared.Reply.TheVariants as replies
 use Rattle.work_account.specs.Accounts.{Balance, IsSound, entered}
-use Rattle.work_account.proofs.Balances.{entered_sound, unit_sound, idle_sound, published_sound, refused_sound}
-use Rattle.cycle_tally.proofs.Sums.{paid_entered}
+use Rattle.work_account.proofs.Balances.{entered_sound, unit_sound, idle_sound, published_sound, refused_sound, paid_entered}
 use Rattle.heap_system.specs.Parts.{Part, Serve, Build}
 use Rattle.heap_system.specs.Locals.{balance_in, balance_made, balance_on, balance_over, balance_paid, spent_got, paid_part, idle_part, effect, IsAllMade}
 use Rattle.heap_system.proofs.SeenAndKept.{IsSettled}

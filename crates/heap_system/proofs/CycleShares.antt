@@ -13,17 +13,15 @@ use Rattle.never_heap.specs.Cycles.{before_start, after_start}
 use Rattle.never_heap.specs.Graphs.{Graph}
 use Rattle.never_heap.specs.Histories.{HistoryItem, Started, Did, part, starts_in}
 use Rattle.never_heap.specs.Steps.{blocks_of}
-use Rattle.never_heap.specs.Taken.{blocks_if_new}
-use Rattle.never_heap.proofs.CycleGrowth.{after_more}
+use Rattle.never_heap.proofs.CycleGrowth.{after_more, taken_none, after_nought}
 use Rattle.never_heap.proofs.HistoryGrowth.{part_append, starts_append}
 use Rattle.work_account.specs.Accounts.{Balance, entered}
-use Rattle.heap_machine.specs.Gating.{is_inside}
 use Rattle.heap_machine.specs.declared.pass.Pass.{Pass}
-use Rattle.heap_system.specs.Parts.{Part, Rest, Enter, Serve, Mark, Sweep, Build}
-use Rattle.heap_system.specs.Locals.{Verdict, Open, AsStep, Refused, effect, balance_in, balance_paid, entries_of}
-use Rattle.heap_system.specs.Machines.{entries_by, starts_by}
+use Rattle.heap_system.specs.Parts.{Part, Serve}
+use Rattle.heap_system.specs.Locals.{balance_in, balance_paid, entries_of}
+use Rattle.heap_system.specs.Machines.{starts_by}
 use Rattle.heap_system.specs.Naming.{Naming, Begun}
-use Rattle.heap_system.specs.Pictures.{stand_of, waiting}
+use Rattle.heap_system.specs.Pictures.{waiting}
 use Rattle.heap_system.specs.Shares.{blocks_given, given_in}
 use Rattle.heap_system.proofs.Balances.{units_over, made_cycle, made_units, made_given}
 use Rattle.heap_system.proofs.SeenAndKept.{PartKept}
@@ -118,31 +116,6 @@ given_grows w None false told t work k b = omega arith
 given_grows w (Some (replies.New a)) unit told t work k b = omega arith
 given_grows w (Some _) unit told t work k b = omega arith
 
--- a thread that makes a unit or has a reply is inside, and does not go in
-pub unit_inside : (c : Config) (p : Part) (w : ℕ) → (effect c p w).unit ≡ true
-    → is_inside (stand_of c p) ≡ true
-unit_inside c (Mark m) w e = refl
-unit_inside c (Sweep s) w e = refl
-unit_inside c _ w e = absurd cc
-
-pub reply_inside : (c : Config) (p : Part) (w : ℕ) (r : Reply) → (effect c p w).reply ≡ Some r
-    → is_inside (stand_of c p) ≡ true
-reply_inside c (Serve f) w r e = refl
-reply_inside c (Build b) w r e = refl
-reply_inside c _ w r e = absurd cc
-
-pub reply_no_unit : (c : Config) (p : Part) (w : ℕ) (r : Reply) → (effect c p w).reply ≡ Some r
-    → (effect c p w).unit ≡ false
-reply_no_unit c (Serve f) w r e = refl
-reply_no_unit c (Build b) w r e = refl
-reply_no_unit c _ w r e = absurd cc
-
-pub inside_is_in : (c : Config) (p : Part) (w : ℕ) → is_inside (stand_of c p) ≡ true
-    → (effect c p w).entered ≡ None
-inside_is_in c Rest w e = absurd cc
-inside_is_in c (Enter g) w e = absurd cc
-inside_is_in c _ w e = refl
-
 -- only a reply gives blocks
 pub reply_gives : (w : Width) (t work : ℕ) (k : Command) (o : Option Reply)
     → 0 < blocks_given w (entries_of t k work o) → (r : Reply) × (o ≡ Some r)
@@ -154,15 +127,10 @@ pub given_append : (w : Width) (es fs : List Entry)
 given_append w [] fs = omega arith
 given_append w (e ∷ es) fs = omega (arith, given_append w es fs)
 
--- a reply that is decided and not in the log is of a command that takes no blocks
-none_if_none : (r : Reply) (k : ℕ) → k ≡ 0 → blocks_if_new r k ≡ 0
-none_if_none (replies.New a) k e = e
-none_if_none _ k e = refl
-
 waits_none : (w : Width) (t work : ℕ) (k : Command) (o : Option Reply) → blocks_of w k ≡ 0
     → blocks_given w (entries_of t k work o) ≡ 0
 waits_none w t work k None e = refl
-waits_none w t work k (Some r) e = omega (arith, none_if_none r (blocks_of w k) e)
+waits_none w t work k (Some r) e = omega (arith, taken_none r (blocks_of w k) e)
 
 pub waiting_gives_none : (c : Config) (g now : Graph) (t : ℕ) (q : Pass) (k : Command) (p : Part)
     (work : ℕ) → PartKept c g t q k p
@@ -224,11 +192,6 @@ after_last z (Started ∷ h) l = elim (cases_eq z 1) [
 ]
 after_last z (Did e ∷ h) l = after_last z h l
 
-after_nought : (h : List HistoryItem) → after_start 0 h ≡ []
-after_nought [] = refl
-after_nought (Started ∷ h) = after_nought h
-after_nought (Did e ∷ h) = after_nought h
-
 after_late : (z : ℕ) (h es : List HistoryItem) (n : Naming) → starts_in h < z → starts_in es ≡ 0
     → after_start z (h ++ (es ++ starts_by n)) ≡ []
 after_late z h es n l none = by n
@@ -285,10 +248,3 @@ module _ (w : Width) (u : ℕ) (h es : List HistoryItem) (n : Naming) (none : st
       | inr some ↦ omega (arith, since_more z (omega arith) low, none_more)
     ]
   ]
-
--- an event adds no start before the one that it begins
-pub entries_start_none : (c : Config) (t : ℕ) (k : Command) (work : ℕ) (order : List HistoryItem) (v : Verdict)
-    → starts_in (entries_by c t k work order v) ≡ 0
-entries_start_none c t k work order Open = refl
-entries_start_none c t k work order AsStep = refl
-entries_start_none c t k work order (Refused r) = refl

@@ -30,11 +30,6 @@ use Rattle.heap_system.specs.Locals.{plain, pass_got, entries_of, task, unit_to_
 use Rattle.heap_system.specs.Pictures.{gating, holding, waiting}
 use Rattle.heap_system.proofs.SeenAndKept.{stage, stage_of, PartKept, Knows, IsSettled, lead, Seen, EventKept}
 
--- a word that counts one inside is not 0
-pub inside_low : (w : ℕ) → 1 ≤ inside_of w → 1 ≤ w
-unfolding inside_of
-inside_low w h = omega arith
-
 pub is_thread : (c : Config) → IsAdmitted c → c.threads ≤ 16 → (t : ℕ) → t < c.threads → IsThread c t
 is_thread c plan few t tl = record { few = few; thread = tl; registers = omega (arith, end_more c.width (t + 1) c.threads (omega arith), plan.opens, plan.room) }
 

@@ -22,7 +22,7 @@ use Rattle.block_store.specs.Phases.{bit}
 use Rattle.block_store.specs.Places.{Place, Phase, Cursor, FreeCount, GreyList, FreeList, ColourOf, OwnerOf, ShapeOf, PayloadOf, extent, in_range, is_block}
 use Rattle.block_store.specs.Registers.{root_block, registers_end, register_thread, register_ordinal}
 use Rattle.block_store.specs.Widths.{payloads}
-use Rattle.block_store.proofs.Registers.{arrays_small, one_root, ordinal_low, root_in, root_is, root_low, root_ordinal, root_some, thread_low}
+use Rattle.block_store.proofs.Registers.{arrays_small, one_root, ordinal_low, root_in, root_is, root_low, root_ordinal, root_some, thread_low, many}
 use Rattle.block_store.specs.Shapes.{shape_of, array_word, record_word}
 use Rattle.block_store.proofs.ColourWords.{link-grey, kind-zero, not_grey_white, not_grey_free, not_free_white, not_free_grey, grey_grey, colour-code, reads}
 use Rattle.block_store.proofs.WideWords.{read_wide}
@@ -33,7 +33,7 @@ use Rattle.object_lists.specs.Parts.{Part, Link, Field, Blank}
 use Rattle.array_trees.specs.Trees.{array_blocks}
 use Rattle.array_trees.specs.Levels.{array_part}
 use Rattle.array_trees.proofs.Arrays.{tree_layout}
-use Rattle.array_trees.proofs.Counts.{few_shared, many}
+use Rattle.array_trees.proofs.Counts.{few_shared}
 use Rattle.array_trees.proofs.RegisterArrays.{array_of}
 use Rattle.never_heap.specs.Graphs.{start_graph, shared_name, register_of}
 use Rattle.never_heap.proofs.StartGraph.{register_of_start}

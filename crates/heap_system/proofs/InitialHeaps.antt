@@ -1,6 +1,6 @@
 -- The opening keeps the rules on its blocks, and on its names.
-use Rattle.std.proofs.Common.{◌≡◌, ◌≢◌, ℕ, ◌+◌, ◌-◌, ◌<◌, ◌≤◌, ◌&&◌, Bool, true, false, cond, eqb, leb, ltb, leb-true, ne_eqb, lt-ltb, le-ltb, le-leb, [], ◌∷◌, refl, sym, ap, ◌∙◌, subst, arith, inl, inr, ◌⊎◌}
-use Rattle.std.proofs.lemmas.Bool.{cases_Bool, cases_lt, cases_eq, and_from}
+use Rattle.std.proofs.Common.{◌≡◌, ◌≢◌, ℕ, ◌+◌, ◌-◌, ◌<◌, ◌≤◌, ◌&&◌, Bool, true, false, cond, eqb, leb, ltb, ne_eqb, lt-ltb, le-ltb, le-leb, [], ◌∷◌, refl, sym, ap, ◌∙◌, subst, arith, inl, inr, ◌⊎◌}
+use Rattle.std.proofs.lemmas.Bool.{cases_Bool, cases_lt, cases_eq, and_from, lt-leb}
 use Rattle.block_store.specs.declared.Config.{Config}
 use Rattle.block_store.specs.Configs.{IsInBounds}
 use Rattle.block_store.specs.Colours.{is_grey, is_free, grey_word, white_word, black_word, free_word}
@@ -39,12 +39,6 @@ use Rattle.name_invariant.proofs.OpeningKept.{opening_is_kept}
 use Rattle.heap_system.specs.Naming.{opening_names}
 use Rattle.heap_system.specs.InitialHeaps.{is_root, opening_colour, opening_heap}
 use Rattle.heap_system.proofs.Grounds.{is_of_thread, is_the_root, block_in, payload_is, opening_taken, opening_grey}
-
-over : (x n : ℕ) → n < x → leb x n ≡ false
-over x n more = elim (cases_Bool (leb x n)) [
-  | inl e ↦ (let z : x ≤ n = leb-true x n e in absurd (omega arith))
-  | inr e ↦ e
-]
 
 no_claims : (x : ℕ) → bit (has_claimed no_claim x) ≡ 0
 no_claims x = by (leb 0 x) (ltb x 0) (le-ltb x 0 (omega arith))
@@ -101,7 +95,7 @@ module _ (c : Config) (bounds : IsInBounds c) (plan : IsAdmitted c) (h : Heap) (
 
   not_block : (x : ℕ) → (x ≡ 0) ⊎ (c.blocks < x) → is_block (extent c) x ≡ false
   not_block x (inl z) = ap (λ y. leb 1 y && leb y c.blocks) z
-  not_block x (inr out) = by (leb 1 x) (leb x c.blocks) (over x c.blocks out)
+  not_block x (inr out) = by (leb 1 x) (leb x c.blocks) (lt-leb x c.blocks out)
     where
       by : (a b : Bool) → b ≡ false → (a && b) ≡ false
       by true b e = e
@@ -110,8 +104,8 @@ module _ (c : Config) (bounds : IsInBounds c) (plan : IsAdmitted c) (h : Heap) (
   behind_colour : (x : ℕ) → opening_blocks c < x → x ≤ c.blocks → h (ColourOf x) ≡ free_word (cond (ltb x c.blocks) (x + 1) 0)
   behind_colour x behind high =
       in_heap x (omega arith) high
-      ∙ ap (λ b. cond (b && eqb (register_ordinal c.width x) 0) (grey_word 0) (cond (leb x (opening_blocks c)) (white_word 1) (free_word (cond (ltb x c.blocks) (x + 1) 0)))) (over x (registers_end c.width c.threads) (omega (arith, behind)))
-      ∙ ap (λ b. cond b (white_word 1) (free_word (cond (ltb x c.blocks) (x + 1) 0))) (over x (opening_blocks c) behind)
+      ∙ ap (λ b. cond (b && eqb (register_ordinal c.width x) 0) (grey_word 0) (cond (leb x (opening_blocks c)) (white_word 1) (free_word (cond (ltb x c.blocks) (x + 1) 0)))) (lt-leb x (registers_end c.width c.threads) (omega (arith, behind)))
+      ∙ ap (λ b. cond b (white_word 1) (free_word (cond (ltb x c.blocks) (x + 1) 0))) (lt-leb x (opening_blocks c) behind)
 
   roots_grey : (t : ℕ) → t < c.threads → h (ColourOf (root_block c.width t)) ≡ grey_word 0
   roots_grey t tl =

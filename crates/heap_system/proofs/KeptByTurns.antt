@@ -16,6 +16,7 @@ use Rattle.never_heap.specs.Graphs.{Graph}
 use Rattle.never_heap.specs.RightWork.{units_owed}
 use Rattle.never_heap.specs.Histories.{HistoryItem, replay}
 use Rattle.never_heap.proofs.GraphMoves.{get_or_set}
+use Rattle.never_heap.proofs.CommandBounds.{bounds_at}
 use Rattle.heap_machine.specs.Gating.{GateOf, is_closing}
 use Rattle.heap_machine.specs.Holdings.{Holding, sweep_held}
 use Rattle.heap_machine.specs.Operations.{heap_after, place_of, op_at, op_place, SumFits}
@@ -38,7 +39,7 @@ use Rattle.heap_system.proofs.OrderGrowth.{order_after, items_are, part_grows, p
 use Rattle.heap_system.proofs.Kept.{LocalKept, progress, Kept}
 use Rattle.heap_system.proofs.LocalAfterEvent.{moved_on, local_moves, local_stays}
 use Rattle.heap_system.proofs.PartLaws.{AtPart, PartEvent, PartLaws}
-use Rattle.heap_system.proofs.OwedAndPaid.{bounds_at, works_append, worked_low, paid_low, objects_next}
+use Rattle.heap_system.proofs.OwedAndPaid.{works_append, worked_low, paid_low, objects_next}
 use Rattle.heap_system.proofs.WantedPlaces.{place_at}
 use Rattle.heap_system.proofs.SeenAndKept.{lead, Seen, graph_decided}
 

@@ -44,3 +44,5 @@ pub mod OncePerCycle
 pub mod alone
 pub mod OrderKept
 pub mod LoggedTraces
+pub mod TraceSums
+pub mod Effects

@@ -1,6 +1,6 @@
 -- The work of an entry is the number of units that its own thread made for it.
 use Rattle.std.proofs.Common.{◌≡◌, ℕ, zero, suc, ◌+◌, ◌<◌, Bool, true, false, ◌&&◌, cond, eqb, eq-eqb, ne_eqb, lt-ltb, le-ltb, Option, Some, None, List, [], ◌∷◌, ◌++◌, length, get_or, append-nil, refl, sym, ap, ◌∙◌, subst, arith, inl, inr}
-use Rattle.std.proofs.lemmas.Bool.{cases_Bool, cases_eq, cases_lt}
+use Rattle.std.proofs.lemmas.Bool.{cases_Bool, cases_eq, cases_lt, cond-false, cond-true}
 use Rattle.block_store.specs.declared.Config.{Config}
 use Rattle.block_store.specs.Phases.{bit}
 use Rattle.never_heap.specs.declared.Command.{Command}
@@ -12,10 +12,10 @@ use Rattle.heap_system.specs.Machines.{Run, IsJob, IsRunOf, local_at, word_read,
 use Rattle.heap_system.specs.Units.{is_unit, is_unit_for, units_made_for, AreMadeFor}
 use Rattle.heap_system.proofs.Kept.{Kept}
 use Rattle.heap_system.proofs.LawsOf.{laws_of}
-use Rattle.heap_system.proofs.UnitsOfTurns.{idle_next, cond_no, cond_yes}
-use Rattle.heap_system.proofs.CycleShares.{reply_no_unit}
+use Rattle.heap_system.proofs.UnitsOfTurns.{idle_next}
 use Rattle.heap_system.proofs.KeptByTurns.{local_new, paid_new, word_is, word_here, new_run, next_is}
 use Rattle.heap_system.proofs.Always.{here, opening_kept, turn_kept}
+use Rattle.heap_system.proofs.Effects.{reply_no_unit}
 
 -- the work of entry k, what is paid behind the last entry, and nothing from there on
 abbrev work_for : List Entry → ℕ → ℕ → ℕ
@@ -107,14 +107,14 @@ module _ (c : Config) (traces : List (List Command)) (job : IsJob c traces) (r :
   own_made : made_for c u k after ≡ made_for c u k r + bit (makes_unit c me.part word && eqb (length me.log) k)
   own_made =
       let e = effect c me.part word in
-      let new = local_new c traces (laws_of c) job.bounds.config job.plan r kept u ul going u ∙ cond_yes _ _ _ (eq-eqb u u refl) in
+      let new = local_new c traces (laws_of c) job.bounds.config job.plan r kept u ul going u ∙ cond-true _ _ _ (eq-eqb u u refl) in
       ap (λ (l : LocalState). work_for l.log l.spent k) new
       ∙ ap (λ n. work_for (me.log ++ entries_of u (command_of me) me.spent e.reply) n k) (paid_new c traces (laws_of c) job.bounds.config job.plan r kept u ul)
       ∙ work_got me.log u (command_of me) me.spent e.reply e.unit (reply_no_unit c me.part word) k
 
   other_made : (t : ℕ) → (u ≡ t → ⊥) → made_for c t k after ≡ made_for c t k r
   other_made t n = ap (λ (l : LocalState). work_for l.log l.spent k)
-      (local_new c traces (laws_of c) job.bounds.config job.plan r kept u ul going t ∙ cond_no _ _ _ (ne_eqb u t n))
+      (local_new c traces (laws_of c) job.bounds.config job.plan r kept u ul going t ∙ cond-false _ _ _ (ne_eqb u t n))
 
   event_made : (t : ℕ) → made_for c t k (next c u r) ≡ made_for c t k r + adds c t k u r
   event_made t =

@@ -1,5 +1,5 @@
 -- How often each block is scanned and passed in each cycle of a run.
-use Rattle.std.proofs.Common.{◌≡◌, ℕ, suc, ◌+◌, ◌-◌, ◌<◌, ◌≤◌, Bool, true, false, not, ◌&&◌, cond, eqb, leb, ltb, is_some, eq-eqb, ne_eqb, lt-ltb, le-ltb, List, [], ◌∷◌, ◌++◌, refl, sym, ap, ◌∙◌, subst, arith, inl, inr}
+use Rattle.std.proofs.Common.{◌≡◌, ℕ, suc, ◌+◌, ◌-◌, ◌<◌, ◌≤◌, Bool, true, false, not, ◌&&◌, cond, eqb, leb, ltb, is_some, eq-eqb, ne_eqb, lt-ltb, le-ltb, List, [], ◌∷◌, refl, sym, ap, ◌∙◌, subst, arith, inl, inr}
 use Rattle.std.proofs.lemmas.Bool.{cases_Bool, cases_eq, cases_lt, and_right}
 use Rattle.block_store.specs.declared.Config.{Config}
 use Rattle.block_store.specs.Colours.{black_word}
@@ -11,9 +11,7 @@ use Rattle.block_store.proofs.Functions.{total_same}
 use Rattle.block_store.proofs.Indexes.{one_place}
 use Rattle.rate_plan.specs.Rates.{IsRate}
 use Rattle.never_heap.specs.declared.Command.{Command}
-use Rattle.never_heap.specs.Graphs.{Graph}
-use Rattle.never_heap.specs.Histories.{HistoryItem, replay, starts_in, work_in}
-use Rattle.never_heap.proofs.HistoryGrowth.{starts_append}
+use Rattle.never_heap.specs.Histories.{replay, starts_in, work_in}
 use Rattle.heap_machine.specs.Holdings.{sweep_held}
 use Rattle.heap_machine.specs.Operations.{Operation, Load, Exchange, CompareExchange, FetchAdd, FetchSub, place_of, heap_after}
 use Rattle.heap_machine.specs.Sweeping.{claims}
@@ -32,7 +30,7 @@ use Rattle.cycle_tally.proofs.Laws.{bound_of}
 use Rattle.heap_system.specs.Parts.{Part, Mark, Sweep, Build, PhaseChange}
 use Rattle.heap_system.specs.Costs.{units_so_far}
 use Rattle.heap_system.specs.Cycles.{is_at_block, scans_block, passes_block, times_that, is_behind}
-use Rattle.heap_system.specs.Locals.{Verdict, Open, AsStep, Refused, effect, part_want, command_of, is_done}
+use Rattle.heap_system.specs.Locals.{effect, part_want, command_of, is_done}
 use Rattle.heap_system.specs.Machines.{State, Run, local_at, local_in, heap_in, word_read, has_event, next, after_turns, opened, starts_by, IsJob, IsOpening, IsRunOf}
 use Rattle.heap_system.specs.Naming.{Begun, Made, Same}
 use Rattle.heap_system.specs.Pictures.{holding, holdings_in}
@@ -41,7 +39,7 @@ use Rattle.heap_system.proofs.Always.{opening_kept, turn_kept, run_kept}
 use Rattle.heap_system.proofs.Kept.{Kept}
 use Rattle.heap_system.proofs.UnitsOfTurns.{idle_next}
 use Rattle.heap_system.proofs.PartLaws.{AtPart, PartLaws, word_at}
-use Rattle.heap_system.proofs.SeenAndKept.{Seen, items_told}
+use Rattle.heap_system.proofs.SeenAndKept.{Seen}
 use Rattle.heap_system.proofs.CycleCounts.{IsTaken, taken_of, same_taken, turn_taken}
 use Rattle.heap_system.proofs.RunTally.{RunTallied, opening_tallied, counted, after, event_tallied, spent_is}
 use Rattle.heap_system.proofs.TallyLaw.{TallyLaw, Counted, scans_at, passes_at}
@@ -49,6 +47,7 @@ use Rattle.heap_system.proofs.KeptByTurns.{seen, at_part, effect_here, new_run, 
 use Rattle.heap_system.proofs.parts.ClosedGate.{in_phase, behind_last}
 use Rattle.heap_system.proofs.parts.InPass.{pass_is, grey_or_black}
 use Rattle.heap_system.proofs.tallies.PhaseChange.{empty}
+use Rattle.heap_system.proofs.OrderGrowth.{starts_after}
 
 -- what is one or none is so where nothing else makes it one
 exactly : (n k : ℕ) (b : Bool) → n + k ≡ bit b → n ≡ bit (b && eqb k 0)
@@ -123,15 +122,6 @@ module _ (c : Config) (rate : ℕ) (s : Seen c) where
   swept_at (PhaseChange g) at before k e = swept_row g at before k e
   swept_at (Build b) at before k e = absurd (never_begun (is_publishing b.row) _ e)
   swept_at _ at before k e = absurd cc
-
--- how many starts an event adds to the order
-told_starts : (g : Graph) (t : ℕ) (k : Command) (work : ℕ) (v : Verdict) → starts_in (items_told g t k work v) ≡ 0
-told_starts g t k work Open = refl
-told_starts g t k work AsStep = refl
-told_starts g t k work (Refused r) = refl
-
-starts_after : (g : Graph) (t : ℕ) (k : Command) (work : ℕ) (v : Verdict) (order starts : List HistoryItem) → starts_in (order ++ (items_told g t k work v ++ starts)) ≡ starts_in order + starts_in starts
-starts_after g t k work v order starts = omega (arith, starts_append order (items_told g t k work v ++ starts), starts_append (items_told g t k work v) starts, told_starts g t k work v)
 
 -- A tally of a run, and the counts of its turns.
 pub record RunTaken (c : Config) (rate : ℕ) (r : Run) (scans passed : ℕ → ℕ → ℕ) : Type 0 where

@@ -9,16 +9,17 @@ use Rattle.block_store.specs.declared.Width.{Width}
 use Rattle.block_store.specs.declared.Width.TheVariants.{Four, Eight}
 use Rattle.block_store.specs.Registers.{root_block, registers_end}
 use Rattle.block_store.specs.Widths.{payloads}
-use Rattle.block_store.proofs.Registers.{end_few}
+use Rattle.block_store.proofs.Registers.{end_few, many}
 use Rattle.block_store.specs.Heaps.{heap_of}
 use Rattle.block_store.specs.Payloads.{reference_word}
 use Rattle.block_store.specs.Places.{Place, extent, in_range, index, place_at, words_count}
 use Rattle.block_store.proofs.Indexes.{back, below}
 use Rattle.object_lists.specs.Parts.{Part, Link, Field, Blank, link_in}
+use Rattle.object_lists.proofs.Parts.{is_link}
 use Rattle.array_trees.specs.Trees.{tree, array_blocks}
 use Rattle.array_trees.specs.Levels.{array_part, array_slot, tree_depth}
 use Rattle.array_trees.proofs.Arrays.{tree_layout}
-use Rattle.array_trees.proofs.Counts.{few_shared, many}
+use Rattle.array_trees.proofs.Counts.{few_shared}
 use Rattle.never_heap.specs.Graphs.{start_graph, shared_name, register_of}
 use Rattle.never_heap.proofs.StartGraph.{register_of_start}
 use Rattle.graph_relation.specs.Words.{value_word, part_word}
@@ -27,14 +28,9 @@ use Rattle.graph_relation.specs.InitialHeaps.{opening_at, shared_block, register
 use Rattle.array_trees.specs.InitialHeaps.{opening_blocks}
 use Rattle.heap_system.specs.InitialHeaps.{opening_heap}
 
-linked_part : (p : Part) (q : ℕ) → link_in p ≡ Some q → p ≡ Link q
-linked_part (Link o) q e = ap Link cc
-linked_part (Field i) q e = cc
-linked_part Blank q e = cc
-
 -- a link goes to an ordinal of the array
 pub link_low : (w : Width) (e o j p : ℕ) → link_in (array_part w e o j) ≡ Some p → p < array_blocks w e
-link_low w e o j p is = ((tree_layout (payloads w) e (many w)).onward o j p (linked_part (array_part w e o j) p is)).2
+link_low w e o j p is = ((tree_layout (payloads w) e (many w)).onward o j p (is_link (array_part w e o j) p is)).2
 
 -- the opening has at most 421 blocks that are not Free
 pub last_low : (c : Config) → IsInBounds c → opening_blocks c ≤ 421

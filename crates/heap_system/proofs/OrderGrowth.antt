@@ -1,5 +1,5 @@
 -- What an event adds to the order, and what it leaves of other threads.
-use Rattle.std.proofs.Common.{zero, suc, ◌≡◌, ℕ, ◌+◌, ◌<◌, cond, eq-eqb, ne_eqb, List, [], ◌∷◌, ◌++◌, length, get_or, append-nil, length-append, set, refl, sym, ap, ◌∙◌, arith, map, take}
+use Rattle.std.proofs.Common.{zero, suc, ◌≡◌, ℕ, ◌+◌, ◌<◌, cond, eq-eqb, ne_eqb, List, [], ◌∷◌, ◌++◌, length, get_or, append-nil, length-append, set, refl, sym, ap, ◌∙◌, arith, map, take, ◌-◌}
 use Rattle.std.proofs.Math.Seq.{take-suc}
 use Rattle.std.proofs.lemmas.List.{map-append}
 use Rattle.block_store.specs.declared.Config.{Config}
@@ -8,10 +8,10 @@ use Rattle.never_heap.specs.declared.Command.{Command}
 use Rattle.never_heap.specs.declared.Command.TheVariants as commands
 use Rattle.never_heap.specs.declared.Entry.{Entry}
 use Rattle.never_heap.specs.Graphs.{Graph, register_of, count_of}
-use Rattle.never_heap.specs.Histories.{HistoryItem, replay, part, work_in}
+use Rattle.never_heap.specs.Histories.{HistoryItem, replay, part, work_in, starts_in}
 use Rattle.never_heap.specs.RightWork.{units_owed}
 use Rattle.never_heap.specs.Steps.{step}
-use Rattle.never_heap.proofs.HistoryGrowth.{part_append, work_append}
+use Rattle.never_heap.proofs.HistoryGrowth.{part_append, work_append, starts_append}
 use Rattle.never_heap.proofs.UnchangedBySteps.{step_counts, step_register}
 use Rattle.heap_system.specs.Locals.{LocalState, Verdict, Open, AsStep, Refused, entry_of, works}
 use Rattle.heap_system.specs.Machines.{entries_by, starts_by}
@@ -106,3 +106,19 @@ right_more w rate [] g t k work Open is all = tt
 right_more w rate [] g t k work AsStep is all = (all tt, tt)
 right_more w rate [] g t k work (Refused r) is all = (all tt, tt)
 right_more w rate (x ∷ es) g t k work v is all = (is.0, right_more w rate es g t k work v is.1 all)
+
+-- how many starts an event adds to the order
+pub told_starts : (g : Graph) (t : ℕ) (k : Command) (work : ℕ) (v : Verdict) → starts_in (items_told g t k work v) ≡ 0
+told_starts g t k work Open = refl
+told_starts g t k work AsStep = refl
+told_starts g t k work (Refused r) = refl
+
+pub starts_after : (g : Graph) (t : ℕ) (k : Command) (work : ℕ) (v : Verdict) (order starts : List HistoryItem) → starts_in (order ++ (items_told g t k work v ++ starts)) ≡ starts_in order + starts_in starts
+starts_after g t k work v order starts = omega (arith, starts_append order (items_told g t k work v ++ starts), starts_append (items_told g t k work v) starts, told_starts g t k work v)
+
+-- an event adds no start before the one that it begins
+pub entries_start_none : (c : Config) (t : ℕ) (k : Command) (work : ℕ) (order : List HistoryItem) (v : Verdict)
+    → starts_in (entries_by c t k work order v) ≡ 0
+entries_start_none c t k work order Open = refl
+entries_start_none c t k work order AsStep = refl
+entries_start_none c t k work order (Refused r) = refl

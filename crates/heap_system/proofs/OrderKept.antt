@@ -9,6 +9,7 @@ use Rattle.block_store.specs.Counts.{changed, total}
 use Rattle.block_store.specs.Phases.{bit, cycle_of}
 use Rattle.block_store.specs.Places.{Phase, extent, words_count}
 use Rattle.block_store.proofs.Functions.{bit_le, total_changed, total_same, total_none}
+use Rattle.block_store.proofs.Totals.{total_below, total_plus}
 use Rattle.never_heap.specs.declared.Command.{Command}
 use Rattle.never_heap.specs.declared.Item.{Item}
 use Rattle.never_heap.specs.declared.Item.TheVariants as items
@@ -19,8 +20,6 @@ use Rattle.never_heap.proofs.HistoryGrowth.{starts_append}
 use Rattle.barrier_steps.specs.Rows.{field_decided}
 use Rattle.barrier_steps.proofs.Dues.{none_due, some_due}
 use Rattle.cycle_tally.specs.Entries.{InThreads}
-use Rattle.cycle_tally.proofs.BlockLists.{total_plus}
-use Rattle.cycle_tally.proofs.Sums.{total_below}
 use Rattle.heap_machine.specs.Readings.{CanHold}
 use Rattle.heap_machine.specs.declared.pass.Pass.{Pass}
 use Rattle.heap_system.specs.Parts.{Part, Serve}
@@ -36,7 +35,7 @@ use Rattle.heap_system.specs.Units.{made_by}
 use Rattle.heap_system.proofs.Always.{here, run_kept, turn_kept}
 use Rattle.heap_system.proofs.RunBounds.{in_threads, least, by_thread}
 use Rattle.heap_system.proofs.FinishedRun.{all_done, done_run, logged_all}
-use Rattle.heap_system.proofs.OrderGrowth.{part_grows}
+use Rattle.heap_system.proofs.OrderGrowth.{part_grows, entries_start_none}
 use Rattle.heap_system.proofs.Kept.{Kept}
 use Rattle.heap_system.proofs.LawsOf.{laws_of}
 use Rattle.heap_system.proofs.UnitsOfTurns.{turn_makes}
@@ -69,17 +68,12 @@ pub start_by : (n : Naming) (a b : ℕ) → b ≡ a + length (start_item n) → 
 start_by Begun a b e = rw (lt-ltb a b (omega (arith, e))) refl
 start_by _ a b e = rw (le-ltb a b (omega (arith, e))) refl
 
-entries_start_nothing : (c : Config) (t : ℕ) (k : Command) (w : ℕ) (order : List HistoryItem) (v : Verdict) → starts_in (entries_by c t k w order v) ≡ 0
-entries_start_nothing c t k w order Open = refl
-entries_start_nothing c t k w order AsStep = refl
-entries_start_nothing c t k w order (Refused r) = refl
-
 starts_long : (n : Naming) → starts_in (starts_by n) ≡ length (start_item n)
 starts_long Begun = refl
 starts_long _ = refl
 
 starts_grow : (c : Config) (t : ℕ) (k : Command) (w : ℕ) (order : List HistoryItem) (v : Verdict) (n : Naming) → starts_in (order ++ (entries_by c t k w order v ++ starts_by n)) ≡ starts_in order + length (start_item n)
-starts_grow c t k w order v n = omega (arith, starts_append order (entries_by c t k w order v ++ starts_by n), starts_append (entries_by c t k w order v) (starts_by n), entries_start_nothing c t k w order v, starts_long n)
+starts_grow c t k w order v n = omega (arith, starts_append order (entries_by c t k w order v ++ starts_by n), starts_append (entries_by c t k w order v) (starts_by n), entries_start_none c t k w order v, starts_long n)
 
 -- the items of an order are its starts and its parts
 order_long : (n : ℕ) (h : List HistoryItem) → InThreads n h → length h ≡ total n (λ t. length (part t h)) + starts_in h

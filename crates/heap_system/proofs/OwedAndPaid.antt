@@ -1,23 +1,19 @@
 -- What a thread owes and has paid, and the ranges of the parts that it comes to.
-use Rattle.std.proofs.Common.{◌≡◌, ℕ, zero, suc, ◌+◌, ◌-◌, ◌*◌, ◌<◌, ◌≤◌, ◌^◌, Bool, true, false, cond, ltb, eqb, refl, sym, ap, ◌∙◌, subst, arith, List, [], ◌∷◌, ◌++◌, length, length-append, get_or, set, take, Some, inl, inr, mul_comm, ◌⊎◌, ne_eqb}
-use Rattle.std.proofs.lemmas.Bool.{cases_eq, cases_lt}
-use Rattle.std.proofs.lemmas.List.{get_or_past}
+use Rattle.std.proofs.Common.{◌≡◌, ℕ, zero, suc, ◌+◌, ◌-◌, ◌*◌, ◌<◌, ◌≤◌, ◌^◌, Bool, true, false, cond, ltb, eqb, refl, sym, ap, ◌∙◌, subst, arith, List, [], ◌∷◌, ◌++◌, length, length-append, get_or, set, take, Some, inl, inr, mul_comm, ◌⊎◌, ne_eqb, Option, None}
+use Rattle.std.proofs.lemmas.Bool.{cases_eq}
 use Rattle.std.proofs.Math.Nat.{mul-le-mul_right}
 use Rattle.block_store.specs.declared.Config.{Config}
 use Rattle.block_store.specs.declared.PhaseWord.{PhaseWord}
 use Rattle.block_store.specs.declared.Width.{Width}
-use Rattle.block_store.specs.Configs.{IsInBounds}
 use Rattle.block_store.specs.Phases.{bit}
-use Rattle.block_store.specs.Registers.{registers_end, root_block}
+use Rattle.block_store.specs.Registers.{root_block}
 use Rattle.block_store.proofs.Registers.{end_more}
-use Rattle.rate_plan.specs.Rates.{IsRate, IsAdmitted}
-use Rattle.rate_plan.proofs.Plans.{small}
+use Rattle.rate_plan.proofs.Rates.{rate_low, opening_room}
 use Rattle.never_heap.specs.declared.Command.{Command}
 use Rattle.never_heap.specs.declared.Command.TheVariants as commands
 use Rattle.never_heap.specs.declared.Entry.{Entry}
 use Rattle.never_heap.specs.declared.Reply.{Reply}
 use Rattle.never_heap.specs.declared.Reply.TheVariants as replies
-use Rattle.std.specs.List.{AllByRecursion}
 use Rattle.std.proofs.lemmas.List.Elements.{All-from_recursion}
 use Rattle.never_heap.specs.Bounds.{IsCommandInBounds}
 use Rattle.never_heap.specs.RightWork.{units_told, units_owed}
@@ -25,6 +21,7 @@ use Rattle.cycle_tally.specs.Kept.{most_work}
 use Rattle.never_heap.specs.Steps.{blocks_of}
 use Rattle.never_heap.proofs.StepAnswers.{blocks_make}
 use Rattle.never_heap.proofs.CommandBounds as ranges
+use Rattle.never_heap.proofs.CommandBounds.{blocks_low, told_low, bounds_at}
 use Rattle.heap_machine.specs.Gates.{gate_got, closed_by, is_going_in, is_of_pass, is_empty, GateFits, GateAt}
 use Rattle.heap_machine.proofs.GateRows.{gate_fits}
 use Rattle.heap_machine.specs.Passes.{IsPass}
@@ -48,9 +45,8 @@ use Rattle.heap_system.specs.declared.local.Local.TheInside.{Inside}
 use Rattle.heap_system.specs.Parts.{part_at, Part, Rest, Enter, Serve, Mark, Sweep, Build, PhaseChange, Leave}
 use Rattle.heap_system.specs.Machines.{IsJob}
 use Rattle.heap_system.specs.Lives.{IsLife, sum_after, objects_of, most_units, most_objects}
-use Rattle.heap_system.specs.Locals.{LocalState, command_behind, IsLocal, PartFits, PartReads, IsRoomy, IsAllMade, errand_of, answered, command_of, owed, pass_by, is_last, is_rest, unit_to_come, works, entry_of, made_got, balance_over, paid_part, begun}
-use Rattle.work_account.proofs.Balances.{entered_sound}
-use Rattle.cycle_tally.proofs.Sums.{paid_entered}
+use Rattle.heap_system.specs.Locals.{LocalState, command_behind, IsLocal, PartFits, PartReads, IsRoomy, IsAllMade, errand_of, answered, command_of, owed, pass_by, is_last, is_rest, unit_to_come, works, entry_of, made_got, balance_over, paid_part, begun, spent_got, entries_of}
+use Rattle.work_account.proofs.Balances.{entered_sound, paid_entered}
 use Rattle.heap_system.proofs.Balances.{none_spent, units_entered, paid_over, all_paid, units_over, sound_over}
 
 -- the part at which a thread is, and what is seen of it
@@ -59,14 +55,6 @@ part_of l = part_at l.config l.pass l.field l.gate l.builder l.row
 
 abbrev pub view_of : Inside → LocalState
 view_of l = record { config = l.config; rate = l.rate; thread = l.thread; before = l.before; trace = l.trace.items; log = l.log.items; balance = l.account.balance; spent = l.spent; made = l.made; space = l.builder.capacity; pass = l.pass; part = part_of l }
-
--- an object takes no more blocks than one object may
-pub blocks_low : (c : Config) (k : Command) → IsCommandInBounds c k → blocks_of c.width k ≤ c.object
-blocks_low c k h = h.blocks
-
--- it has blocks or is told of units, and not both, and of few
-pub told_low : (c : Config) (k : Command) → IsCommandInBounds c k → units_told k ≤ 131070
-told_low c k h = h.units
 
 pub told_apart : (w : Width) (k : Command) → (units_told k ≡ 0) ⊎ (blocks_of w k ≡ 0)
 told_apart w (commands.Idle u) = inr refl
@@ -96,16 +84,6 @@ objects_next l = sum_next objects_of l.trace (length l.log) refl
 -- the trace of a thread of a job
 pub each_at : (c : Config) (traces : List (List Command)) → IsJob c traces → (t : ℕ) → t < c.threads → IsLife c (get_or traces t [])
 each_at c traces job t tl = All-from_recursion (IsLife c) traces job.bounds.each t [] (omega (arith, job.bounds.threads))
-
--- the command at any place of a trace is in bounds, and so is what stands for none
-pub bounds_at : (c : Config) (ks : List Command) (i : ℕ) → AllByRecursion (IsCommandInBounds c) ks → IsCommandInBounds c (get_or ks i (commands.Nil 0))
-bounds_at c ks i all = elim (cases_lt i (length ks)) [
-  | inl low ↦ All-from_recursion (IsCommandInBounds c) ks all i (commands.Nil 0) low
-  | inr out ↦ subst (λ k. IsCommandInBounds c k) (sym (get_or_past ks i (commands.Nil 0) out)) (record { range = omega arith; blocks = omega arith; units = omega arith; version = tt })
-]
-
-pub rate_low : (c : Config) (rate : ℕ) → IsInBounds c → IsAdmitted c → IsRate c rate → rate ≤ 131070
-rate_low c rate bounds plan is = let s = small c rate plan is in omega (arith, bounds.blocks)
 
 -- the price of its blocks is at most that of the largest object
 pub price_low : (l : LocalState) → IsLocal l → l.rate * blocks_of l.config.width (command_of l) ≤ l.rate * l.config.object
@@ -139,9 +117,6 @@ units_low l k =
     let low : l.rate ≤ 131070 = rate_low l.config l.rate k.bounds k.plan k.rate in
     let a : l.rate * l.config.object ≤ 131070 * l.config.object = mul-le-mul_right l.config.object low in
     omega (arith, k.bounds.object)
-
-pub opening_room : (c : Config) → IsAdmitted c → registers_end c.width c.threads ≤ c.blocks
-opening_room c plan = omega (arith, plan.opens, plan.room)
 
 pub thread_is : (l : LocalState) → IsLocal l → IsThread l.config l.thread
 thread_is l k = record { few = k.bounds.threads; thread = k.thread; registers = omega (arith, opening_room l.config k.plan, end_more l.config.width (l.thread + 1) l.config.threads (omega (arith, k.thread))) }
@@ -386,3 +361,8 @@ next_price l log e price same is =
 
 pub begun_long : (xs : List Command) (k : Command) (n : ℕ) → length xs ≡ 1 → length xs ≤ n → length (set xs 0 k) ≤ n
 begun_long xs k n one low = let e : length (set xs 0 k) ≡ 1 = ap length (one_set xs k one) in omega arith
+
+-- what is paid goes into the entry, or stays spent
+pub replied_sum : (t : ℕ) (k : Command) (paid : ℕ) (o : Option Reply) → works (entries_of t k paid o) + spent_got o false paid ≡ paid + 0
+replied_sum t k paid None = omega arith
+replied_sum t k paid (Some r) = omega arith

@@ -23,6 +23,7 @@ use Rattle.barrier_steps.specs.Rows.{field_reply, field_got}
 use Rattle.grey_steps.specs.Rows.{grey_got, grey_over, grey_nothing}
 use Rattle.sweep_steps.specs.Rows.{sweep_got, sweep_over, sweep_nothing}
 use Rattle.build_steps.specs.Rows.{BuildState, build_got, build_reply}
+use Rattle.rate_plan.proofs.Rates.{one_rate}
 use Rattle.heap_system.specs.Parts.{Part, Rest, Enter, Serve, Mark, Sweep, Build, Retry, ToChange, PhaseChange, Leave}
 use Rattle.build_steps.specs.declared.rows.BuildRow.{BuildRow}
 use Rattle.never_heap.specs.RightWork.{units_told}
@@ -33,7 +34,6 @@ use Rattle.heap_system.specs.Systems.{logs_of}
 use Rattle.name_invariant.specs.Pictures.{Names}
 use Rattle.never_heap.specs.Histories.{HistoryItem, Started, replay}
 use Rattle.heap_system.specs.Rooms.{part_without_room, without_room, threads_without_room}
-use Rattle.heap_system.proofs.SystemStart.{one_rate}
 
 -- ---- the place that an index has
 

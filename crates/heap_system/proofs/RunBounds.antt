@@ -5,6 +5,7 @@ use Rattle.block_store.specs.declared.Config.{Config}
 use Rattle.block_store.specs.Colours.{black_word}
 use Rattle.block_store.specs.Counts.{changed, total}
 use Rattle.block_store.proofs.Functions.{total_changed, total_none, total_same}
+use Rattle.block_store.proofs.Totals.{total_plus}
 use Rattle.rate_plan.specs.Rates.{IsRate}
 use Rattle.never_heap.specs.declared.Command.{Command}
 use Rattle.never_heap.specs.Given.{given}
@@ -17,7 +18,6 @@ use Rattle.cycle_tally.specs.Entries.{InThreads}
 use Rattle.cycle_tally.specs.Kept.{most_given}
 use Rattle.cycle_tally.specs.Tallies.{units, made_now}
 use Rattle.cycle_tally.proofs.Laws.{bound_of}
-use Rattle.cycle_tally.proofs.BlockLists.{total_plus}
 use Rattle.cycle_tally.proofs.CountBounds.{counts_small}
 use Rattle.heap_system.specs.Parts.{Part}
 use Rattle.heap_system.specs.Costs.{units_so_far}

@@ -11,6 +11,7 @@ use Rattle.never_heap.specs.Steps.{blocks_of}
 use Rattle.never_heap.proofs.StepAnswers.{owes_told}
 use Rattle.build_steps.proofs.Parts.{has_blocks}
 use Rattle.rate_plan.specs.Rates.{IsRate}
+use Rattle.rate_plan.proofs.Rates.{one_rate}
 use Rattle.heap_machine.specs.Holdings.{holds_nothing}
 use Rattle.barrier_steps.specs.Rows.{FieldState, field_decided}
 use Rattle.barrier_steps.proofs.Dues.{none_due, some_due}
@@ -23,13 +24,14 @@ use Rattle.heap_system.proofs.Balances.{none_spent, all_paid}
 use Rattle.heap_system.proofs.OwedAndPaid.{price_paid}
 use Rattle.heap_system.proofs.IdleLook.{decided_untold}
 use Rattle.heap_system.specs.Locals.{PartFits, task, is_rest, command_of, owed, paid_part, entry_of, entries_of}
-use Rattle.heap_system.specs.Machines.{Run, local_at}
+use Rattle.heap_system.specs.Machines.{Run, local_at, IsAfterTurns}
 use Rattle.heap_system.specs.Units.{IsRight}
 use Rattle.heap_system.specs.Pictures.{holding, waiting}
 use Rattle.heap_system.proofs.Kept.{Kept}
 use Rattle.heap_system.proofs.TurnFacts.{rest_is}
 use Rattle.heap_system.proofs.SeenAndKept.{PartKept, RowKept, BuildKept, IsSettled}
-use Rattle.heap_system.proofs.SystemStart.{one_rate}
+use Rattle.heap_system.proofs.Always.{run_kept}
+use Rattle.heap_system.proofs.LawsOf.{laws_of}
 
 -- what is paid for a command of which so many units are made: all of them, but for an idle
 paid_but_idle : (w : Width) (rate : ℕ) (k : Command) (spent paid : ℕ) → paid ≡ paid_part (units_told k) spent
@@ -130,3 +132,7 @@ module _ (c : Config) (traces : List (List Command)) (r : Run) (k : Kept c trace
 
   pub entries_right : (rate : ℕ) → IsRate c rate → IsRight c.width rate (part t r.order)
   entries_right rate is = subst (λ n. IsRight c.width n (part t r.order)) (one_rate c (local_at c r.state t).rate rate rate_is is) (k.locals t tl).right
+
+-- what is kept of a run that some list of turns makes
+pub kept_of : (c : Config) (r : Run) (is : IsAfterTurns c r) → Kept c is.traces r
+kept_of c r is = run_kept c is.traces (laws_of c) is.job is.turns r is.by_turns

@@ -9,6 +9,7 @@ use Rattle.block_store.specs.Phases.{is_sweep, cycle_of}
 use Rattle.block_store.specs.Places.{Phase, Cursor, FreeCount, ColourOf}
 use Rattle.block_store.proofs.PhaseWords.{sweep-code, cycle-code}
 use Rattle.rate_plan.specs.Rates.{IsRate}
+use Rattle.rate_plan.proofs.Rates.{one_rate}
 use Rattle.never_heap.specs.declared.Command.{Command}
 use Rattle.never_heap.specs.declared.Command.TheVariants as commands
 use Rattle.never_heap.specs.declared.Reply.{Reply}
@@ -17,6 +18,7 @@ use Rattle.never_heap.specs.Histories.{replay}
 use Rattle.never_heap.specs.RightWork.{units_told}
 use Rattle.never_heap.specs.Steps.{blocks_of}
 use Rattle.never_heap.proofs.OpeningLiveBlocks.{opening_live}
+use Rattle.never_heap.proofs.CommandBounds.{blocks_low, told_low, bounds_at}
 use Rattle.work_account.specs.Accounts as accounts
 use Rattle.cycle_tally.specs.Kept.{TallyKept}
 use Rattle.cycle_tally.specs.InitialHeaps.{opening_tally}
@@ -33,9 +35,8 @@ use Rattle.heap_system.proofs.Always.{here, opening_kept, turn_kept}
 use Rattle.heap_system.proofs.OrderGrowth.{items_are}
 use Rattle.heap_system.proofs.Kept.{Kept}
 use Rattle.heap_system.proofs.PartLaws.{PartLaws}
-use Rattle.heap_system.proofs.OwedAndPaid.{bounds_at, blocks_low, told_low, told_apart}
+use Rattle.heap_system.proofs.OwedAndPaid.{told_apart}
 use Rattle.heap_system.proofs.Balances.{none_idled, both_parts}
-use Rattle.heap_system.proofs.SystemStart.{one_rate}
 use Rattle.heap_system.proofs.TallyLaw.{Asking, asking, IsNext, IsSpending, IsTallyOf, TallyLaw, TallyEvent, Counted, asked_got}
 use Rattle.heap_system.proofs.KeptByTurns.{seen, at_part, new_run, new_heap, new_local, effect_here, heap_new, local_new, next_is}
 

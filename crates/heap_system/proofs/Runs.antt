@@ -214,3 +214,12 @@ module _ {M S : Type 0} (may : M → S → Op → Type 0) {acts : Acts M S} {s :
         subst (MayRun may acts (most - (made + 1)) after s) (sym got.0) (lead.on w after acted),
         more.1 ∙ ap (λ n. n + 1) long,
       )
+
+-- two courses of a memory, one behind the other
+pub ran_on : {M S : Type 0} (acts : Acts M S) (s : S) (m : M) (l : LocalState) (ws : List ℕ) (n : M)
+    (k : LocalState) (vs : List ℕ) (o : M) (j : LocalState)
+    → Ran acts s m l ws n k → Ran acts s n k vs o j → Ran acts s m l (ws ++ vs) o j
+ran_on acts s m l [] n k vs o j ran rest =
+    subst (λ x. Ran acts s x l vs o j) (sym ran.0) (subst (λ y. Ran acts s n y vs o j) (sym ran.1) rest)
+ran_on acts s m l (w ∷ ws) n k vs o j ran rest =
+    (ran.0, ran.1, ran.2, ran_on acts s ran.0 (local_got l w) ws n k vs o j ran.3 rest, ran.4)

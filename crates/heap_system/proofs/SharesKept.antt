@@ -1,6 +1,6 @@
 -- Every list of turns keeps each thread's share of the cycle that it entered last.
 use Rattle.std.proofs.Common.{◌≡◌, ℕ, ◌+◌, ◌<◌, Bool, true, false, ◌&&◌, cond, eqb, eq-eqb, ne_eqb, lt-ltb, le-ltb, List, [], ◌∷◌, ◌++◌, append-nil, refl, sym, ap, ◌∙◌, subst, arith, inl, inr}
-use Rattle.std.proofs.lemmas.Bool.{cases_Bool, cases_eq, cases_lt}
+use Rattle.std.proofs.lemmas.Bool.{cases_Bool, cases_eq, cases_lt, cond-false, cond-true}
 use Rattle.block_store.specs.declared.Config.{Config}
 use Rattle.block_store.specs.Phases.{bit, cycle_of}
 use Rattle.block_store.specs.Places.{Phase}
@@ -20,15 +20,16 @@ use Rattle.heap_system.specs.Pictures.{stand_of, waiting}
 use Rattle.heap_system.specs.Shares.{is_unit_in, blocks_given}
 use Rattle.heap_system.specs.Units.{is_unit, turns_that}
 use Rattle.heap_system.proofs.Always.{here, opening_kept, turn_kept}
-use Rattle.heap_system.proofs.OrderGrowth.{part_starts, entries_told, entries_away}
+use Rattle.heap_system.proofs.OrderGrowth.{part_starts, entries_told, entries_away, entries_start_none}
 use Rattle.heap_system.proofs.Kept.{Kept}
 use Rattle.heap_system.proofs.LawsOf.{laws_of}
-use Rattle.heap_system.proofs.UnitsOfTurns.{idle_next, cond_no, cond_yes}
+use Rattle.heap_system.proofs.UnitsOfTurns.{idle_next}
 use Rattle.heap_system.proofs.SeenAndKept.{told_by}
-use Rattle.heap_system.proofs.CycleShares.{IsShare, given_since, share_same, share_more, units_went_in, given_went_in, cycle_stays, units_grow, given_grows, unit_inside, reply_inside, reply_no_unit, inside_is_in, reply_gives, given_append, waiting_gives_none, since_more, since_late, since_same, entries_start_none}
+use Rattle.heap_system.proofs.CycleShares.{IsShare, given_since, share_same, share_more, units_went_in, given_went_in, cycle_stays, units_grow, given_grows, reply_gives, given_append, waiting_gives_none, since_more, since_late, since_same}
 use Rattle.heap_system.proofs.RunTally.{RunTallied, opening_tallied, turn_tallied}
 use Rattle.heap_system.proofs.TalliesOf.{tallies_of}
 use Rattle.heap_system.proofs.KeptByTurns.{word_is, word_here, new_run, new_part, new_pass, new_graph, next_is, event, local_new}
+use Rattle.heap_system.proofs.Effects.{unit_inside, reply_inside, reply_no_unit, inside_is_in}
 
 -- thread t of a run, where f tells how many units it made in each cycle
 pub record Shares (c : Config) (r : Run) (t : ℕ) (f : ℕ → ℕ) : Type 0 where
@@ -135,8 +136,8 @@ module _ (c : Config) (traces : List (List Command)) (job : IsJob c traces) (rat
         (λ zero z. let no : cond (eqb now z) (bit e.unit) 0 ≡ 0 = cond_zero (eqb now z) (bit e.unit) zero in omega (arith, adds z, no))
         (λ some. (
           present (unit_inside c me.part word (bit_one e.unit (omega (arith, some)))),
-          (let one : cond (eqb now now) (bit e.unit) 0 ≡ bit e.unit = cond_yes _ _ _ (eq-eqb now now refl) in omega (arith, adds now, one)),
-          λ z l. (let no : cond (eqb now z) (bit e.unit) 0 ≡ 0 = cond_no _ _ _ (ne_eqb now z (λ q. omega (arith, q, l))) in omega (arith, adds z, no)),
+          (let one : cond (eqb now now) (bit e.unit) 0 ≡ bit e.unit = cond-true _ _ _ (eq-eqb now now refl) in omega (arith, adds now, one)),
+          λ z l. (let no : cond (eqb now z) (bit e.unit) 0 ≡ 0 = cond-false _ _ _ (ne_eqb now z (λ q. omega (arith, q, l))) in omega (arith, adds z, no)),
         )))
 
     -- what it was given: the blocks of the entry that the order gets and those of its reply
@@ -195,7 +196,7 @@ module _ (c : Config) (traces : List (List Command)) (job : IsJob c traces) (rat
         let is : (local_at c after.state u).balance ≡ balance_then =
         ap (λ (l : LocalState). l.balance)
         (local_new c traces (laws_of c) job.bounds.config job.plan r kept u ul going u
-        ∙ cond_yes _ _ _ (eq-eqb u u refl)) in
+        ∙ cond-true _ _ _ (eq-eqb u u refl)) in
         record {
           units = subst (λ (b : Balance). IsShare b.units b (λ z. f z + bit (is_unit_in c z u r.state)))
               (sym is) (own_units f s.units);
@@ -208,7 +209,7 @@ module _ (c : Config) (traces : List (List Command)) (job : IsJob c traces) (rat
     other_stays t ne f s =
         let same : local_at c after.state t ≡ local_at c r.state t =
         local_new c traces (laws_of c) job.bounds.config job.plan r kept u ul going t
-        ∙ cond_no _ _ _ (ne_eqb u t ne) in
+        ∙ cond-false _ _ _ (ne_eqb u t ne) in
         let items : part t (entries ++ starts_by e.naming) ≡ [] =
         part_append t entries (starts_by e.naming)
         ∙ ap (λ xs. xs ++ part t (starts_by e.naming)) (entries_away c r.order u (command_of me) me.spent e.verdict t ne)
@@ -228,9 +229,9 @@ module _ (c : Config) (traces : List (List Command)) (job : IsJob c traces) (rat
           | inl same ↦ subst (λ v. Shares c after v (λ z. f z + added c v u r z)) same
               (shares_same c after u (λ z. f z + bit (is_unit_in c z u r.state)) (λ z. f z + added c u u r z)
               (own_moves f (subst (λ v. Shares c r v f) (sym same) s))
-              (λ z. ap (λ n. f z + n) (cond_yes _ _ _ (eq-eqb u u refl))))
+              (λ z. ap (λ n. f z + n) (cond-true _ _ _ (eq-eqb u u refl))))
           | inr ne ↦ shares_same c after t f (λ z. f z + added c t u r z) (other_stays t ne f s)
-              (λ z. (let no : added c t u r z ≡ 0 = cond_no _ _ _ (ne_eqb u t ne) in omega (arith, no)))
+              (λ z. (let no : added c t u r z ≡ 0 = cond-false _ _ _ (ne_eqb u t ne) in omega (arith, no)))
         ])
 
   turn_shares : (r : Run) → Kept c traces r → RunTallied c rate r → (t u : ℕ) (f : ℕ → ℕ)

@@ -13,10 +13,6 @@ use Rattle.heap_system.specs.Machines.{State, no_local, IsJob, IsOpening, starts
 use Rattle.heap_system.specs.Systems.{traces_of, units_of, IsReached}
 use Rattle.heap_system.proofs.OwedAndPaid.{each_at}
 
--- there is one rate
-pub one_rate : (c : Config) (p q : ℕ) → IsRate c p → IsRate c q → p ≡ q
-one_rate c p q a b = let low = a.least q b.some b.enough in let high = b.least p a.some a.enough in omega arith
-
 pub length_starts : (c : Config) (rate : ℕ) (space : ℕ → ℕ) (t : ℕ) (traces : List (List Command)) → length (starts_from c rate space t traces) ≡ length traces
 length_starts c rate space t [] = refl
 length_starts c rate space t (trace ∷ traces) = ap suc (length_starts c rate space (t + 1) traces)
@@ -133,3 +129,9 @@ pub units_at : (ls : List LocalState) (i : ℕ) (l : LocalState) → i < length 
 units_at ls i l low is =
     let e : i + 1 ≡ suc i = omega arith in
     ap (λ n. units_of (map (λ (x : LocalState). x.log) (take n ls))) e ∙ units_suc ls i l low ∙ ap (λ (x : LocalState). units_of (map (λ (y : LocalState). y.log) (take i ls)) + works x.log) (sym is)
+
+-- the works of one thread
+pub one_log : (ls : List LocalState) (d : LocalState) → length ls ≡ 1 → units_of (map (λ (l : LocalState). l.log) ls) ≡ works (get_or ls 0 d).log
+one_log [] d e = absurd (omega arith)
+one_log (l ∷ []) d e = omega arith
+one_log (l ∷ m ∷ ls) d e = absurd (omega arith)

@@ -5,15 +5,17 @@ use Rattle.std.specs.List.{AllByRecursion}
 use Rattle.block_store.specs.declared.Config.{Config}
 use Rattle.block_store.specs.Configs.{IsInBounds}
 use Rattle.rate_plan.specs.Rates.{IsAdmitted}
+use Rattle.rate_plan.proofs.Rates.{rate_low}
 use Rattle.never_heap.specs.declared.Command.{Command}
 use Rattle.never_heap.specs.Bounds.{IsCommandInBounds}
 use Rattle.never_heap.specs.Jobs.{IsTraceInBounds, IsJobInBounds}
 use Rattle.never_heap.specs.RightWork.{units_told, units_owed}
 use Rattle.never_heap.specs.Steps.{blocks_of}
+use Rattle.never_heap.proofs.CommandBounds.{blocks_low, told_low}
 use Rattle.heap_system.specs.Lives.{sum_after, objects_of, IsLife}
 use Rattle.heap_system.specs.Machines.{IsJob}
 use Rattle.heap_system.specs.Systems.{commands_in}
-use Rattle.heap_system.proofs.OwedAndPaid.{blocks_low, told_low, rate_low, one_object}
+use Rattle.heap_system.proofs.OwedAndPaid.{one_object}
 
 pub one_owes : (c : Config) (rate : ℕ) (k : Command) → rate ≤ 131070 → c.object ≤ 1024 → IsCommandInBounds c k → units_owed c.width rate k ≤ 134346750
 one_owes c rate k low object is =

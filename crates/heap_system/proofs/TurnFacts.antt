@@ -1,11 +1,12 @@
 -- What the code of a turn and of a finish meets, in a state that some list of turns reaches.
-use Rattle.std.proofs.Common.{◌≡◌, ℕ, zero, suc, ◌+◌, ◌<◌, Bool, true, false, cond, lt-ltb, eqb, eq-eqb, Option, List, [], ◌∷◌, ◌++◌, length, get_or, set, map, refl, sym, ap, ◌∙◌, subst, arith, inl, inr}
-use Rattle.std.proofs.lemmas.Bool.{cases_lt}
+use Rattle.std.proofs.Common.{◌≡◌, ℕ, zero, suc, ◌+◌, ◌<◌, Bool, true, false, cond, lt-ltb, eqb, eq-eqb, Option, List, [], ◌∷◌, ◌++◌, length, get_or, set, map, refl, sym, ap, ◌∙◌, subst, arith, inl, inr, eqb-true}
+use Rattle.std.proofs.lemmas.Bool.{cases_lt, and_parts}
 use Rattle.std.proofs.lemmas.List.{get_or_default}
 use Rattle.block_store.specs.declared.Config.{Config}
 use Rattle.block_store.specs.declared.Width.{Width}
 use Rattle.block_store.specs.Places.{extent, words_count}
 use Rattle.rate_plan.specs.Rates.{IsRate}
+use Rattle.rate_plan.proofs.Rates.{one_rate}
 use Rattle.never_heap.specs.declared.Command.{Command}
 use Rattle.never_heap.specs.Histories.{HistoryItem, Started, Did, part, parts_from}
 use Rattle.never_heap.specs.RightWork.{RightWork, units_owed}
@@ -21,7 +22,6 @@ use Rattle.heap_system.proofs.Always.{run_kept}
 use Rattle.heap_system.proofs.ThreadAccounts.{local_reads}
 use Rattle.heap_system.proofs.Kept.{Kept}
 use Rattle.heap_system.proofs.LawsOf.{laws_of}
-use Rattle.heap_system.proofs.SystemStart.{one_rate}
 use Rattle.heap_system.proofs.KeptByTurns.{cell, sums}
 
 -- what is kept of a reached state
@@ -164,3 +164,10 @@ right_work c traces r kept rate is = right_parts c.width rate r.order (λ t. eli
       subst (λ n. IsRight c.width n (part t r.order)) (one_rate c (local_at c r.state t).rate rate mine is) (kept.locals t tl).right
   | inr out ↦ subst (λ es. IsRight c.width rate es) (sym (kept.foreign t (omega arith))) tt
 ])
+
+-- a thread that is done is at rest, with as many entries as commands
+pub at_rest : (l : LocalState) → is_done l ≡ true → is_rest l.part ≡ true
+at_rest l done = (and_parts (is_rest l.part) (eqb (length l.log) (length l.trace)) done).0
+
+pub as_long : (l : LocalState) → is_done l ≡ true → length l.log ≡ length l.trace
+as_long l done = eqb-true (length l.log) (length l.trace) (and_parts (is_rest l.part) (eqb (length l.log) (length l.trace)) done).1

@@ -1,6 +1,6 @@
 -- The units that a thread has made are its turns that make a grey block black or pass a block.
 use Rattle.std.proofs.Common.{◌≡◌, ℕ, ◌+◌, ◌<◌, ◌⊎◌, Bool, true, false, not, ◌&&◌, cond, eqb, eq-eqb, ne_eqb, lt-ltb, le-ltb, List, [], ◌∷◌, ◌++◌, append-nil, refl, sym, ap, ◌∙◌, subst, arith, inl, inr}
-use Rattle.std.proofs.lemmas.Bool.{cases_Bool, cases_eq, cases_lt}
+use Rattle.std.proofs.lemmas.Bool.{cases_Bool, cases_eq, cases_lt, cond-false, cond-true}
 use Rattle.block_store.specs.declared.Config.{Config}
 use Rattle.block_store.specs.Phases.{bit}
 use Rattle.never_heap.specs.declared.Command.{Command}
@@ -28,12 +28,6 @@ split true p (inl e) = rw e refl
 split false p (inl e) = rw e refl
 split true p (inr e) = rw e refl
 split false p (inr e) = rw e refl
-
-pub cond_no : {A : Type 0} (b : Bool) (x y : A) → b ≡ false → cond b x y ≡ y
-cond_no b x y e = rw e refl
-
-pub cond_yes : {A : Type 0} (b : Bool) (x y : A) → b ≡ true → cond b x y ≡ x
-cond_yes b x y e = rw e refl
 
 decided_is : (v : Verdict) → is_decided v ≡ true → IsDecided v
 decided_is Open is = absurd cc
@@ -64,7 +58,7 @@ module _ (c : Config) (traces : List (List Command)) (job : IsJob c traces) (r :
       let parts : works (part u after.order) ≡ works (part u r.order) + works (told_by (replay c r.order) u (command_of l) l.spent e.verdict) =
       ap works (part_grows c r.order u (command_of l) l.spent e.verdict e.naming) ∙ works_append (part u r.order) (told_by (replay c r.order) u (command_of l) l.spent e.verdict) in
       let paid : (local_at c after.state u).spent ≡ spent_got e.reply e.unit l.spent =
-      ap (λ (x : LocalState). x.spent) (local_new c traces (laws_of c) job.bounds.config job.plan r kept u ul going u ∙ cond_yes _ _ _ (eq-eqb u u refl)) ∙ paid_new c traces (laws_of c) job.bounds.config job.plan r kept u ul in
+      ap (λ (x : LocalState). x.spent) (local_new c traces (laws_of c) job.bounds.config job.plan r kept u ul going u ∙ cond-true _ _ _ (eq-eqb u u refl)) ∙ paid_new c traces (laws_of c) job.bounds.config job.plan r kept u ul in
       omega (arith, parts, paid, (event c traces (laws_of c) job.bounds.config job.plan r kept u ul going).counted, (laws_of c l.part).units u (command_of l) l.spent word)
 
   other_makes : (t : ℕ) → (u ≡ t → ⊥) → made_by c t after ≡ made_by c t r
@@ -72,7 +66,7 @@ module _ (c : Config) (traces : List (List Command)) (job : IsJob c traces) (r :
       let l = local_at c r.state u in
       let e = effect c l.part word in
       let parts : works (part t after.order) ≡ works (part t r.order) = ap works (part_stays c r.order u (command_of l) l.spent e.verdict e.naming t n) in
-      let paid : (local_at c after.state t).spent ≡ (local_at c r.state t).spent = ap (λ (x : LocalState). x.spent) (local_new c traces (laws_of c) job.bounds.config job.plan r kept u ul going t ∙ cond_no _ _ _ (ne_eqb u t n)) in
+      let paid : (local_at c after.state t).spent ≡ (local_at c r.state t).spent = ap (λ (x : LocalState). x.spent) (local_new c traces (laws_of c) job.bounds.config job.plan r kept u ul going t ∙ cond-false _ _ _ (ne_eqb u t n)) in
       omega (arith, parts, paid)
 
   event_makes : (t : ℕ) → made_by c t (next c u r) ≡ made_by c t r + cond (eqb u t) (bit (is_unit c t r.state)) 0

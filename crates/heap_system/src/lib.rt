@@ -10,6 +10,7 @@ mod inside;
 mod laws;
 mod local;
 mod orders;
+mod pace;
 mod payments;
 mod progress;
 mod replays;
@@ -35,6 +36,7 @@ pub use laws::{
 };
 pub use local::Local;
 pub use orders::turns_add_their_items;
+pub use pace::{NoPace, Pace};
 pub use payments::turns_pay;
 pub use progress::{
     a_lone_command_ends_near_its_bound, a_lone_thread_ends_its_command,

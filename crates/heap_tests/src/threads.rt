@@ -13,7 +13,8 @@ use board_jobs::{
     MEETING, Meeting, RATE, SHARING, TRIES, TWO, are_right, counting, have_said, job, swapping,
     two_says,
 };
-use never_heap::{Command, Entry, Logs, NoPace, Pace, Reply};
+use heap_system::{NoPace, Pace};
+use never_heap::{Command, Entry, Logs, Reply};
 use rate_plan::plan;
 use std::alloc::Global;
 use std::sync::Wait;

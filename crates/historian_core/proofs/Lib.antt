@@ -1,4 +1,4 @@
-pub mod LastOnes
-pub mod Keeping
-pub mod LongLines
-pub mod ReportLaws
+mod Life
+mod Readings
+mod LongLines
+mod ReportLaws

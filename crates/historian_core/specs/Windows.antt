@@ -1,6 +1,7 @@
 -- What is written for the last readings.
-use Rattle.std.specs.Prelude.{ℕ, ◌+◌, ◌-◌, ◌/◌, ◌^◌, ◌==◌, ◌||◌, ◌++◌, codes, decimal, nat_lt, min, max, Bool, if◌then◌else◌, List, [], ◌∷◌, length, drop}
+use Rattle.std.specs.Prelude.{ℕ, ◌+◌, ◌-◌, ◌/◌, ◌^◌, ◌==◌, ◌||◌, ◌++◌, codes, decimal, nat_lt, min, max, Bool, if◌then◌else◌, List, [], ◌∷◌, length}
 use Rattle.trace_text.specs.Lines.{ended}
+use Rattle.heap_structures.specs.Circles.{last_of}
 use Rattle.historian_core.specs.declared.Limits.{Limits}
 use Rattle.historian_core.specs.declared.Figures.{Figures}
 
@@ -13,7 +14,7 @@ mark l v = if is_alarm l v then 1 else 0
 
 -- the last 40 of some readings, or all of fewer
 abbrev pub last_ones : List ℕ → List ℕ
-last_ones xs = drop (length xs - 40) xs
+last_ones xs = last_of 40 xs
 
 -- the least of some readings; for none the greatest possible
 abbrev pub least_in : List ℕ → ℕ

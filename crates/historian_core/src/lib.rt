@@ -1,18 +1,17 @@
 //! The last 40 readings of a number, kept as objects on a garbage-collected heap.
 #![tactic(auto)]
 
-ghost use Rattle.std.specs.Prelude.{◌≡◌, ◌≤◌, ◌<◌, ◌+◌, ◌-◌, ◌*◌, ◌^◌, ◌∷◌, ◌++◌, ◌↔◌, ℕ, false, min, max, nat_lt, if◌then◌else◌, List, [], length, slice_index_or, IfOk, IfErr, OnOk, OnErr, IsOkAnd};
-ghost use Rattle.never_heap.specs.declared.Command.TheVariants.{New};
+ghost use Rattle.std.specs.Prelude.{◌≡◌, ◌<◌, ◌+◌, ◌^◌, ◌∷◌, ◌++◌, ◌↔◌, ℕ, min, max, List, [], length, IfOk, IfErr, OnOk, OnErr, IsOkAnd};
+ghost use Rattle.never_heap.specs.declared.Command.TheVariants.{Arr};
 ghost use Rattle.never_heap.specs.Licensed.{NoFulls};
 ghost use Rattle.control_heap.specs.Controls.{HasLeft};
 ghost use Rattle.control_heap.specs.Refusals.{IsOpenFault};
-ghost use Rattle.heap_structures.specs.Alarms.{cleared, stands};
-ghost use Rattle.heap_structures.specs.declared.alarms.Alarm.{Alarm};
+ghost use Rattle.heap_structures.specs.declared.trend.Sample.{Sample};
 ghost use Rattle.trace_text.specs.Faults.{Rose};
 ghost use Rattle.trace_text.specs.Streams.{Appends, AppendsPrefix};
 ghost use Rattle.historian_core.specs.declared.Historian.{Historian};
 ghost use Rattle.historian_core.specs.declared.Limits.{Limits};
-ghost use Rattle.historian_core.specs.Kept.{Fits, Keeps, State, Stores, counted, heap_config, with_alarm};
+ghost use Rattle.historian_core.specs.Kept.{Fits, IsGiven, Keeps, counted, counted_in, heap_config, heap_of};
 ghost use Rattle.historian_core.specs.Windows as windows;
 
 mod stops;
@@ -21,9 +20,9 @@ mod tests;
 mod texts;
 
 use block_store::{Config, Width};
-use control_heap::{ControlHeap, Fault, OpenFault};
-use graph_view::{open, shown_heaps_met_no_full};
-use heap_structures::{AlarmList, Records};
+use control_heap::{Fault, OpenFault};
+use graph_view::shown_heaps_met_no_full;
+use heap_structures::{Sample, Trend};
 use std::alloc::Global;
 pub use stops::{Stop, Why, report_with_status, say_stop};
 pub use texts::{limits_of, reading_of, report};
@@ -33,7 +32,7 @@ use trace_text::{Failed, LineBuffer, Sink};
 pub const KEPT: u32 = 40;
 
 /// How many readings a heap keeps in its life: 7,036,874,417,754. The life has 2^45 units, and each
-/// block takes 5: one block a reading, and 12 blocks for the two structures. At 1,000 readings a
+/// block takes 5: one block a reading, and 12 blocks for the trend's two arrays. At 1,000 readings a
 /// second these are 223 years.
 pub const LIFE: u64 = (1 << 45) / 5 - 12;
 
@@ -46,16 +45,6 @@ const HEAP: Config = Config {
     object: 6,
     shared: 1,
 };
-
-// The registers of an object and of its number. The former is also the spare register of the
-// alarms: what it holds does not have to stay from one call to the next.
-const RECORD: u8 = 1;
-
-const NUMBER: u8 = 2;
-
-const READINGS: u8 = 3;
-
-const ALARMS: u8 = 4;
 
 /// A reading below `low` or above `high` is an alarm.
 #[derive(Clone, Copy, Debug, PartialEq, Eq)]
@@ -78,11 +67,8 @@ pub struct Figures {
 /// A heap with the last 40 readings.
 #[derive(Drop)]
 pub struct Historian {
-    heap: ControlHeap,
-    // These readings, the oldest first.
-    readings: Records,
-    // The numbers of those that are alarms. Readings are counted from 0.
-    alarms: AlarmList,
+    // These readings, the oldest first, and which of them are alarms.
+    trend: Trend,
 }
 
 impl Limits {
@@ -95,7 +81,7 @@ impl Limits {
 }
 
 impl Figures {
-    /// The figures of no reading, but for the alarms.
+    /// The figures of no reading, with this count of alarms.
     fn of_alarms(alarms: u64) -> Figures
         ensures { result ≡ counted alarms [] }
     {
@@ -156,26 +142,16 @@ impl Figures {
 ///
 /// # Errors
 ///
-/// `NoMemory`, the one cause that this configuration leaves of those of `ControlHeap::open`.
+/// `NoMemory`: the configuration rules out the other causes of `ControlHeap::open`.
 pub fn start(alloc: Global) -> Result<Historian, OpenFault>
     ensures kept { (l : Limits) → IfOk result (λ h. Keeps h l []) }
     ensures refused { IfErr result (IsOpenFault heap_config) }
 {
-    let mut heap = open(alloc, HEAP)?;
-    let Ok(readings) = Records::new(&mut heap, READINGS, NUMBER, KEPT) else {
-        unreachable!();
-    };
-    let Ok(alarms) = AlarmList::new(&mut heap, ALARMS, RECORD, KEPT) else {
-        unreachable!();
-    };
-    Ok(Historian {
-        heap,
-        readings,
-        alarms,
-    })
+    let trend = Trend::open(alloc, HEAP, KEPT)?;
+    Ok(Historian { trend })
 }
 
-/// Adds a reading to `count` others, and writes the line of the last 40 by one `put`.
+/// Adds a reading to fewer than `LIFE` others, and writes the line of the last 40 by one `put`.
 ///
 /// # Errors
 ///
@@ -183,51 +159,48 @@ pub fn start(alloc: Global) -> Result<Historian, OpenFault>
 pub fn tell<K: Sink>(
     historian: &mut Historian,
     limits: &Limits,
-    count: u64,
     reading: u32,
     sink: &mut K,
 ) -> Result<(), Failed>
-    requires kept { (xs : List ℕ) × Keeps historian.old limits.now xs × (length xs ≡ count) }
-    requires room { count < LIFE }
-    ensures kept { (xs : List ℕ) → Keeps historian.old limits.now xs → length xs ≡ count
+    requires { (xs : List ℕ) × Keeps historian.old limits.now xs × (length xs < LIFE) }
+    ensures kept { (xs : List ℕ) → Keeps historian.old limits.now xs
         → Keeps historian.new limits.now (xs ++ reading ∷ []) }
-    ensures written { (xs : List ℕ) → Keeps historian.old limits.now xs → length xs ≡ count
+    ensures written { (xs : List ℕ) → Keeps historian.old limits.now xs
         → OnOk result (Appends (K.held sink.old) (K.held sink.new)
         (windows.told_line limits.now (xs ++ reading ∷ []))) }
-    ensures prefix { (xs : List ℕ) → Keeps historian.old limits.now xs → length xs ≡ count
+    ensures prefix { (xs : List ℕ) → Keeps historian.old limits.now xs
         → OnErr result (AppendsPrefix (K.held sink.old) (K.held sink.new)
         (windows.told_line limits.now (xs ++ reading ∷ []))) }
     ensures still { OnOk result (K.faults sink.new ≡ K.faults sink.old) }
     ensures rose { OnErr result (Rose (K.faults sink.old) (K.faults sink.new)) }
 {
-    let line = take(historian, limits, count, reading).line();
+    let line = take(historian, limits, reading).line();
     sink.put(line.bytes())
 }
 
 /// No allocation of a heap that keeps readings was answered `Full`.
 pub fn readings_met_no_full()
     ensures { (h : Historian) (l : Limits) (xs : List ℕ) (k : Keeps h l xs)
-        → NoFulls k.has.shows.run.order }
+        → NoFulls k.lays.has.shows.run.order }
 {
     shown_heaps_met_no_full();
 }
 
-/// The life of the heap has room for one more object of one block, which a reading takes, exactly
-/// where it has kept fewer than `LIFE` readings.
+/// The life of the heap has room for the object of one more reading exactly where it has kept fewer
+/// than `LIFE` readings.
 pub fn lives_end_with_the_heap()
     ensures { (h : Historian) (l : Limits) (xs : List ℕ) → Keeps h l xs
-        → (length xs < LIFE) ↔ HasLeft h.heap (New 1 1) }
+        → (length xs < LIFE) ↔ HasLeft (heap_of h) (Arr 1 1) }
 {}
 
-/// Adds a reading to `count` others, fewer than `LIFE`, and returns the figures of the last 40.
-pub fn take(historian: &mut Historian, limits: &Limits, count: u64, reading: u32) -> Figures
-    requires kept { (xs : List ℕ) × Keeps historian.old limits.now xs × (length xs ≡ count) }
-    requires room { count < LIFE }
-    ensures { (xs : List ℕ) → Keeps historian.old limits.now xs → length xs ≡ count
+/// Adds a reading to fewer than `LIFE` others, and returns the figures of the last 40.
+pub fn take(historian: &mut Historian, limits: &Limits, reading: u32) -> Figures
+    requires { (xs : List ℕ) × Keeps historian.old limits.now xs × (length xs < LIFE) }
+    ensures { (xs : List ℕ) → Keeps historian.old limits.now xs
         → (result ≡ windows.figures_of limits.now (windows.last_ones (xs ++ reading ∷ [])))
         × Keeps historian.new limits.now (xs ++ reading ∷ []) }
 {
-    let Ok(figures) = historian.add(limits, count, reading) else {
+    let Ok(figures) = historian.add(limits, reading) else {
         unreachable!();
     };
     figures
@@ -235,77 +208,30 @@ pub fn take(historian: &mut Historian, limits: &Limits, count: u64, reading: u32
 
 impl Historian {
     /// Does `take`. No command is refused.
-    fn add(&mut self, limits: &Limits, count: u64, reading: u32) -> Result<Figures, Fault>
-        ensures { (xs : List ℕ) → Keeps self.old limits.now xs → length xs ≡ count → count < LIFE
+    fn add(&mut self, limits: &Limits, reading: u32) -> Result<Figures, Fault>
+        ensures { (xs : List ℕ) → Keeps self.old limits.now xs → length xs < LIFE
             → IsOkAnd result (λ f.
             (f ≡ windows.figures_of limits.now (windows.last_ones (xs ++ reading ∷ [])))
             × Keeps self.new limits.now (xs ++ reading ∷ [])) }
     {
-        self.record(reading)?;
-        self.forget(count)?;
-        self.judge(count, limits.has_alarm(reading))?;
+        self.trend.push(Sample {
+            value: reading,
+            alarm: limits.has_alarm(reading),
+        })?;
         self.figures()
-    }
-
-    /// Adds a reading as an object, which takes the place of the one 40 before.
-    fn record(&mut self, reading: u32) -> Result<(), Fault>
-        ensures { (s : State self.old) → Fits s 4 → s.made < LIFE
-            → IsOkAnd result (λ _. Stores self.new (s.most + 4) (s.made + 1)
-            (windows.last_ones (s.ys ++ reading ∷ [])) s.ls) }
-    {
-        self.readings.push(&mut self.heap, reading, RECORD)
-    }
-
-    /// Clears the alarm of the reading that reading number `count` replaces, and returns whether it
-    /// was one.
-    fn forget(&mut self, count: u64) -> Result<bool, Fault>
-        ensures { (s : State self.old) → Fits s 81 → count < LIFE
-            → IsOkAnd result (λ _. Stores self.new (s.most + 81) s.made s.ys
-            (if nat_lt count 40 then s.ls else cleared (count - 40) s.ls)) }
-    {
-        let kept = u64::from(KEPT);
-        if count < kept {
-            return Ok(false);
-        }
-        self.alarms.clear(&mut self.heap, count - kept)
-    }
-
-    /// Raises the alarm of reading number `count`, if it is one.
-    fn judge(&mut self, count: u64, is_alarm: bool) -> Result<(), Fault>
-        ensures { (s : State self.old) → Fits s 42 → count < LIFE → stands count s.ls ≡ false
-            → length s.ls < 40
-            → IsOkAnd result (λ _. Stores self.new (s.most + 42) s.made s.ys
-            (s.ls ++ with_alarm is_alarm count [])) }
-    {
-        if !is_alarm {
-            return Ok(());
-        }
-        self.alarms.raise(&mut self.heap, count)?;
-        Ok(())
     }
 
     /// The figures of the readings that are kept.
     fn figures(&mut self) -> Result<Figures, Fault>
-        ensures { (s : State self.old) → Fits s 80
-            → IsOkAnd result (λ f. (f ≡ counted (length s.ls) s.ys)
-            × Stores self.new (s.most + 80) s.made s.ys s.ls) }
+        ensures { (most : ℕ) (xs : List Sample) → IsGiven self.old most xs → Fits most xs 80
+            → IsOkAnd result (λ f. (f ≡ counted_in xs) × IsGiven self.new (most + 80) xs) }
     {
-        let mut figures = Figures::of_alarms(u64::from(self.alarms.len()));
-        let kept = self.readings.len();
+        let mut figures = Figures::of_alarms(u64::from(self.trend.alarms()));
+        let kept = self.trend.len();
         for back in 0..kept {
-            let number = self.reading_at(kept - 1 - back)?;
+            let number = self.trend.get(kept - 1 - back)?.unwrap_or(0);
             figures = figures.with(u64::from(number));
         }
         Ok(figures)
-    }
-
-    /// Reading `i` of those that are kept, the oldest first.
-    fn reading_at(&mut self, i: u32) -> Result<u32, Fault>
-        ensures { (s : State self.old) → Fits s 2
-            → IsOkAnd result (λ y. (y ≡ slice_index_or s.ys i 0)
-            × Stores self.new (s.most + 2) s.made s.ys s.ls) }
-    {
-        let reading = self.readings.get(&mut self.heap, i, RECORD)?;
-        Ok(reading.unwrap_or(0))
     }
 }

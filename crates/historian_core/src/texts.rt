@@ -159,7 +159,7 @@ fn tell_all<S: Source, K: Sink>(
             Ok(reading) => reading,
             Err(end) => return end,
         };
-        let Ok(()) = tell(historian, limits, count, reading, sink) else {
+        let Ok(()) = tell(historian, limits, reading, sink) else {
             return Err(Stop::WriteFault);
         };
     }

@@ -1,6 +1,6 @@
 //! Calls over sources and sinks in memory, and the jobs that they are given, one of each version.
 
-use never_heap::NoPace;
+use heap_system::NoPace;
 use rtheap_core::{Exit, rtheap};
 use std::alloc::{AllocError, Global};
 use std::sync::Wait;

@@ -7,13 +7,14 @@ use Rattle.never_heap.specs.declared.Reply.TheVariants as answers
 use Rattle.operations.specs.Linearizations.{answers_told}
 use Rattle.operations.proofs.Applied.{applied}
 use Rattle.operations.proofs.LinearizedRuns.{linearized, linearized_so_far}
-use Rattle.number_rings.specs.Rings.{Cell, Operation, Keep, Recall, Row, AreInCells, cell_config, ends, number_of, rows_of}
+use Rattle.number_rings.specs.Rings.{Cell, Operation, Keep, Recall, Row, cell_config, ends, number_of, rows_of}
 use Rattle.number_rings.proofs.RingTable.{rings_owe, whole}
 use Rattle.number_rings.proofs.RingTable as table
 use Rattle.live_rows.specs.Life.{last_three}
 use Rattle.live_rows.proofs.Lawful.{Lawful}
 use Rattle.live_rings.specs.Decoding.{operations_from, operations_of}
-use Rattle.live_rings.specs.Live.{AreOwnFrom, CanBeNext, commands_of, kept_behind, kept_by, rings}
+use Rattle.live_rings.specs.Live.{commands_of, rings}
+use Rattle.live_rings.proofs.OneMore.{own_more, low_more, next_low, next_own}
 
 -- what is read of the commands of operations that others follow
 pub record IsRead (v : ℕ) (ops : List Operation) (ks : List Command) : Type 0 where
@@ -41,34 +42,6 @@ pub told_one : (op : Operation) (rows : List Row) (rs more : List Reply)
 told_one (Keep i v) rows (a ∷ b ∷ c ∷ d ∷ []) more same = refl
 told_one (Recall i) rows (a ∷ b ∷ []) more same = refl
 told_one op rows rs more same = absurd (omega arith)
-
-pub own_more : (t n : ℕ) (ops : List Operation) (op : Operation) → AreOwnFrom t n ops
-    → AreOwnFrom t (kept_behind n ops) (op ∷ []) → AreOwnFrom t n (ops ++ op ∷ [])
-own_more t n [] op all one = one
-own_more t n (Keep i v ∷ ops) op all one = (all.0, own_more t (n + 1) ops op all.1 one)
-own_more t n (Recall i ∷ ops) op all one = own_more t n ops op all one
-
-pub low_more : (places : ℕ) (ops : List Operation) (op : Operation) → AreInCells places ops
-    → AreInCells places (op ∷ []) → AreInCells places (ops ++ op ∷ [])
-low_more places [] op all one = one
-low_more places (x ∷ ops) op all one = (all.0, low_more places ops op all.1 one)
-
-pub next_low : (places t : ℕ) (ops : List Operation) (op : Operation) → CanBeNext places t ops op
-    → AreInCells places (op ∷ [])
-next_low places t ops (Keep i v) one = (one.1, tt)
-next_low places t ops (Recall i) one = (one, tt)
-
-pub next_own : (places t : ℕ) (ops : List Operation) (op : Operation) → CanBeNext places t ops op
-    → AreOwnFrom t (kept_by ops) (op ∷ [])
-next_own places t ops (Keep i v) one = (one.0, tt)
-next_own places t ops (Recall i) one = tt
-
--- how many numbers were kept, with one operation more
-pub kept_more : (n : ℕ) (ops : List Operation) (op : Operation)
-    → kept_behind n (ops ++ op ∷ []) ≡ kept_behind (kept_behind n ops) (op ∷ [])
-kept_more n [] op = refl
-kept_more n (Keep i v ∷ ops) op = kept_more (n + 1) ops op
-kept_more n (Recall i ∷ ops) op = kept_more n ops op
 
 abbrev pub law : Lawful rings
 law = record {

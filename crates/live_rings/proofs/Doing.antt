@@ -20,7 +20,8 @@ use Rattle.live_rings.specs.declared.request.Request.{Request}
 use Rattle.live_rings.specs.declared.request.Request.TheVariants as asks
 use Rattle.live_rings.specs.Decoding.{operations_of}
 use Rattle.live_rings.specs.Live.{HasDone, IsInRange, IsRingWorker, Knows, RingWorkerState, answer_by, commands_of, keeps, kept_behind, kept_by, operation_of, places_of, ring_worker, rings, threads_of}
-use Rattle.live_rings.proofs.Decoded.{answer_told, kept_more, law}
+use Rattle.live_rings.proofs.Decoded.{answer_told, law}
+use Rattle.live_rings.proofs.OneMore.{kept_more}
 
 -- the ranges of an operation's numbers
 abbrev Fits : ℕ → Operation → Type 0

@@ -1,6 +1,6 @@
 -- A closed table has a linearization.
 use Rattle.std.proofs.Common.{◌≡◌, ℕ, zero, suc, ◌+◌, ◌<◌, ◌≤◌, inl, inr, arith, subst, sym, ap, ◌∙◌, refl, List, [], ◌∷◌, ◌++◌, length, map, get_or}
-use Rattle.std.specs.Prelude.{flat_map, slice_index_or}
+use Rattle.std.specs.Prelude.{flat_map}
 use Rattle.std.proofs.lemmas.Bool.{cases_lt}
 use Rattle.std.proofs.lemmas.List.{append_assoc, length-map, get_or_past}
 use Rattle.std.proofs.Math.ListN.{get_or-map}
@@ -9,25 +9,21 @@ use Rattle.rate_plan.specs.Rates.{IsAdmitted, IsRate}
 use Rattle.rate_plan.proofs.Plans.{found}
 use Rattle.never_heap.specs.declared.Command.{Command}
 use Rattle.never_heap.specs.declared.Entry.{Entry}
-use Rattle.never_heap.specs.Histories.{HistoryItem, HasTraces, part, parts, parts_from}
+use Rattle.never_heap.specs.Histories.{HasTraces, part, parts}
 use Rattle.never_heap.specs.Licensed.{NoFulls}
 use Rattle.never_heap.specs.Runs.{IsRun}
 use Rattle.never_heap.proofs.HistoryGrowth.{part_append}
 use Rattle.operations.specs.Linearizations.{Call, IsLinearization, traces_of}
-use Rattle.operations.proofs.PartLogs.{logged}
+use Rattle.never_heap.proofs.PartLogs.{logged, parts_count}
 use Rattle.shared_heap.specs.Shared.{IsStartOf}
 use Rattle.shared_heap.specs.Workers.{WorkerState, HaveOneHistory, HasPart, IsOfMachine}
-use Rattle.shared_heap.proofs.Crews.{get_or_map}
 use Rattle.shared_heap.proofs.Orders.{nobody}
+use Rattle.atom_board.proofs.Crews.{get_or_map}
 use Rattle.live_rows.specs.Orders.{HasScript, HaveOneOrder, StandBehindWhatWasSeen}
 use Rattle.live_rows.specs.Rows.{Rows, IsRowHeap, answers_of, commands_in, commands_of, replies}
 use Rattle.live_rows.specs.Workers.{IsRowWorker, RowWorkerState, heap_worker, row_worker, thread_of}
 use Rattle.live_rows.proofs.Cuts.{stands}
 use Rattle.live_rows.proofs.Lawful.{Lawful}
-
-pub parts_count : (t n : ℕ) (h : List HistoryItem) → length (parts_from t n h) ≡ n
-parts_count t zero h = refl
-parts_count t (suc n) h = ap suc (parts_count (t + 1) n h)
 
 -- the scripts of some threads, by their parts
 abbrev pub scripts_from : {Op : Type 0} → (ℕ → List Command → List Op) → ℕ → List (List Entry)

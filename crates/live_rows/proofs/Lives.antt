@@ -1,15 +1,12 @@
 -- A lifetime that allows so many commands, and the work of the objects among them.
-use Rattle.std.proofs.Common.{◌≡◌, ℕ, ◌+◌, ◌-◌, ◌*◌, ◌<◌, ◌≤◌, arith, subst, sym, ap, ◌∙◌, List, length}
-use Rattle.block_store.specs.declared.Config.{Config}
+use Rattle.std.proofs.Common.{ℕ, ◌+◌, ◌-◌, ◌*◌, ◌≤◌, arith, subst, sym, List, length}
 use Rattle.rate_plan.specs.Rates.{IsRate}
+use Rattle.rate_plan.proofs.Rates.{one_rate}
 use Rattle.never_heap.specs.declared.Command.{Command}
 use Rattle.never_heap.specs.RightWork.{units_owed}
 use Rattle.heap_system.specs.Lives.{sum_after, objects_of, most_commands, most_objects, most_units}
 use Rattle.heap_system.specs.Locals.{LocalState, works}
 use Rattle.live_rows.specs.Life.{HasRoomFor, MakeObjects}
-
-same_rate : (c : Config) (p q : ℕ) → IsRate c p → IsRate c q → p ≡ q
-same_rate c p q a b = omega (arith, a.least q b.some b.enough, b.least p a.some a.enough)
 
 -- what is asked at run time
 pub record HasCounts (l : LocalState) (rate n : ℕ) (ks : List Command) : Type 0 where
@@ -27,7 +24,7 @@ module _ (l : LocalState) (rate n : ℕ) (ks : List Command) (planned : IsRate l
     objects = omega (arith, h.within, h.objects, make.objects);
     units = λ p plan.
         subst (λ (q : ℕ). works l.log + sum_after (units_owed l.config.width q) 0 ks ≤ most_units)
-        (sym (same_rate l.config p rate plan planned))
+        (sym (one_rate l.config p rate plan planned))
         (omega (arith, h.worked, h.units, make.units rate));
   }
 

@@ -7,7 +7,7 @@ use Rattle.never_heap.specs.declared.Command.{Command}
 use Rattle.never_heap.specs.declared.Reply.{Reply}
 use Rattle.shared_heap.specs.Workers as heaps
 use Rattle.shared_heap.specs.Workers.{HeapState, IsFresh, WorkerState}
-use Rattle.shared_heap.proofs.Crews.{get_or_map}
+use Rattle.atom_board.proofs.Crews.{get_or_map}
 use Rattle.live_rows.specs.Rows.{Rows, IsRowHeap, answers_of, commands_of, replies}
 use Rattle.live_rows.specs.Workers as workers
 use Rattle.live_rows.specs.Workers.{AreFresh, AreInOrder, IsRowWorker, RowWorkerState, row_worker}

@@ -12,7 +12,7 @@ use Rattle.never_heap.specs.RightWork.{RightWork, units_owed}
 use Rattle.heap_system.specs.Lives.{sum_after, objects_of, most_units}
 use Rattle.heap_system.specs.Locals.{LocalState, works}
 use Rattle.heap_system.proofs.OwedAndPaid.{works_append}
-use Rattle.control_heap.proofs.GrownJobs.{sum_more}
+use Rattle.heap_system.proofs.TraceSums.{sum_more}
 use Rattle.std.specs.Prelude.{if◌then◌else◌, ◌==◌}
 use Rattle.shared_heap.specs.Workers.{WorkerState, HasRoom, HasAnswered, IsSame}
 use Rattle.live_rows.specs.Life.{HasRoomFor}

@@ -26,22 +26,22 @@ use Rattle.heap_system.specs.Parts.{Part, Serve}
 use Rattle.heap_system.specs.Pictures.{entries_waiting, waiting}
 use Rattle.heap_system.specs.Systems.{Whole}
 use Rattle.heap_system.proofs.Kept.{Kept, LocalKept}
+use Rattle.heap_system.proofs.RunLaws.{kept_of}
 use Rattle.operations.specs.Linearizations.{Call, calls_of, answers_told, replies_in, traces_of}
 use Rattle.operations.specs.SoFar.{IsRunSoFar, IsLinearizationSoFar}
-use Rattle.operations.proofs.PartLogs.{logged}
+use Rattle.never_heap.proofs.PartLogs.{logged, parts_count}
 use Rattle.shared_heap.specs.declared.rules.Held.{Held}
 use Rattle.shared_heap.specs.declared.rules.View.{View}
 use Rattle.shared_heap.specs.Prefixes.{FitsOneHistory}
 use Rattle.shared_heap.specs.Shared.{AllFit, AllNotedIn, AllSeenIn, Fits, SharedKept, seats_of, threads_of}
 use Rattle.shared_heap.specs.Workers.{WorkerState}
-use Rattle.shared_heap.proofs.Crews.{get_or_map}
-use Rattle.shared_heap.proofs.Grown.{here, kept_of}
+use Rattle.shared_heap.proofs.Grown.{here}
 use Rattle.shared_heap.proofs.Prefixes.{fits_one, fits_order}
+use Rattle.atom_board.proofs.Crews.{get_or_map}
 use Rattle.live_rows.specs.Behind.{answers_in, operations_in}
 use Rattle.live_rows.specs.Rows.{Rows, IsRowHeap, answers_of, commands_in, commands_of, replies}
 use Rattle.live_rows.specs.Workers.{IsRowWorker, row_worker}
 use Rattle.live_rows.specs.SoFar.{AllThreads, AllSeats, IsAt, IsBetween, IsWithin, IsWorking, Execute, HasCalls, AllHaveCalls, FitsOneOrder}
-use Rattle.live_rows.proofs.Closing.{parts_count}
 use Rattle.live_rows.proofs.Cuts.{begins_so, decided_so_far, ops_of, ops_of_calls}
 use Rattle.live_rows.proofs.Lawful.{Lawful}
 use Rattle.live_rows.proofs.AnswersOfOperations.{as_many_answers, commands_more, rows_more, told_within}

@@ -3,15 +3,15 @@ use Rattle.std.proofs.Common.{◌≡◌, ℕ, Bool, true, false, refl, arith, ap
 use Rattle.never_heap.specs.declared.Command.{Command}
 use Rattle.never_heap.specs.declared.Reply.{Reply}
 use Rattle.never_heap.specs.declared.Reply.TheVariants as answers
-use Rattle.operations.specs.Applications.{ops_in}
 use Rattle.operations.specs.Linearizations.{answers_told}
 use Rattle.tag_table.specs.declared.operation.Operation.{Operation}
 use Rattle.tag_table.specs.declared.operation.Operation.TheVariants.{Write, Clear, Read}
-use Rattle.tag_table.specs.Tables.{Row, rows_of, decides, ends, pair_of, tag_told, AreInTable, IsOperationInRange}
+use Rattle.tag_table.specs.Tables.{Row, rows_of, ends, pair_of, tag_told, AreInTable, IsOperationInRange}
 use Rattle.tag_table.proofs.TableApplication.{tables_are_kept, tables_so_far}
+use Rattle.tag_table.proofs.TagRows.{whole}
 use Rattle.live_rows.specs.Life.{last_three}
 use Rattle.live_rows.proofs.Lawful.{Lawful}
-use Rattle.live_tags.specs.Decoding.{operations_from, operations_of}
+use Rattle.live_tags.specs.Decoding.{operations_from}
 use Rattle.live_tags.specs.Live.{commands_of, tags}
 
 pub decoded_from : (ops : List Operation) (made : Bool) (v q : ℕ)
@@ -49,12 +49,6 @@ inside_more n [] (Clear i) all one = (one, tt)
 inside_more n [] (Read i) all one = (one, tt)
 inside_more n (x ∷ ops) op all one = (all.0, inside_more n ops op all.1 one)
 
-pub whole_one : (op : Operation) (rows : List Row)
-    → ops_in decides (rows_of op ++ rows) ≡ op ∷ ops_in decides rows
-whole_one (Write i v q) rows = refl
-whole_one (Clear i) rows = refl
-whole_one (Read i) rows = refl
-
 pub told_one : (op : Operation) (rows : List Row) (rs more : List Reply)
     → length rs ≡ length (rows_of op)
     → answers_told ends [] (rows_of op ++ rows) (rs ++ more)
@@ -76,7 +70,7 @@ told_by_two op rs same = absurd (omega arith)
 
 abbrev pub law : Lawful tags
 law = record {
-  whole = whole_one;
+  whole = whole;
   answer_by = tag_told;
   told = told_one;
   decoded = λ t ops read. decoded_from ops false 0 0;

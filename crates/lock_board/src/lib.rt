@@ -7,8 +7,8 @@ ghost use Rattle.heap_system.specs.Systems.{IsFinished, IsLeastUndone, items_kep
 ghost use Rattle.lock_board.specs.Logs.{commands_of};
 
 use block_store::{Config, OutOfMemory};
-use heap_system::{Finished, System, Turn, Unfinished};
-use never_heap::{Command, Pace};
+use heap_system::{Finished, Pace, System, Turn, Unfinished};
+use never_heap::Command;
 use std::alloc::Global;
 use std::marker::Model;
 use std::sync::{Mutex, Wait};

@@ -1,22 +1,16 @@
 -- What the place can hold that an operation is on.
-use Rattle.std.proofs.Common.{◌≡◌, ℕ, List, slice_index, true, refl, sym, ap, ◌∙◌, subst}
+use Rattle.std.proofs.Common.{◌≡◌, ℕ, List, slice_index, true, sym, ap, ◌∙◌, subst}
 use Rattle.block_store.specs.declared.Config.{Config}
-use Rattle.block_store.specs.Places.{Extent, extent, index, in_range, place_at}
+use Rattle.block_store.specs.Places.{Extent, extent, in_range, place_at}
 use Rattle.block_store.proofs.Indexes.{back}
 use Rattle.heap_machine.specs.Readings.{CanHold}
 use Rattle.heap_machine.specs.declared.op.Op.{Op}
-use Rattle.heap_machine.specs.Operations.{Operation, Load, Exchange, CompareExchange, FetchAdd, FetchSub, place_of, op_at, op_place}
-
-place_here : (e : Extent) (o : Operation) → op_place (op_at e o) ≡ index e (place_of o)
-place_here e (Load p) = refl
-place_here e (Exchange p v) = refl
-place_here e (CompareExchange p old v) = refl
-place_here e (FetchAdd p v) = refl
-place_here e (FetchSub p v) = refl
+use Rattle.heap_machine.specs.Operations.{Operation, place_of, op_at, op_place}
+use Rattle.heap_machine.proofs.HeapAfter.{op_place-at}
 
 pub at_place : (e : Extent) (o : Operation) (i w : ℕ) → in_range e (place_of o) ≡ true → i ≡ op_place (op_at e o) → CanHold e (place_at e i) w → CanHold e (place_of o) w
 at_place e o i w range is holds =
-    let here : place_at e i ≡ place_of o = ap (place_at e) (is ∙ place_here e o) ∙ back e (place_of o) range in
+    let here : place_at e i ≡ place_of o = ap (place_at e) (is ∙ op_place-at e o) ∙ back e (place_of o) range in
     subst (λ p. CanHold e p w) here holds
 
 -- the same of what a part wants, where the places are those of the configuration

@@ -1,5 +1,5 @@
 -- What the mail threads of a mail board leave.
-use Rattle.std.proofs.Common.{ℕ, zero, suc, ◌+◌, ◌≡◌, ◌<◌, ◌≤◌, ◌==◌, Bool, true, false, cond, nat_lt, List, [], ◌∷◌, length, map, get_or, arith, subst, refl, sym, ap, ◌∙◌, inl, inr, Option, Some, None, ne_eqb, eq-eqb, lt-ltb, le-ltb, zero-add}
+use Rattle.std.proofs.Common.{ℕ, suc, ◌+◌, ◌≡◌, ◌<◌, ◌≤◌, ◌==◌, Bool, true, false, cond, nat_lt, List, [], ◌∷◌, length, map, get_or, arith, subst, refl, sym, ap, ◌∙◌, inl, inr, Option, Some, None, ne_eqb, eq-eqb, lt-ltb, le-ltb, zero-add}
 use Rattle.std.specs.Prelude.{count_by, if◌then◌else◌}
 use Rattle.std.specs.List.{range_with_len}
 use Rattle.std.proofs.lemmas.Bool.{cases_lt}
@@ -9,7 +9,7 @@ use Rattle.std.proofs.lemmas.List.{same_lists, length-map, get_or_default}
 use Rattle.block_store.specs.declared.Config.{Config}
 use Rattle.never_heap.specs.declared.Command.{Command}
 use Rattle.never_heap.specs.declared.Entry.{Entry}
-use Rattle.never_heap.specs.Histories.{HistoryItem, parts_from}
+use Rattle.never_heap.proofs.PartLogs.{parts_count}
 use Rattle.heap_system.specs.Systems.{IsFinished}
 use Rattle.heap_system.specs.Locals.{is_done}
 use Rattle.atom_board.specs.Mutators.{BoardState, MutatorState, AreInOrder, AllAreDone, AreLogsOf, log_of}
@@ -143,11 +143,6 @@ module _ (o : MailBoard) where
   fresh_count n k is =
       ap (λ (t : TakerState). length t.taken) is
       ∙ length-map (range_with_len 0 n) (λ t. []) ∙ length-range_with_len 0 n
-
--- there is a log for each thread
-parts_count : (t n : ℕ) (h : List HistoryItem) → length (parts_from t n h) ≡ n
-parts_count t zero h = refl
-parts_count t (suc n) h = ap suc (parts_count (t + 1) n h)
 
 pub logs_count : (c : Config) (traces : List (List Command)) (logs : List (List Entry))
     (cycles : ℕ) → IsFinished c traces logs cycles → length logs ≡ c.threads

@@ -7,7 +7,7 @@ ghost use Rattle.mail_runs.specs.Spawned.{IsSpawned, AreSpawned, Gives, AllGive}
 use crate::mail_board::MailBoard;
 use crate::mail_thread::MailThread;
 use block_store::OutOfMemory;
-use never_heap::Pace;
+use heap_system::Pace;
 use std::alloc::Global;
 use std::snapshot::Snapshot;
 use std::sync::Wait;

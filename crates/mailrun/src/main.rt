@@ -4,8 +4,8 @@
 
 mod help;
 
+use heap_system::NoPace;
 use help::{HELP, VERSION};
-use never_heap::NoPace;
 use program_words::{Question, words_of};
 use rt_mail::mail;
 use std::alloc::AllocError;

@@ -12,9 +12,11 @@ use Rattle.graph_relation.specs.Made.{IsWritten}
 use Rattle.graph_relation.specs.Words.{Agrees, BlockWords, with_payload}
 use Rattle.graph_relation.proofs.Blocks.{other_block}
 use Rattle.block_store.specs.Counts.{changed}
+use Rattle.block_store.proofs.Functions.{changed_both}
+use Rattle.block_store.proofs.ColourWords.{black_solid}
 use Rattle.name_invariant.specs.Building.{Build, build_blocks, build_owner, build_shape, build_payload, with_owner, with_shape, IsSpawned, IsBuild}
 use Rattle.name_invariant.specs.Events.{collected}
-use Rattle.name_invariant.proofs.Colours.{differ, changed_case, changed_here, changed_else, black_solid}
+use Rattle.name_invariant.proofs.Colours.{differ, changed_here, changed_else}
 
 -- a write of an owner or a shape at another block
 pub other_owner : (W : Width) (w : BlockWords) (x v y : ℕ) → (x ≡ y → ⊥)
@@ -73,11 +75,11 @@ module _ (W : Width) (n m cycle : ℕ) (colour : ℕ → ℕ) (w : BlockWords) (
   collects x more behind within free =
       let early : (b.left ≡ build_blocks W b) × (b.step ≡ 0) = before k.phase in
       record {
-        behind = λ o ol. changed_case (λ o y. registers_end W n < y) b.held b.collected x o
+        behind = λ o ol. changed_both (λ o y. registers_end W n < y) b.held b.collected x o
             (λ _. behind) (λ ne. k.behind o (omega arith));
-        within = λ o ol. changed_case (λ o y. y ≤ m) b.held b.collected x o (λ _. within)
+        within = λ o ol. changed_both (λ o y. y ≤ m) b.held b.collected x o (λ _. within)
             (λ ne. k.within o (omega arith));
-        free = λ o ol lo. changed_case (λ o y. is_free (colour y) ≡ true) b.held b.collected x o
+        free = λ o ol lo. changed_both (λ o y. is_free (colour y) ≡ true) b.held b.collected x o
             (λ _. free) (λ ne. k.free o (omega arith) lo);
         black = λ o lo hi. absurd (omega (arith, early.0));
         written = λ o lo hi. absurd (omega (arith, early.0));
@@ -187,7 +189,7 @@ module _ (W : Width) (n m cycle : ℕ) (colour : ℕ → ℕ) (w : BlockWords) (
       free = λ p pl lo. subst (λ z. is_free z ≡ true)
           (sym (changed_else colour (b.held o) (black_word cycle) (b.held p) (once p lo)))
           (k.free p pl (omega arith));
-      black = λ p lo hi. changed_case (λ y v. v ≡ black_word cycle) colour (b.held o)
+      black = λ p lo hi. changed_both (λ y v. v ≡ black_word cycle) colour (b.held o)
           (black_word cycle) (b.held p) (λ _. refl)
           (λ ne. k.black p (elim (cases_eq o p)
           [ inl z ↦ absurd (ne (ap b.held z)) | inr z ↦ omega arith ]) hi);

@@ -9,6 +9,7 @@ use Rattle.block_store.specs.Registers.{root_block, register_block, register_slo
 use Rattle.block_store.proofs.Registers.{register_low, register_some, slot_low}
 use Rattle.block_store.specs.Widths.{payloads}
 use Rattle.block_store.proofs.ColourWords.{not_free_black}
+use Rattle.block_store.proofs.Functions.{changed_both}
 use Rattle.never_heap.specs.Graphs.{Graph, ObjectKind, next_name}
 use Rattle.graph_relation.specs.Layouts.{layout_part}
 use Rattle.graph_relation.specs.Words.{Agrees, BlockWords, with_payload}
@@ -24,7 +25,7 @@ use Rattle.name_invariant.specs.States.{KeptState, sizes, Known, Kept}
 use Rattle.name_invariant.specs.Events.{apply, build_at, held_at, reserved, collected, with_words, with_build, IsBuilding, HasAll, IsFreeBlock, Guard}
 use Rattle.name_invariant.specs.Events.KeptEvent.{Reserve, Collect, WriteOwner, WriteShape, WritePayload, WriteColour}
 use Rattle.name_invariant.specs.Kept.{IsKept}
-use Rattle.name_invariant.proofs.Colours.{differ, changed_case, changed_here, changed_else, dark_solid, painted_at, painted_built, blackened}
+use Rattle.name_invariant.proofs.Colours.{differ, changed_here, changed_else, dark_solid, painted_at, painted_built, blackened}
 use Rattle.name_invariant.proofs.HeldBlocks.{some_case, build_rewritten, build_recoloured}
 use Rattle.name_invariant.proofs.BuildEvents.{other_owner, other_shape, begins, collects, in_hand, writes_owner, writes_shape, writes_payload, writes_colour}
 use Rattle.name_invariant.proofs.WordTargets.{refers_same, refers_link, behind_roots}
@@ -60,12 +61,12 @@ module _ (c : Config) (s : KeptState) (k : IsKept c s) where
   builds_set : (t : ℕ) (b : Build) (P : Build → Type 0) → P b
       → ((u : ℕ) (d : Build) → u < c.threads → (t ≡ u → ⊥) → s.builds u ≡ Some d → P d)
       → (u : ℕ) → u < c.threads → IfSome (changed s.builds t (Some b) u) P
-  builds_set t b P new others u un = changed_case (λ _ o. IfSome o P) s.builds t (Some b) u
+  builds_set t b P new others u un = changed_both (λ _ o. IfSome o P) s.builds t (Some b) u
       (λ _. new) (λ ne. some_case P (s.builds u) (λ d is. others u d un ne is))
 
   titles_set : (t : ℕ) (b : Build) → b.name ≡ next_name g t → (u : ℕ) → u < c.threads
       → IfSome (changed s.builds t (Some b) u) (λ (d : Build). d.name ≡ next_name g u)
-  titles_set t b e u un = changed_case (λ u o. IfSome o (λ (d : Build). d.name ≡ next_name g u))
+  titles_set t b e u un = changed_both (λ u o. IfSome o (λ (d : Build). d.name ≡ next_name g u))
       s.builds t (Some b) u (λ same. e ∙ ap (next_name g) same) (λ _. k.titles u un)
 
   -- what was coloured by a builder still is
@@ -315,7 +316,7 @@ module _ (c : Config) (s : KeptState) (k : IsKept c s) where
             scans = k.scans;
             marking = λ mark. (let q = k.marking mark in record {
               all = q.all;
-              roots = λ u un. changed_case (λ y w. IsDark s.cycle w) s.colour
+              roots = λ u un. changed_both (λ y w. IsDark s.cycle w) s.colour
                   (held_at s t o) (black_word s.cycle) (root_block c.width u) (λ _. inr refl)
                   (λ _. q.roots u un);
             });

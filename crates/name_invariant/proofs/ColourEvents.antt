@@ -5,7 +5,7 @@ use Rattle.block_store.specs.Colours.{is_grey, free_word, grey_word, black_word,
 use Rattle.block_store.specs.Payloads.{target}
 use Rattle.block_store.specs.Registers.{root_block}
 use Rattle.block_store.specs.Widths.{payloads}
-use Rattle.block_store.proofs.ColourWords.{not_free_black, not_free_grey, grey_grey, free_free}
+use Rattle.block_store.proofs.ColourWords.{not_free_black, not_free_grey, grey_grey, free_free, black_grey, white_black, white_solid}
 use Rattle.graph_relation.specs.Events.{HasValue, pending_registers}
 use Rattle.graph_relation.specs.Words.{BlockWords}
 use Rattle.block_store.specs.Counts.{changed}
@@ -13,7 +13,7 @@ use Rattle.name_invariant.specs.States.{KeptState, sizes, Kept, IsKnownBlock}
 use Rattle.name_invariant.specs.Events.{apply, with_colour, loaded_word}
 use Rattle.name_invariant.specs.Events.KeptEvent.{ReadWord, ShadeRead, Blacken, ShadeLoaded, Free, ShadeRoot}
 use Rattle.name_invariant.specs.Kept.{IsKept}
-use Rattle.name_invariant.proofs.Colours.{differ, black_grey, white_solid, white_black, dark_solid, white_not_kept, white_not_array, freed, root_shaded}
+use Rattle.name_invariant.proofs.Colours.{differ, dark_solid, white_not_kept, white_not_array, freed, root_shaded}
 use Rattle.name_invariant.proofs.HeldBlocks.{not_held_colour, not_held_array}
 use Rattle.name_invariant.proofs.WordTargets.{belongs_refers, root_in, behind_roots}
 use Rattle.name_invariant.proofs.KeptStates.{shown, build_of, grey_known, kept_is_known, known_is_kept, loaded_kept, recoloured, scanned}

@@ -1,14 +1,15 @@
--- The kinds of colour are apart, and what a write of one colour word keeps.
-use Rattle.std.proofs.Common.{◌≡◌, ◌≢◌, ℕ, ◌<◌, ◌⊎◌, inl, inr, Bool, true, false, cond, ◌&&◌, eqb, refl, arith, subst, sym, ap, ◌∙◌, eq-eqb, ne_eqb, eqb-true}
-use Rattle.std.proofs.lemmas.Bool.{cases_eq, cases_Bool, and_parts}
+-- Dark colours and black ones, and what a write of one colour word keeps.
+use Rattle.std.proofs.Common.{◌≡◌, ◌≢◌, ℕ, ◌<◌, ◌⊎◌, inl, inr, Bool, true, false, cond, ◌&&◌, eqb, refl, subst, sym, ap, ◌∙◌, eq-eqb, ne_eqb, eqb-true}
+use Rattle.std.proofs.lemmas.Bool.{cases_Bool, and_parts}
 use Rattle.block_store.specs.declared.Name.{Name}
 use Rattle.block_store.specs.declared.Width.{Width}
-use Rattle.block_store.specs.Colours.{kind, is_free, is_grey, black_word, white_word}
+use Rattle.block_store.specs.Colours.{is_free, is_grey, black_word, white_word}
 use Rattle.block_store.specs.Payloads.{target}
 use Rattle.block_store.specs.Registers.{root_block}
 use Rattle.block_store.specs.Widths.{payloads}
-use Rattle.block_store.proofs.ColourWords.{black-white, not_free_black, not_free_white, not_grey_black, not_grey_white}
+use Rattle.block_store.proofs.ColourWords.{free_grey, black_grey, white_grey, white_black, black_solid}
 use Rattle.block_store.proofs.Registers.{one_root}
+use Rattle.block_store.proofs.Functions.{changed_both}
 use Rattle.name_invariant.specs.Colouring.{IfRefers, IsDark, IsColoured, IsRegisterBlock, NotRoot, IsBlockOf, Belongs, IsShadedRoot, SweepColours}
 use Rattle.block_store.specs.Counts.{changed}
 use Rattle.name_invariant.specs.Kept.{IsPainted}
@@ -17,41 +18,12 @@ use Rattle.name_invariant.proofs.WordTargets.{root_in}
 pub differ : (b : Bool) → b ≡ true → b ≡ false → ⊥
 differ b t f = let z : true ≡ false = sym t ∙ f in cc
 
--- what holds of the new value at x, and of the old ones elsewhere, holds of a changed function
-pub changed_case : {A : Type 0} (P : ℕ → A → Type 0) (f : ℕ → A) (x : ℕ) (v : A) (y : ℕ)
-    → (x ≡ y → P y v) → ((x ≡ y → ⊥) → P y (f y)) → P y (changed f x v y)
-changed_case P f x v y here away = elim (cases_eq x y) [
-  | inl e ↦ rw (eq-eqb x y e) (here e)
-  | inr ne ↦ rw (ne_eqb x y ne) (away ne)
-]
-
 pub changed_here : {A : Type 0} (f : ℕ → A) (x : ℕ) (v : A) (y : ℕ) → x ≡ y → changed f x v y ≡ v
 changed_here f x v y e = rw (eq-eqb x y e) refl
 
 pub changed_else : {A : Type 0} (f : ℕ → A) (x : ℕ) (v : A) (y : ℕ) → (x ≡ y → ⊥)
     → changed f x v y ≡ f y
 changed_else f x v y ne = rw (ne_eqb x y ne) refl
-
-pub free_grey : (w : ℕ) → is_free w ≡ true → is_grey w ≡ true → ⊥
-free_grey w f g =
-    let a : kind w ≡ 0 = eqb-true _ _ f in
-    let b : kind w ≡ 3 = eqb-true _ _ g in
-    omega arith
-
-pub black_grey : (c w : ℕ) → w ≡ black_word c → is_grey w ≡ true → ⊥
-black_grey c w b g = differ _ (subst (λ v. is_grey v ≡ true) b g) (not_grey_black c)
-
-pub white_grey : (c w : ℕ) → w ≡ white_word c → is_grey w ≡ true → ⊥
-white_grey c w b g = differ _ (subst (λ v. is_grey v ≡ true) b g) (not_grey_white c)
-
-pub white_black : (c w : ℕ) → w ≡ white_word c → w ≡ black_word c → ⊥
-white_black c w e b = black-white c (sym b ∙ e)
-
-pub black_solid : (c w : ℕ) → w ≡ black_word c → is_free w ≡ false
-black_solid c w b = subst (λ v. is_free v ≡ false) (sym b) (not_free_black c)
-
-pub white_solid : (c w : ℕ) → w ≡ white_word c → is_free w ≡ false
-white_solid c w b = subst (λ v. is_free v ≡ false) (sym b) (not_free_white c)
 
 pub dark_solid : (c w : ℕ) → IsDark c w → is_free w ≡ false
 dark_solid c w (inl g) = elim (cases_Bool (is_free w))
@@ -79,13 +51,13 @@ pub painted_at : (W : Width) (n cycle : ℕ) (L K : Name → Type 0) (blocks : N
     → IsPainted W n cycle L K blocks at colour B
     → IsPainted W n cycle L K blocks at (changed colour x v) B
 painted_at W n cycle L K blocks at colour B x v fits arrays solid marked k = record {
-  fits = λ y. changed_case (λ y w. IsColoured cycle w) colour x v y (λ _. fits) (λ _. k.fits y);
-  arrays = λ y r. changed_case (λ y w. is_free w ≡ false) colour x v y
+  fits = λ y. changed_both (λ y w. IsColoured cycle w) colour x v y (λ _. fits) (λ _. k.fits y);
+  arrays = λ y r. changed_both (λ y w. is_free w ≡ false) colour x v y
       (λ e. arrays (subst (IsRegisterBlock W n) (sym e) r)) (λ _. k.arrays y r);
-  solid = λ a o ka ol. changed_case (λ y w. is_free w ≡ false) colour x v (at a o)
+  solid = λ a o ka ol. changed_both (λ y w. is_free w ≡ false) colour x v (at a o)
       (λ e. solid (record { name = a; ordinal = o; kept = ka; low = ol; is = e }))
       (λ _. k.solid a o ka ol);
-  marked = λ y. changed_case (λ y w. IsDark cycle w → Belongs W n L blocks at y ⊎ B y) colour x v y
+  marked = λ y. changed_both (λ y w. IsDark cycle w → Belongs W n L blocks at y ⊎ B y) colour x v y
       (λ e. subst (λ z. IsDark cycle v → Belongs W n L blocks at z ⊎ B z) e marked)
       (λ _. k.marked y);
 }
@@ -124,22 +96,22 @@ module _ (W : Width) (n cycle : ℕ) (K : Name → Type 0) (blocks : Name → �
   pub freed : (x v : ℕ) → colour x ≡ white_word cycle → is_free v ≡ true
       → SweepColours W n cycle K blocks at (changed colour x v) payload shaded
   freed x v white free = record {
-    kept = λ a o ka ol. changed_case (λ y w. w ≡ black_word cycle) colour x v (at a o)
+    kept = λ a o ka ol. changed_both (λ y w. w ≡ black_word cycle) colour x v (at a o)
         (λ e. absurd (white_not_kept x white
         (record { name = a; ordinal = o; kept = ka; low = ol; is = e }))) (λ _. k.kept a o ka ol);
-    arrays = λ y r. changed_case (λ y w. IsDark cycle w) colour x v y
+    arrays = λ y r. changed_both (λ y w. IsDark cycle w) colour x v y
         (λ e. absurd (white_not_array x white (subst (IsRegisterBlock W n) (sym e) r)))
         (λ _. k.arrays y r);
-    greys = λ y. changed_case (λ y w. is_grey w ≡ true → IsShadedRoot W n shaded y) colour x v y
+    greys = λ y. changed_both (λ y w. is_grey w ≡ true → IsShadedRoot W n shaded y) colour x v y
         (λ _ g. absurd (free_grey v free g)) (λ _. k.greys y);
-    roots = λ t tn e. (let g = k.roots t tn e in changed_case (λ y w. is_grey w ≡ true) colour x v
+    roots = λ t tn e. (let g = k.roots t tn e in changed_both (λ y w. is_grey w ≡ true) colour x v
         (root_block W t) (λ q. absurd (white_grey cycle (colour (root_block W t))
         (ap colour (sym q) ∙ white) g)) (λ _. g));
-    darks = λ y j. changed_case (λ y w. IsDark cycle w → j < payloads W
+    darks = λ y j. changed_both (λ y w. IsDark cycle w → j < payloads W
         → IfRefers (IsBlack (changed colour x v)) (payload y j)) colour x v y
         (λ _ d. absurd (differ _ free (dark_solid cycle v d)))
         (λ _ d jl some. (let b = k.darks y j d jl some in (
-          changed_case (λ z w. w ≡ black_word cycle) colour x v _
+          changed_both (λ z w. w ≡ black_word cycle) colour x v _
               (λ e. absurd (white_black cycle _ (ap colour (sym e) ∙ white) b.0)) (λ _. b.0),
           b.1,
         )));
@@ -150,17 +122,17 @@ module _ (W : Width) (n cycle : ℕ) (K : Name → Type 0) (blocks : Name → �
       → ((j : ℕ) → j < payloads W → IfRefers (IsBlack colour) (payload x j))
       → SweepColours W n cycle K blocks at (changed colour x (black_word cycle)) payload shaded
   blackened x free own = record {
-    kept = λ a o ka ol. changed_case (λ y w. w ≡ black_word cycle) colour x (black_word cycle)
+    kept = λ a o ka ol. changed_both (λ y w. w ≡ black_word cycle) colour x (black_word cycle)
         (at a o) (λ _. refl) (λ _. k.kept a o ka ol);
-    arrays = λ y r. changed_case (λ y w. IsDark cycle w) colour x (black_word cycle) y
+    arrays = λ y r. changed_both (λ y w. IsDark cycle w) colour x (black_word cycle) y
         (λ _. inr refl) (λ _. k.arrays y r);
-    greys = λ y. changed_case (λ y w. is_grey w ≡ true → IsShadedRoot W n shaded y) colour x
+    greys = λ y. changed_both (λ y w. is_grey w ≡ true → IsShadedRoot W n shaded y) colour x
         (black_word cycle) y (λ _ g. absurd (black_grey cycle _ refl g)) (λ _. k.greys y);
-    roots = λ t tn e. (let g = k.roots t tn e in changed_case (λ y w. is_grey w ≡ true) colour x
+    roots = λ t tn e. (let g = k.roots t tn e in changed_both (λ y w. is_grey w ≡ true) colour x
         (black_word cycle) (root_block W t)
         (λ q. absurd (free_grey (colour (root_block W t))
         (subst (λ z. is_free (colour z) ≡ true) q free) g)) (λ _. g));
-    darks = λ y j. changed_case (λ y w. IsDark cycle w → j < payloads W
+    darks = λ y j. changed_both (λ y w. IsDark cycle w → j < payloads W
         → IfRefers (IsBlack (changed colour x (black_word cycle))) (payload y j)) colour x
         (black_word cycle) y
         (λ e _ jl some. (let b = own j jl (subst (λ z. target (payload z j) ≢ 0) (sym e) some) in
@@ -170,7 +142,7 @@ module _ (W : Width) (n cycle : ℕ) (K : Name → Type 0) (blocks : Name → �
     where
       still : {y : ℕ} → IsBlack colour y → IsBlack (changed colour x (black_word cycle)) y
       still {y} b = (
-        changed_case (λ z w. w ≡ black_word cycle) colour x (black_word cycle) y
+        changed_both (λ z w. w ≡ black_word cycle) colour x (black_word cycle) y
             (λ _. refl) (λ _. b.0),
         b.1,
       )
@@ -181,21 +153,21 @@ module _ (W : Width) (n cycle : ℕ) (K : Name → Type 0) (blocks : Name → �
       → SweepColours W n cycle K blocks at (changed colour (root_block W t) v) payload
       (changed shaded t true)
   root_shaded t v tn grey apart = record {
-    kept = λ a o ka ol. changed_case (λ y w. w ≡ black_word cycle) colour (root_block W t) v
+    kept = λ a o ka ol. changed_both (λ y w. w ≡ black_word cycle) colour (root_block W t) v
         (at a o) (λ e. absurd (apart a o ka ol t tn (sym e))) (λ _. k.kept a o ka ol);
-    arrays = λ y r. changed_case (λ y w. IsDark cycle w) colour (root_block W t) v y (λ _. inl grey)
+    arrays = λ y r. changed_both (λ y w. IsDark cycle w) colour (root_block W t) v y (λ _. inl grey)
         (λ _. k.arrays y r);
-    greys = λ y. changed_case (λ y w. is_grey w ≡ true → IsShadedRoot W n (changed shaded t true) y)
+    greys = λ y. changed_both (λ y w. is_grey w ≡ true → IsShadedRoot W n (changed shaded t true) y)
         colour (root_block W t) v y
         (λ e _. (t, tn, sym e, changed_here shaded t true t refl))
         (λ _ g. (let r = k.greys y g in (
           r.0,
           r.1,
           r.2,
-          changed_case (λ u b. b ≡ true) shaded t true r.0 (λ _. refl)
+          changed_both (λ u b. b ≡ true) shaded t true r.0 (λ _. refl)
               (λ _. r.3),
         )));
-    roots = λ u un. changed_case (λ u b. b ≡ true
+    roots = λ u un. changed_both (λ u b. b ≡ true
         → is_grey (changed colour (root_block W t) v (root_block W u)) ≡ true) shaded t true u
         (λ e _. subst (λ w. is_grey w ≡ true)
         (sym (changed_here colour (root_block W t) v (root_block W u) (ap (root_block W) e)))
@@ -204,12 +176,12 @@ module _ (W : Width) (n cycle : ℕ) (K : Name → Type 0) (blocks : Name → �
         (sym (changed_else colour (root_block W t) v (root_block W u)
         (λ e. ne (one_root W t u e)))) (k.roots u un is));
     darks = λ y j d jl some. (
-        let old : IsDark cycle (colour y) = changed_case
+        let old : IsDark cycle (colour y) = changed_both
         (λ z w. IsDark cycle w → IsDark cycle (colour z)) colour (root_block W t) v y
         (λ e _. subst (λ z. IsDark cycle (colour z)) e
         (k.arrays (root_block W t) (root_in W n t tn))) (λ _ d. d) d in
         let b = k.darks y j old jl some in (
-          changed_case (λ z w. w ≡ black_word cycle) colour (root_block W t) v _
+          changed_both (λ z w. w ≡ black_word cycle) colour (root_block W t) v _
               (λ e. absurd (b.1 t tn (sym e))) (λ _. b.0),
           b.1,
         ));

@@ -14,6 +14,7 @@ use Rattle.block_store.specs.Widths.{payloads}
 use Rattle.block_store.specs.declared.Shape.TheVariants as shapes
 use Rattle.block_store.specs.Shapes.{record_word, shape_of}
 use Rattle.block_store.proofs.ColourWords.{free-black, free-white}
+use Rattle.block_store.proofs.Registers.{root_first}
 use Rattle.array_trees.specs.Levels.{tree_depth}
 use Rattle.array_trees.specs.InitialHeaps.{opening_blocks}
 use Rattle.array_trees.specs.Trees.{tree}
@@ -95,10 +96,6 @@ far (w ∷ ws) f b x h le =
     let low : w.0 < b = ltb-true _ _ p.0 in
     changed_else (painted ws f) w.0 w.1 x (λ e. omega arith) ∙ far ws f b x p.1 le
 
-one_root : (W : Width) → root_block W 0 ≡ 1
-one_root Four = refl
-one_root Eight = refl
-
 array_within : (W : Width) → (1 < array_block W) × (array_block W < 9)
 array_within Four = (omega arith, omega arith)
 array_within Eight = (omega arith, omega arith)
@@ -115,7 +112,7 @@ behind_free W x h =
 array_white : (W : Width) (x : ℕ) → 0 < x → x ≤ array_block W → NotRoot W 1 x
     → first_colours W x ≡ white_word 1
 array_white W x some low other =
-    let ne : x ≢ 1 = subst (λ y. x ≢ y) (one_root W) (other 0 (omega arith)) in
+    let ne : x ≢ 1 = subst (λ y. x ≢ y) (root_first W) (other 0 (omega arith)) in
     rw (
       ne_eqb x 0 (λ e. omega arith),
       ne_eqb x 1 ne,
@@ -150,7 +147,7 @@ pub first_are : (W : Width) → OpeningColours (one_thread W) (first_colours W)
 unfolding target reference_word number_word wide_word kind grey_word free_word black_word
     white_word tree tree_depth record_word shape_of
 first_are W = record {
-  roots = only_zero (λ t. is_grey (first_colours W (root_block W t)) ≡ true) (rw (one_root W) refl);
+  roots = only_zero (λ t. is_grey (first_colours W (root_block W t)) ≡ true) (rw (root_first W) refl);
   none = refl;
   arrays = λ x some low. array_white W x some (subst (λ n. x ≤ n) (opens W) low);
   others = λ x high.

@@ -8,18 +8,21 @@ use Rattle.block_store.specs.declared.Width.{Width}
 use Rattle.block_store.specs.Colours.{is_free, is_grey, black_word}
 use Rattle.block_store.specs.Registers.{root_block}
 use Rattle.block_store.proofs.WideWords.{one_wide}
+use Rattle.block_store.proofs.Functions.{changed_both}
+use Rattle.block_store.proofs.ColourWords.{black_grey, black_solid}
 use Rattle.never_heap.specs.Graphs.{Graph, next_name, same_name}
+use Rattle.never_heap.proofs.NameLists.{not_next}
 use Rattle.graph_relation.specs.Words.{BlockWords, value_word}
 use Rattle.graph_relation.specs.Shown.{IsValueOf, heads, Shows}
 use Rattle.graph_relation.specs.Events.{pending_registers, value_at, HasValue, ValueIs}
-use Rattle.graph_relation.proofs.Names.{not_next, is_same}
+use Rattle.graph_relation.proofs.Names.{is_same}
 use Rattle.name_invariant.specs.Building.{Build, build_blocks, IsBuild, IsBuilt, NotHeld, IsHeldOnce}
 use Rattle.name_invariant.specs.Colouring.{IfRefers, IsDark, IsColoured, IsRegisterBlock, NotRoot, IsBlockOf, Belongs, SweepColours}
 use Rattle.block_store.specs.Counts.{changed}
 use Rattle.name_invariant.specs.States.{KeptState, sizes, Known, Kept, IsKnownBlock, IsKeptBlock}
 use Rattle.name_invariant.specs.Events.{with_colour, loaded_word}
 use Rattle.name_invariant.specs.Kept.{IsKept}
-use Rattle.name_invariant.proofs.Colours.{differ, changed_case, black_solid, black_grey, painted_at}
+use Rattle.name_invariant.proofs.Colours.{differ, painted_at}
 use Rattle.name_invariant.proofs.HeldBlocks.{some_is, some_case, held_is, not_held_array, build_recoloured}
 use Rattle.name_invariant.proofs.WordTargets.{refers_same, kept_value_refers, block_behind, behind_roots}
 
@@ -180,7 +183,7 @@ module _ (c : Config) (s : KeptState) (k : IsKept c s) where
     scans = k.scans;
     marking = λ mark. (let q = k.marking mark in record {
       all = q.all;
-      roots = λ t tn. changed_case (λ y w. IsDark s.cycle w) s.colour x v
+      roots = λ t tn. changed_both (λ y w. IsDark s.cycle w) s.colour x v
           (root_block c.width t) (λ _. dark mark) (λ _. q.roots t tn);
     });
     sweeping = sweeping;
@@ -198,7 +201,7 @@ module _ (c : Config) (s : KeptState) (k : IsKept c s) where
     painted = k.painted;
     builds = k.builds;
     titles = k.titles;
-    scans = λ u un. changed_case (λ u z. z ≢ 0 → IsKnownBlock c s z) s.scans t y u (λ _. is)
+    scans = λ u un. changed_both (λ u z. z ≢ 0 → IsKnownBlock c s z) s.scans t y u (λ _. is)
         (λ _. k.scans u un);
     marking = k.marking;
     sweeping = k.sweeping;

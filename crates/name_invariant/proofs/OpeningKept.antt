@@ -9,6 +9,7 @@ use Rattle.block_store.specs.Colours.{is_free, white_word}
 use Rattle.block_store.specs.Configs.{IsInBounds}
 use Rattle.block_store.specs.Registers.{root_block, registers_end, register_thread, register_ordinal}
 use Rattle.block_store.proofs.Registers.{block_is, thread_low, ordinal_low}
+use Rattle.block_store.proofs.ColourWords.{white_solid}
 use Rattle.array_trees.specs.InitialHeaps.{opening_blocks}
 use Rattle.never_heap.specs.Graphs.{start_graph, shared_name, has_name}
 use Rattle.never_heap.specs.Reach.{reachable}
@@ -23,7 +24,7 @@ use Rattle.graph_relation.proofs.Stores.{later_last, same_names}
 use Rattle.name_invariant.specs.Colouring.{IsDark, IsColoured, IsRegisterBlock}
 use Rattle.name_invariant.specs.Kept.{IsKept}
 use Rattle.name_invariant.specs.InitialHeaps.{OpeningColours, opening_kept}
-use Rattle.name_invariant.proofs.Colours.{differ, white_solid, dark_solid, dark_not_white}
+use Rattle.name_invariant.proofs.Colours.{differ, dark_solid, dark_not_white}
 use Rattle.name_invariant.proofs.WordTargets.{root_apart, root_in, behind_roots}
 
 module _ (c : Config) (inside : IsInBounds c) (room : opening_blocks c ≤ c.blocks) (colour : ℕ → ℕ)

@@ -10,6 +10,8 @@ use Rattle.block_store.specs.Configs.{IsInBounds}
 use Rattle.block_store.specs.Payloads.{reference_word}
 use Rattle.block_store.specs.Registers.{register_block, register_slot}
 use Rattle.block_store.proofs.Registers.{register_low}
+use Rattle.block_store.proofs.Functions.{changed_both}
+use Rattle.block_store.proofs.ColourWords.{black_solid}
 use Rattle.never_heap.specs.declared.Reply.TheVariants as replies
 use Rattle.never_heap.specs.Graphs.{Graph, Object, ObjectKind, Record, Array, start_graph, mutator_at, object_of, register_of, has_name, same_name, count_of, next_name, with_register, with_object}
 use Rattle.never_heap.specs.Histories.{HistoryItem, Started, Did, IsAnswered, after, replay_from}
@@ -20,13 +22,14 @@ use Rattle.never_heap.proofs.GraphMoves.{objects_with, object_with_register, has
 use Rattle.never_heap.proofs.FieldStores.{object_with_object, count_with_object, has_name_with_object, registers_with_object}
 use Rattle.never_heap.proofs.UnchangedBySteps.{next_is_new, replay_names}
 use Rattle.never_heap.proofs.StepChanges.{with_object_threads}
+use Rattle.never_heap.proofs.NameLists.{same_itself, one_name, not_next}
 use Rattle.graph_relation.specs.Layouts.{object_blocks, kind_shape}
 use Rattle.graph_relation.specs.Made.{new_object, with_blocks, and_name, IsMade, IsWritten}
 use Rattle.graph_relation.specs.Words.{BlockWords, value_word, with_payload}
 use Rattle.graph_relation.specs.Shown.{IsValueOf, heads, Shows}
 use Rattle.graph_relation.specs.Events.{is_pending, ValueLoad, Loading, unloaded, pending_registers, ObjectIs, ValueIs, LoadIs}
 use Rattle.graph_relation.proofs.Blocks.{other_block}
-use Rattle.graph_relation.proofs.Names.{same_is, same_self, not_next, word_stays}
+use Rattle.graph_relation.proofs.Names.{word_stays}
 use Rattle.graph_relation.proofs.ObjectLayouts.{layout_laws}
 use Rattle.graph_relation.proofs.Publish.{blocks_of_new, written_shows, publish, fresh_head}
 use Rattle.graph_relation.proofs.CommandEvents.{some_map}
@@ -38,7 +41,7 @@ use Rattle.name_invariant.specs.States.{KeptState, sizes, Known, Kept, IsKnownBl
 use Rattle.name_invariant.specs.Events.{apply, build_at, made_entry, making, published, IsBuilding, HasAll}
 use Rattle.name_invariant.specs.Events.KeptEvent.{Publish}
 use Rattle.name_invariant.specs.Kept.{IsOrdered, IsOlder, IsKept}
-use Rattle.name_invariant.proofs.Colours.{differ, changed_case, changed_else, black_solid, payload_written}
+use Rattle.name_invariant.proofs.Colours.{differ, changed_else, payload_written}
 use Rattle.name_invariant.proofs.HeldBlocks.{some_case, some_more, not_held_array, build_rewritten}
 use Rattle.name_invariant.proofs.WordTargets.{refers_block, behind_roots}
 use Rattle.name_invariant.proofs.Older.{older_words, older_item, older_names, not_own, other_register}
@@ -198,7 +201,7 @@ module _ (c : Config) (inside : IsInBounds c) (s : KeptState) (k : IsKept c s) (
 
   -- the words show the grown graph
   new_kept : with_name s.kept new new ≡ true
-  new_kept = or_left _ _ (same_self new)
+  new_kept = or_left _ _ (same_itself new)
 
   shown_named : Shows c.width c.threads c.blocks More grown placed w pending
   shown_named = same_names c.width c.threads c.blocks (and_name (Kept s) new) grown placed w pending
@@ -294,7 +297,7 @@ module _ (c : Config) (inside : IsInBounds c) (s : KeptState) (k : IsKept c s) (
             | inr out ↦ out
             | inl has ↦ absurd (differ _ (subst (λ (h : Graph). has_name h a ≡ true)
                 (sym k.ordered.replayed) (started_names (start_graph c) s.order s.cycle a has))
-                (subst (λ b. has_name g b ≡ false) (same_is new a is) (next_is_new g t)))
+                (subst (λ b. has_name g b ≡ false) (one_name new a is) (next_is_new g t)))
           ]))
 
   -- the blocks of known names, and those that this builder has coloured, are of known names
@@ -316,11 +319,11 @@ module _ (c : Config) (inside : IsInBounds c) (s : KeptState) (k : IsKept c s) (
       inr (record {
         name = next_name g t;
         ordinal = o;
-        kept = or_left _ _ (same_self new);
-        low = subst (λ z. o < z) (sym (size_new new (same_self new)))
+        kept = or_left _ _ (same_itself new);
+        low = subst (λ z. o < z) (sym (size_new new (same_itself new)))
             (subst (λ b. o < build_blocks c.width b) same ol);
         is = e ∙ ap (λ (b : Build). b.held o) same
-            ∙ ap (λ (f : ℕ → ℕ). f o) (sym (place_new new (same_self new)));
+            ∙ ap (λ (f : ℕ → ℕ). f o) (sym (place_new new (same_itself new)));
       })
 
   marked_now : (x : ℕ) → IsKnownBlock c s x ⊎ IsBuilt c.width c.threads s.builds x
@@ -427,7 +430,7 @@ module _ (c : Config) (inside : IsInBounds c) (s : KeptState) (k : IsKept c s) (
           (λ o ol. black_solid s.cycle _ (new_black o ol)) k.painted.solid a o h ol;
       marked = λ x q. marked_now x (k.painted.marked x q);
     };
-    builds = λ u un. changed_case (λ _ o. IfSome o (λ b. IsBuild c.width c.threads c.blocks s.cycle
+    builds = λ u un. changed_both (λ _ o. IfSome o (λ b. IsBuild c.width c.threads c.blocks s.cycle
         s.colour words b))
         s.builds t None u (λ _. tt)
         (λ _. some_case (λ b. IsBuild c.width c.threads c.blocks s.cycle s.colour words b)
@@ -439,7 +442,7 @@ module _ (c : Config) (inside : IsInBounds c) (s : KeptState) (k : IsKept c s) (
         (λ e. not_held_array c.width c.threads c.blocks s.cycle s.colour w b q
         (register_block c.width t d)
         (register_low c.width c.threads t d building.0 small) o ol e)))));
-    titles = λ u un. changed_case (λ _ o. IfSome o (λ (b : Build). b.name ≡ next_name after_it u))
+    titles = λ u un. changed_both (λ _ o. IfSome o (λ (b : Build). b.name ≡ next_name after_it u))
         s.builds t None u (λ _. tt)
         (λ ne. some_more (λ (b : Build). b.name ≡ next_name g u)
         (λ (b : Build). b.name ≡ next_name after_it u) (s.builds u)

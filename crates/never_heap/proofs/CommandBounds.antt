@@ -1,12 +1,16 @@
 -- A command in the bounds of a configuration is in range.
-use Rattle.std.proofs.Common.{◌≡◌, ◌≤◌, ◌↔◌, List, [], ◌∷◌, None, sym, subst, arith}
+use Rattle.std.proofs.Common.{◌≡◌, ◌≤◌, ◌↔◌, List, [], ◌∷◌, None, sym, subst, arith, ℕ, ◌-◌, length, get_or, inl, inr, ◌<◌, ◌^◌, map}
+use Rattle.std.proofs.lemmas.Bool.{cases_lt}
+use Rattle.std.proofs.lemmas.List.{get_or_past}
+use Rattle.std.proofs.lemmas.List.Elements.{All-from_recursion}
 use Rattle.std.specs.List.{AllByRecursion}
 use Rattle.block_store.specs.declared.Config.{Config}
 use Rattle.never_heap.specs.declared.Command.{Command}
 use Rattle.never_heap.specs.Bounds.{IsCommandInBounds, IsCommandInRange}
 use Rattle.never_heap.specs.RightWork.{units_told}
-use Rattle.never_heap.specs.Signatures.{Operand, Length, Each, IsInRange, IsOfVersion, object_in, operands, signature}
+use Rattle.never_heap.specs.Signatures.{Operand, Length, Each, IsInRange, IsOfVersion, object_in, operands, signature, Register, value_of}
 use Rattle.never_heap.specs.Steps.{blocks_in, blocks_of, length_in, length_made, object_made}
+use Rattle.never_heap.specs.declared.Command.TheVariants as commands
 
 pub in_range : (c : Config) (command : Command) → IsCommandInBounds c command
     → IsCommandInRange command
@@ -66,3 +70,28 @@ plain_fits {c} {k} none untold version range = record {
   units = omega (arith, untold);
   version = version;
 }
+
+-- an object takes no more blocks than one object may
+pub blocks_low : (c : Config) (k : Command) → IsCommandInBounds c k → blocks_of c.width k ≤ c.object
+blocks_low c k h = h.blocks
+
+-- a command is told of few units
+pub told_low : (c : Config) (k : Command) → IsCommandInBounds c k → units_told k ≤ 131070
+told_low c k h = h.units
+
+-- the command at any place of a trace is in bounds, and so is what stands for none
+pub bounds_at : (c : Config) (ks : List Command) (i : ℕ) → AllByRecursion (IsCommandInBounds c) ks → IsCommandInBounds c (get_or ks i (commands.Nil 0))
+bounds_at c ks i all = elim (cases_lt i (length ks)) [
+  | inl low ↦ All-from_recursion (IsCommandInBounds c) ks all i (commands.Nil 0) low
+  | inr out ↦ subst (λ k. IsCommandInBounds c k) (sym (get_or_past ks i (commands.Nil 0) out)) (record { range = omega arith; blocks = omega arith; units = omega arith; version = tt })
+]
+
+-- the numbers of a command in range are below 2 ^ 62
+pub operand_low : (o : Operand) → IsInRange o → value_of o < 2 ^ 62
+operand_low (Register role r) h = omega (arith, h)
+operand_low _ h = omega (arith, h)
+
+pub operands_low : (os : List Operand) → AllByRecursion IsInRange os
+    → AllByRecursion (λ n. n < 2 ^ 62) (map value_of os)
+operands_low [] h = tt
+operands_low (o ∷ os) h = (operand_low o h.0, operands_low os h.1)

@@ -5,12 +5,14 @@ use Rattle.std.proofs.lemmas.List.{append-nil}
 use Rattle.block_store.specs.declared.Config.{Config}
 use Rattle.block_store.specs.declared.Width.{Width}
 use Rattle.never_heap.specs.declared.Entry.{Entry}
-use Rattle.never_heap.specs.Histories.{HistoryItem, Started, Did, replay, starts_in}
+use Rattle.never_heap.specs.Histories.{HistoryItem, Started, Did, replay, starts_in, after, replay_from}
 use Rattle.never_heap.specs.Cycles.{before_start, after_start, graph_at}
 use Rattle.never_heap.specs.Given.{given}
 use Rattle.never_heap.specs.Licensed.{IsLicensedItem, LicensedFrom, Licensed}
 use Rattle.never_heap.specs.RightWork.{IsRightWork, RightWork}
-use Rattle.never_heap.specs.Taken.{taken_by, taken_in}
+use Rattle.never_heap.specs.Taken.{taken_by, taken_in, blocks_if_new}
+use Rattle.never_heap.specs.Graphs.{Graph}
+use Rattle.never_heap.specs.declared.Reply.{Reply}
 use Rattle.never_heap.proofs.HistoryGrowth.{taken_append, starts_append}
 
 -- right work
@@ -158,3 +160,27 @@ after_next (Did x ∷ h) c e = after_next h c e
 pub given_none : (w : Width) (h : List HistoryItem)
     → given w (h ++ Started ∷ []) (starts_in h + 1) ≡ 0
 given_none w h = ap (λ t. taken_in w (before_start 1 t)) (after_next h (starts_in h + 1) refl)
+
+-- a history splits at the start of a cycle
+pub replay_parts : (g : Graph) (h : List HistoryItem) (z : ℕ) → 1 ≤ z → z ≤ starts_in h
+    → replay_from g h ≡ replay_from (replay_from g (before_start z h)) (after_start z h)
+replay_parts g [] z l m = absurd (omega arith)
+replay_parts g (Started ∷ h) z l m = elim (cases_eq z 1) [
+  | inl e ↦ rw (eq-eqb z 1 e) refl
+  | inr ne ↦ rw (ne_eqb z 1 ne) (replay_parts g h (z - 1) (omega arith) (omega arith))
+]
+replay_parts g (Did e ∷ h) z l m = replay_parts (after g (Did e)) h z l m
+
+-- a reply takes nothing where its command has no blocks
+pub taken_none : (r : Reply) (k : ℕ) → k ≡ 0 → blocks_if_new r k ≡ 0
+taken_none (Rattle.never_heap.specs.declared.Reply.TheVariants.New a) k e = e
+taken_none _ k e = refl
+
+-- no cycle has the number 0
+pub after_nought : (h : List HistoryItem) → after_start 0 h ≡ []
+after_nought [] = refl
+after_nought (Started ∷ h) = after_nought h
+after_nought (Did e ∷ h) = after_nought h
+
+pub given_nought : (w : Width) (h : List HistoryItem) → given w h 0 ≡ 0
+given_nought w h = ap (λ k. taken_in w (before_start 1 k)) (after_nought h)

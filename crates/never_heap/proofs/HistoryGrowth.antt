@@ -57,3 +57,20 @@ pub taken_append : (w : Width) (h k : List HistoryItem)
 taken_append w [] k = sym (zero-add (taken_in w k))
 taken_append w (Started ∷ h) k = taken_append w h k
 taken_append w (Did e ∷ h) k = omega (arith, taken_append w h k)
+
+-- a replay goes on by what comes
+pub replay_append : (g : Graph) (h k : List HistoryItem)
+    → replay_from g (h ++ k) ≡ replay_from (replay_from g h) k
+replay_append g [] k = refl
+replay_append g (x ∷ h) k = replay_append (after g x) h k
+
+-- the legal items behind some of them
+pub legal_back : (g : Graph) (h k : List HistoryItem) → LegalFrom g (h ++ k)
+    → LegalFrom (replay_from g h) k
+legal_back g [] k l = l
+legal_back g (x ∷ h) k l = legal_back (after g x) h k l.1
+
+pub legal_from : (c : Config) (h : List HistoryItem) → Legal c h → LegalFrom (start_graph c) h
+legal_from c [] l = absurd l
+legal_from c (Started ∷ h) l = (tt, l)
+legal_from c (Did e ∷ h) l = absurd l

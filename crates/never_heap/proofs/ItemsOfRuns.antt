@@ -1,8 +1,8 @@
 -- Which items may come in a run: each that comes, and no run comes of others.
-use Rattle.std.proofs.Common.{◌≡◌, ◌≢◌, ℕ, zero, suc, inl, inr, List, [], ◌∷◌, ◌++◌, length, map, drop, slice_index_or, eq-eqb, ne_eqb, sym, refl, ap, ◌∙◌, subst, append_assoc, append-nil, length-append, arith}
-use Rattle.std.proofs.lemmas.Bool.{cases_eq}
+use Rattle.std.proofs.Common.{◌≡◌, ◌≢◌, ℕ, zero, suc, inl, inr, List, [], ◌∷◌, ◌++◌, length, map, drop, slice_index_or, eq-eqb, ne_eqb, sym, refl, ap, ◌∙◌, subst, append_assoc, append-nil, length-append, arith, ◌-◌, ◌<◌, ◌≤◌}
+use Rattle.std.proofs.lemmas.Bool.{cases_eq, cases_lt}
 use Rattle.std.proofs.Math.Seq.{drop-append_seam}
-use Rattle.std.proofs.lemmas.List.{map-append}
+use Rattle.std.proofs.lemmas.List.{map-append, get_or_past}
 use Rattle.block_store.specs.declared.Config.{Config}
 use Rattle.block_store.specs.declared.Width.{Width}
 use Rattle.never_heap.specs.declared.Command.{Command}
@@ -14,7 +14,7 @@ use Rattle.never_heap.specs.Readback.{commands_in}
 use Rattle.never_heap.specs.RightWork.{IsRightWork, RightWork}
 use Rattle.never_heap.specs.Runs.{IsRun}
 use Rattle.never_heap.specs.Coming.{left_of, IsNext, MayCome, AllMayCome}
-use Rattle.never_heap.proofs.HistoryGrowth.{replay_more, part_append}
+use Rattle.never_heap.proofs.HistoryGrowth.{replay_more, part_append, legal_from}
 
 pub no_end : (past : List HistoryItem) (i : HistoryItem) → past ++ i ∷ [] ≢ []
 no_end [] i e = cc
@@ -99,11 +99,6 @@ next_is traces past (Did e) h whole =
     )
 
 -- ---- each item of a run may come
-
-legal_from : (c : Config) (h : List HistoryItem) → Legal c h → LegalFrom (start_graph c) h
-legal_from c [] l = absurd l
-legal_from c (Started ∷ h) l = (tt, l)
-legal_from c (Did e ∷ h) l = absurd l
 
 legal_at : (g : Graph) (past : List HistoryItem) (i : HistoryItem) (rest : List HistoryItem)
     → LegalFrom g (past ++ i ∷ rest) → IsAnswered (replay_from g past) i
@@ -208,3 +203,23 @@ module _ (c : Config) (rate : ℕ) (traces : List (List Command)) where
         licensed = all_go.licensed;
         right_work = all_go.right_work;
       }
+
+-- a thread that there is not has no command left
+pub drop_none : (n : ℕ) → drop {A = Command} n [] ≡ []
+drop_none zero = refl
+drop_none (suc n) = refl
+
+pub no_thread : (traces : List (List Command)) (past : List HistoryItem) (t : ℕ)
+    → length traces ≤ t → left_of traces past t ≡ []
+no_thread traces past t few =
+    ap (λ (l : List Command). drop (length (part t past)) l) (get_or_past traces t [] few)
+    ∙ drop_none (length (part t past))
+
+pub thread_low : (traces : List (List Command)) (past : List HistoryItem) (t : ℕ)
+    (command : Command) (rest : List Command)
+    → left_of traces past t ≡ command ∷ rest → t < length traces
+thread_low traces past t command rest next = elim (cases_lt t (length traces)) [
+  | inl l ↦ l
+  | inr l ↦ absurd (let none = no_thread traces past t l in
+      let e : [] ≡ command ∷ rest = sym none ∙ next in cc)
+]

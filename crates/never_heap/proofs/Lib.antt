@@ -21,9 +21,12 @@ pub mod OneHistory
 pub mod ItemsOfRuns
 pub mod RunInduction
 pub mod LiveBlocksBound
+pub mod LiveGrows
 pub mod OpeningLiveBlocks
 pub mod Once
 pub mod Readback
 pub mod TraceOrder
 pub mod LiveScan
 pub mod Stamps
+pub mod Effects
+pub mod PartLogs

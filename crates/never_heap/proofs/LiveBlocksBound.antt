@@ -166,3 +166,9 @@ within w g some closed =
     (reachable_within g (is_among some) a closed)) in
     let all = among_all of g some in
     omega arith
+
+-- what the live blocks are a sum of
+pub live_sum : (w : Width) (g : Graph)
+    → live_blocks w g ≡ registers_end w (length g.mutators) + sum_by (live_of w g) (names g)
+unfolding live_blocks
+live_sum w g = refl

@@ -1,13 +1,13 @@
 -- The list of names, and names in lists of values.
 use Rattle.std.proofs.Common.{ℕ, zero, suc, ◌+◌, ◌-◌, ◌≡◌, ◌<◌, ◌≤◌, Bool, true, false, eqb, List, [], ◌∷◌, ◌++◌, length, get_or, ap, sym, ◌∙◌, refl, subst, arith, inl, inr, add-one, length-append}
 use Rattle.std.specs.List.{list_any}
-use Rattle.std.proofs.lemmas.Bool.{cases_eq, cases_lt, or_cases, or_left, or_right, and_parts, eqb-true}
+use Rattle.std.proofs.lemmas.Bool.{cases_eq, cases_lt, or_cases, or_left, or_right, and_parts, eqb-true, cases_Bool}
 use Rattle.std.proofs.lemmas.List.{get_or_default, length_push, get_or_push, get_or_append_left, get_or_past}
 use Rattle.std.proofs.lemmas.List.Folds.{list_any_at, list_any-append}
 use Rattle.block_store.specs.declared.Name.{Name}
 use Rattle.block_store.specs.declared.Value.{Value}
 use Rattle.block_store.specs.declared.Value.TheVariants.{Nil, Int, Ref}
-use Rattle.never_heap.specs.Graphs.{Graph, Mutator, no_mutator, same_name, shared_name, count_of, has_name}
+use Rattle.never_heap.specs.Graphs.{Graph, Mutator, no_mutator, same_name, shared_name, count_of, has_name, next_name}
 use Rattle.never_heap.specs.Reach.{refers, stands_in, thread_names, names_below, names}
 use Rattle.never_heap.proofs.GraphMoves.{name_of_shared, name_of_thread, thread_of_name, same_from}
 
@@ -151,3 +151,30 @@ count_step g t n m ms there is same count =
     (names_below g t ++ thread_names t n) there is same count refl refl))
     ∙ length-append (names_below g t) (thread_names t n)
     ∙ ap (λ k. length (names_below g t) + k) (length_of_thread t n)
+
+-- names that are the same have the same parts
+pub same_parts : (a b : Name) → same_name a b ≡ true → (a.thread ≡ b.thread) × (a.serial ≡ b.serial)
+same_parts a b h = let p = and_parts (eqb a.thread b.thread) (eqb a.serial b.serial) h in
+    (eqb-true _ _ p.0, eqb-true _ _ p.1)
+
+-- a name of the graph is not the next one
+pub not_next : (g : Graph) (t : ℕ) (b : Name) → has_name g b ≡ true
+    → same_name (next_name g t) b ≡ false
+not_next g t b h = elim (cases_Bool (same_name (next_name g t) b)) [
+  | inr e ↦ e
+  | inl e ↦
+      let p = same_parts (next_name g t) b e in
+      let few : b.serial ≤ count_of g b.thread =
+      name_of_thread g b (λ z. absurd (omega (arith, p.1))) h in
+      let more : count_of g b.thread ≡ count_of g t = ap (λ k. count_of g k) (sym p.0) in
+      absurd (omega (arith, p.1))
+]
+
+-- a reference has one name
+pub name_of_ref : Value → Name → Name
+name_of_ref (Ref a) b = a
+name_of_ref v b = b
+
+pub ref_name : (a b : Name) → Ref a ≡ Ref b → a ≡ b
+unfolding name_of_ref
+ref_name a b e = ap (λ v. name_of_ref v a) e

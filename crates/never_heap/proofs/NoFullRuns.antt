@@ -1,5 +1,5 @@
 -- A run whose cycles all begin with few live blocks has no full.
-use Rattle.std.proofs.Common.{◌+◌, ◌≡◌, ◌≤◌, false, List, [], ◌∷◌, ◌++◌, sym, refl, subst, arith, append_assoc}
+use Rattle.std.proofs.Common.{◌+◌, ◌≡◌, ◌≤◌, false, List, [], ◌∷◌, ◌++◌, sym, refl, subst, arith, append_assoc, ◌-◌}
 use Rattle.block_store.specs.declared.Config.{Config}
 use Rattle.never_heap.specs.declared.Reply.{Reply}
 use Rattle.never_heap.specs.declared.Reply.TheVariants.{New, Full, Stored, Val, Len, Yes, No, Null, Kind, Range, Idle}
@@ -54,3 +54,9 @@ pub none_full : (c : Config) (h : List HistoryItem) → Legal c h → Licensed c
 none_full c [] legal l few = tt
 none_full c (Started ∷ h) legal l few = none_from c (Started ∷ []) h (omega arith) few l.1
 none_full c (Did e ∷ h) legal l few = absurd legal
+
+-- a reply that is no full needs no licence
+pub needs_no_licence : (c : Config) (past : List HistoryItem) (r : Reply) → is_full r ≡ false
+    → IsLicensedReply c past r
+needs_no_licence c past (Full z) e = absurd cc
+needs_no_licence c past _ e = tt

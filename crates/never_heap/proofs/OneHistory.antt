@@ -24,25 +24,25 @@ tag items.Start = 0
 tag (items.Entry t) = 1
 
 -- the part of an entry's own thread begins with it, and no other part has it
-own : (e : Entry) (h : List HistoryItem) (t : ℕ) → e.thread ≡ t → part t (Did e ∷ h) ≡ e ∷ part t h
-own e h t same = ap (λ b. cond b (e ∷ part t h) (part t h)) (eq-eqb e.thread t same)
+pub own_part : (e : Entry) (h : List HistoryItem) (t : ℕ) → e.thread ≡ t → part t (Did e ∷ h) ≡ e ∷ part t h
+own_part e h t same = ap (λ b. cond b (e ∷ part t h) (part t h)) (eq-eqb e.thread t same)
 
-other : (e : Entry) (h : List HistoryItem) (t : ℕ) → (e.thread ≡ t → ⊥)
+pub other_part : (e : Entry) (h : List HistoryItem) (t : ℕ) → (e.thread ≡ t → ⊥)
     → part t (Did e ∷ h) ≡ part t h
-other e h t differ = ap (λ b. cond b (e ∷ part t h) (part t h)) (ne_eqb e.thread t differ)
+other_part e h t differ = ap (λ b. cond b (e ∷ part t h) (part t h)) (ne_eqb e.thread t differ)
 
 abbrev pub Parts : List HistoryItem → List HistoryItem → Type 0
 Parts h k = (t : ℕ) → part t h ≡ part t k
 
 heads : (e f : Entry) (h k : List HistoryItem) → e.thread ≡ f.thread
     → Parts (Did e ∷ h) (Did f ∷ k) → e ∷ part f.thread h ≡ f ∷ part f.thread k
-heads e f h k same parts = sym (own e h f.thread same) ∙ parts f.thread ∙ own f k f.thread refl
+heads e f h k same parts = sym (own_part e h f.thread same) ∙ parts f.thread ∙ own_part f k f.thread refl
 
 tails : (e f : Entry) (h k : List HistoryItem) → e.thread ≡ f.thread
     → Parts (Did e ∷ h) (Did f ∷ k) → Parts h k
 tails e f h k same parts t = elim (cases_eq f.thread t) [
-  | inl is ↦ ap others (sym (own e h t (same ∙ is)) ∙ parts t ∙ own f k t is)
-  | inr not ↦ sym (other e h t (λ is. not (sym same ∙ is))) ∙ parts t ∙ other f k t not
+  | inl is ↦ ap others (sym (own_part e h t (same ∙ is)) ∙ parts t ∙ own_part f k t is)
+  | inr not ↦ sym (other_part e h t (λ is. not (sym same ∙ is))) ∙ parts t ∙ other_part f k t not
 ]
 
 pub one_history : (h k : List HistoryItem) → map item_of h ≡ map item_of k → Parts h k → h ≡ k

@@ -17,13 +17,14 @@ use Rattle.never_heap.specs.Reach.{refers}
 use Rattle.never_heap.specs.Steps.{step, made, at_field, makes_object}
 use Rattle.never_heap.specs.Readback.{stored_by, StoresIn, NoneStores, IsLastStore, IsLastStored}
 use Rattle.never_heap.proofs.FieldStores.{object_with_field, object_with_object}
-use Rattle.never_heap.proofs.HistoryGrowth.{replay_more, legal_front}
+use Rattle.never_heap.proofs.HistoryGrowth.{replay_more, legal_front, replay_append, legal_back, legal_from}
 use Rattle.never_heap.proofs.NameLists.{one_name, same_itself, refers-ref, ref-refers}
 use Rattle.never_heap.proofs.ReachSteps.{nil_of}
 use Rattle.never_heap.proofs.StartGraph.{object_of_start}
 use Rattle.never_heap.proofs.Outcomes.{Outcome, unchanged, in_register, in_field, in_both, new_object, outcome_of}
 use Rattle.never_heap.proofs.StepChanges.{has_field}
 use Rattle.never_heap.proofs.UnchangedBySteps.{past_with, next_is_new, register_object, field_at, put_apart, replay_shape}
+use Rattle.never_heap.proofs.StepAnswers.{answered_by_step}
 
 -- a field of a name that the graph has not is nil
 field_of_none : (g : Graph) (a : Name) (i : ℕ) → has_name g a ≡ false → field_at g a i ≡ Nil
@@ -141,12 +142,6 @@ does g t k _ (in_both q j u b e l to at makes by) s i w a told f =
 does g t k _ (new_object d kind n is to at by) s i w a told f =
     absurd (let both : None ≡ Some (s, (i, w)) = sym (by _) ∙ told in cc)
 
--- a reply that is no full comes of the step, and so does the graph
-answered : (g : Graph) (e : Entry) → IsAnswered g (Did e) → is_full e.reply ≡ false
-    → e.reply ≡ (step g e.thread e.command).1
-answered g e (inl same) unfull = same
-answered g e (inr full) unfull = absurd (let both : true ≡ false = sym full.0 ∙ unfull in cc)
-
 stepped : (g : Graph) (e : Entry) → is_full e.reply ≡ false
     → after g (Did e) ≡ (step g e.thread e.command).0
 stepped g e unfull = ap (λ b. cond b g (step g e.thread e.command).0) unfull
@@ -166,7 +161,7 @@ module _ (g : Graph) (e : Entry) (a : Name) (i : ℕ) (v : Value) (s : StoresIn 
 
   stores : Stores g e.thread (step g e.thread e.command).0 a i s.w
   stores = does g e.thread e.command _ (outcome_of g e.thread e.command) s.s i s.w a
-      (ap (stored_by e.command) (sym (answered g e ok not_full)) ∙ s.stored) s.object
+      (ap (stored_by e.command) (sym (answered_by_step g e ok not_full)) ∙ s.stored) s.object
 
   pub store_there : i < length (object_of g a).fields
   store_there = stores.there
@@ -185,7 +180,7 @@ no_store g e a i ok none = elim (cases_Bool (is_full e.reply)) [
       none (register_of g e.thread w) (record {
         s = s;
         w = w;
-        stored = ap (stored_by e.command) (answered g e ok n) ∙ told;
+        stored = ap (stored_by e.command) (answered_by_step g e ok n) ∙ told;
         object = object;
         value = refl;
       }))
@@ -201,22 +196,6 @@ none_stored g (Did x ∷ h) a i legal none =
     none_stored (after g (Did x)) h a i legal.1
     (λ b s e v is. none (Did x ∷ b) s e v (ap (λ k. Did x ∷ k) is))
     ∙ no_store g x a i legal.0 (λ v. none [] h x v refl)
-
--- the legal items behind some of them
-pub legal_back : (g : Graph) (h k : List HistoryItem) → LegalFrom g (h ++ k)
-    → LegalFrom (replay_from g h) k
-legal_back g [] k l = l
-legal_back g (x ∷ h) k l = legal_back (after g x) h k l.1
-
-pub legal_from : (c : Config) (h : List HistoryItem) → Legal c h → LegalFrom (start_graph c) h
-legal_from c [] l = absurd l
-legal_from c (Started ∷ h) l = (tt, l)
-legal_from c (Did e ∷ h) l = absurd l
-
-replay_append : (g : Graph) (h k : List HistoryItem)
-    → replay_from g (h ++ k) ≡ replay_from (replay_from g h) k
-replay_append g [] k = refl
-replay_append g (x ∷ h) k = replay_append (after g x) h k
 
 -- what stands in a field after a store there, and items of which none stores there
 since_store : (g : Graph) (store : Entry) (since : List HistoryItem) (a : Name) (i : ℕ) (v : Value)

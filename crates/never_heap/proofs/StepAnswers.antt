@@ -1,5 +1,5 @@
 -- What a step answers, and which commands have blocks.
-use Rattle.std.proofs.Common.{ℕ, Option, Some, None, is_some, ◌+◌, ◌*◌, ◌≡◌, ◌<◌, ◌⊎◌, Bool, true, false, inl, inr, ap, ◌∙◌, length, refl, arith}
+use Rattle.std.proofs.Common.{ℕ, Option, Some, None, is_some, ◌+◌, ◌*◌, ◌≡◌, ◌<◌, ◌⊎◌, Bool, true, false, inl, inr, ap, ◌∙◌, length, refl, arith, sym}
 use Rattle.std.proofs.lemmas.Bool.{cases_Bool}
 use Rattle.array_trees.specs.Trees.{leaves}
 use Rattle.array_trees.proofs.Counts.{le-tree}
@@ -11,10 +11,11 @@ use Rattle.never_heap.specs.declared.Command.TheVariants as commands
 use Rattle.never_heap.specs.declared.Reply.{Reply}
 use Rattle.never_heap.specs.declared.Reply.TheVariants as replies
 use Rattle.never_heap.specs.Graphs.{Graph, ObjectKind, Record, Array, count_of, next_name}
-use Rattle.never_heap.specs.Histories.{is_full}
+use Rattle.never_heap.specs.Histories.{is_full, Did, IsAnswered}
 use Rattle.never_heap.specs.LiveBlocks.{blocks_of_kind}
 use Rattle.never_heap.specs.RightWork.{units_told, units_owed}
 use Rattle.never_heap.specs.Steps.{step, blocks_of, blocks_in, makes_object, object_made}
+use Rattle.never_heap.specs.declared.Entry.{Entry}
 use Rattle.never_heap.proofs.Outcomes.{Told, plain, held, is_plain, Outcome, unchanged, in_register, in_field, in_both, new_object, outcome_of}
 use Rattle.never_heap.proofs.UnchangedBySteps.{step_made}
 
@@ -119,3 +120,9 @@ blocks_answer w g t command some = makers_answer g t command (blocks_make w comm
 pub blocks_count : (w : Width) (g : Graph) (t : ℕ) (command : Command) → 0 < blocks_of w command
     → t < length g.mutators → count_of (step g t command).0 t ≡ count_of g t + 1
 blocks_count w g t command some = step_made g t command (blocks_make w command some)
+
+-- a reply that is no full comes of the step
+pub answered_by_step : (g : Graph) (e : Entry) → IsAnswered g (Did e) → is_full e.reply ≡ false
+    → e.reply ≡ (step g e.thread e.command).1
+answered_by_step g e (inl same) unfull = same
+answered_by_step g e (inr full) unfull = absurd (let both : true ≡ false = sym full.0 ∙ unfull in cc)

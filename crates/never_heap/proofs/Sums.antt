@@ -28,7 +28,8 @@ sum_same f h (x ∷ xs) all =
     ∙ ap (λ k. h x + k) (sum_same f h xs (λ k d l. all (suc k) d (omega arith)))
     ∙ sym (sum_by-cons h x xs)
 
-has_serial : (g : Graph) (t s : ℕ) → s < count_of g t
+-- the names of a thread are those of its objects
+pub has_serial : (g : Graph) (t s : ℕ) → s < count_of g t
     → has_name g (record { thread = t; serial = s + 1 }) ≡ true
 has_serial g t s l = ap (λ b. cond b (eqb t (length g.mutators)) (leb (s + 1) (count_of g t)))
     (ne_eqb (s + 1) 0 (λ e. absurd (omega arith))) ∙ le-leb (s + 1) (count_of g t) (omega arith)

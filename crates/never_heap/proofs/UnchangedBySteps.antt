@@ -1,6 +1,6 @@
 -- What stays over a step and over a replay: names, with the kind and length of their objects, and
 -- what no command stored in.
-use Rattle.std.proofs.Common.{ℕ, ◌+◌, ◌≡◌, ◌<◌, ◌≤◌, Bool, true, false, Option, Some, None, cond, eqb, leb, List, [], ◌∷◌, length, set, get_or, ap, sym, ◌∙◌, refl, subst, arith, inl, inr, eq-eqb, ne_eqb}
+use Rattle.std.proofs.Common.{ℕ, ◌+◌, ◌≡◌, ◌<◌, ◌≤◌, Bool, true, false, Option, Some, None, cond, eqb, leb, List, [], ◌∷◌, length, set, get_or, ap, sym, ◌∙◌, refl, subst, arith, inl, inr, eq-eqb, ne_eqb, ◌-◌}
 use Rattle.std.proofs.lemmas.Bool.{cases_eq, cases_lt, cases_Bool, both_ways, or_right, lt-leb, eqb-false}
 use Rattle.std.proofs.lemmas.List.{length-set, set_past, get_or_past, get_or-set_other}
 use Rattle.block_store.specs.declared.Name.{Name}
@@ -12,18 +12,18 @@ use Rattle.never_heap.specs.Graphs.{SameShape, Graph, Mutator, Object, no_mutato
 use Rattle.never_heap.specs.Histories.{HistoryItem, Started, Did, is_full, after, replay_from}
 use Rattle.never_heap.specs.Signatures.{operands, destination_in}
 use Rattle.never_heap.specs.Steps.{step, made, makes_object, is_register, stores_in, stored_at}
-use Rattle.never_heap.proofs.GraphMoves.{mutator_with, object_with_register, has_name_with_register}
+use Rattle.never_heap.proofs.GraphMoves.{mutator_with, object_with_register, has_name_with_register, sixteen_with_register}
 use Rattle.never_heap.proofs.FieldStores.{object_with_field, has_name_with_field, object_with_object, has_name_with_object, registers_with_field, registers_with_object}
 use Rattle.never_heap.proofs.NameLists.{one_name}
 use Rattle.never_heap.proofs.Outcomes.{Outcome, unchanged, in_register, in_field, in_both, new_object, outcome_of}
-use Rattle.never_heap.proofs.StepChanges.{Change, none, store, put, swap, make, change_of, has_field, with_object_threads, threads_put, count_stays, made_count}
+use Rattle.never_heap.proofs.StepChanges.{Change, none, store, put, swap, make, change_of, has_field, with_object_threads, threads_put, count_stays, made_count, step_threads}
 
 -- a thread that there is not changes nothing
 pub past_with : (g : Graph) (t : ℕ) (m : Mutator) → length g.mutators ≤ t → with_mutator g t m ≡ g
 past_with g t m l = ap (λ (ms : List Mutator). let h
     : Graph = record { shared = g.shared; mutators = ms } in h) (set_past g.mutators t m l)
 
-past_register : (g : Graph) (t r : ℕ) → length g.mutators ≤ t → register_of g t r ≡ Nil
+pub past_register : (g : Graph) (t r : ℕ) → length g.mutators ≤ t → register_of g t r ≡ Nil
 past_register g t r l = ap (λ (m : Mutator). get_or m.registers r Nil)
     (get_or_past g.mutators t no_mutator l)
 
@@ -377,3 +377,43 @@ made_after g t k _ (new_object d kind size is to at by) makes there = made_count
 pub step_made : (g : Graph) (t : ℕ) (command : Command) → makes_object command ≡ true
     → t < length g.mutators → count_of (step g t command).0 t ≡ count_of g t + 1
 step_made g t command = made_after g t command _ (outcome_of g t command)
+
+-- a thread has as many registers as before
+abbrev pub registers_in : Graph → ℕ → ℕ
+registers_in g u = length (mutator_at g u).registers
+
+pub same_registers : (g : Graph) (t u : ℕ) (new : Bool) (h : Graph) → t < length g.mutators
+    → Change g t new h → registers_in h u ≡ registers_in g u
+same_registers g t u new _ there none = refl
+same_registers g t u new _ there (store d v s) = sixteen_with_register g t d u v there
+same_registers g t u new _ there (put s i v a e l) =
+    ap length (registers_with_field g a i (register_of g t v) (has_field g a i l) u)
+same_registers g t u new _ there (swap s i v a e l) =
+    sixteen_with_register (with_field g a i (register_of g t v)) t v u
+    (field_of (object_of g a) i) (omega (arith, there, threads_put g a i (register_of g t v) l))
+    ∙ ap length (registers_with_field g a i (register_of g t v) (has_field g a i l) u)
+same_registers g t u new _ there (make d o n e y) =
+    sixteen_with_register (with_object g t o) t d u (Ref (next_name g t))
+    (omega (arith, there, with_object_threads g t o))
+    ∙ ap length (registers_with_object g t o there u)
+
+pub step_registers : (g : Graph) (t : ℕ) (k : Command) (u : ℕ)
+    → registers_in (step g t k).0 u ≡ registers_in g u
+step_registers g t k u = elim (cases_lt t (length g.mutators)) [
+  | inl there ↦ same_registers g t u (makes_object k) (step g t k).0 there (change_of g t k)
+  | inr past ↦ ap (λ h. registers_in h u) (step_past g t k past)
+]
+
+-- a replay leaves the threads
+pub threads_of_replay : (g : Graph) (h : List HistoryItem)
+    → length (replay_from g h).mutators ≡ length g.mutators
+threads_of_replay g h = replay_keeps (λ k. length k.mutators ≡ length g.mutators)
+    (λ k t q e. step_threads k t q ∙ e) h g refl
+
+-- a thread with a reference in a register is one of the heap's
+pub thread_of : (g : Graph) (t d : ℕ) (a : Name) → register_of g t d ≡ Ref a
+    → t < length g.mutators
+thread_of g t d a e = elim (cases_lt t (length g.mutators)) [
+  | inl low ↦ low
+  | inr high ↦ (let none : Nil ≡ Ref a = sym (past_register g t d high) ∙ e in absurd cc)
+]

@@ -33,6 +33,12 @@ pub fn live_blocks_are_few()
         registers_end w (length g.mutators) + sum_by (λ a. object_blocks w (object_of g a)) some }
 {}
 
+/// Reachable blocks grow at allocations alone, and by at most the blocks that are made.
+pub fn live_grows()
+    ensures { (w : Width) (g : Graph) (t : ℕ) (command : Command)
+        → live_blocks w (step g t command).0 ≤ live_blocks w g + blocks_of w command }
+{}
+
 /// All blocks that the opening has given are live.
 pub fn opening_blocks_are_live()
     ensures { (c : Config) → IsInBounds c → live_blocks c.width (start_graph c) ≡ opening_blocks c }

@@ -24,8 +24,8 @@ use array_trees::blocks_of_array;
 use block_store::{Config, Name, REGISTERS, Value, Width};
 pub use graph::Graph;
 pub use laws::{
-    live_blocks_are_few, names_stay, opening_blocks_are_live, reach_grows_by_new_objects,
-    reachable_is_least, steps_answer, steps_leave,
+    live_blocks_are_few, live_grows, names_stay, opening_blocks_are_live,
+    reach_grows_by_new_objects, reachable_is_least, steps_answer, steps_leave,
 };
 pub use live::Scan;
 use object_lists::blocks_of_record;
@@ -36,7 +36,6 @@ pub use run_laws::{
     blocks_are_given, cycles_start, fulls_need_live_blocks, orders_make_one_history,
     runs_are_items_that_may_come, runs_are_walked, runs_grow,
 };
-use std::sync::Wait;
 
 /// Numbers and indexes are below this.
 pub const NUMBERS: u64 = 1 << 62;
@@ -234,21 +233,6 @@ pub trait Logs {
     /// How many units of marking and sweeping were made.
     fn units(&self) -> u64
         ensures { result ≡ unit_count self.now };
-}
-
-/// Is told of each command before its first event, outside the gate. By it a test makes threads
-/// meet.
-pub trait Pace: Sync {
-    /// Before the command of this number, from 0, of a thread.
-    fn before<R: Wait>(&self, rt: &R, thread: u32, command: u64);
-}
-
-/// Does nothing before a command.
-#[derive(Clone, Copy, Debug)]
-pub struct NoPace;
-
-impl Pace for NoPace {
-    fn before<R: Wait>(&self, _rt: &R, _thread: u32, _command: u64) {}
 }
 
 /// Replay goes on by one item at the end, a legal history goes on by an item that is answered on

@@ -4,7 +4,7 @@ use Rattle.std.specs.Prelude.{flat_map}
 use Rattle.std.proofs.lemmas.List.{drop-map}
 use Rattle.never_heap.specs.declared.Command.{Command}
 use Rattle.never_heap.specs.declared.Entry.{Entry}
-use Rattle.operations.proofs.PartLogs.{replies}
+use Rattle.never_heap.proofs.PartLogs.{replies}
 use Rattle.number_rings.specs.Rings.{Operation, Recall, Cell, rows_of, command_at, ring_place, recalls, number_of, with_number, numbers_told}
 
 abbrev pub commands_of : List Operation → List Command

@@ -1,3 +1,4 @@
 pub mod PartLemmas
 pub mod Lists
 pub mod Paths
+pub mod Parts

@@ -1,9 +1,7 @@
 pub mod Calls
 pub mod LinearizedRuns
-pub mod Effects
 pub mod Among
 pub mod LiveBound
-pub mod PartLogs
 pub mod Tables
 pub mod Turns
 pub mod RowRules

@@ -14,8 +14,9 @@ use Rattle.never_heap.specs.Graphs.{Graph, shared_name, register_of, object_of, 
 use Rattle.never_heap.specs.LiveBlocks.{live_blocks, object_blocks}
 use Rattle.never_heap.specs.Reach.{is_among, IsClosed}
 use Rattle.never_heap.proofs.LiveBlocksBound.{within}
-use Rattle.never_heap.proofs.NameLists.{one_name}
-use Rattle.operations.proofs.Among.{refs, name_self, refs_weigh, registers_at, registers_long, register_in, thread_of}
+use Rattle.never_heap.proofs.NameLists.{one_name, same_itself}
+use Rattle.never_heap.proofs.UnchangedBySteps.{thread_of}
+use Rattle.operations.proofs.Among.{refs, refs_weigh, registers_at, registers_long, register_in}
 
 -- nil or a number
 abbrev pub IsPlain : Value → Type 0
@@ -51,7 +52,7 @@ IsIn d (x ∷ xs) = (x ≡ d) ⊎ IsIn d xs
 in_among : (xs : List Name) (a : Name) → IsIn a xs → is_among xs a ≡ true
 in_among [] a i = absurd i
 in_among (x ∷ xs) a (inl is) = or_left (same_name a x) (is_among xs a)
-    (subst (λ (y : Name). same_name a y ≡ true) (sym is) (name_self a))
+    (subst (λ (y : Name). same_name a y ≡ true) (sym is) (same_itself a))
 in_among (x ∷ xs) a (inr i) = or_right (same_name a x) (is_among xs a) (in_among xs a i)
 
 among_in : (xs : List Name) (a : Name) → is_among xs a ≡ true → IsIn a xs

@@ -12,7 +12,7 @@ use Rattle.never_heap.specs.Graphs.{Graph, Object, register_of, object_of, field
 use Rattle.never_heap.specs.LiveBlocks.{object_blocks}
 use Rattle.never_heap.specs.Steps.{step, at_field}
 use Rattle.operations.proofs.Among.{refs_weigh}
-use Rattle.operations.proofs.Effects.{nothing, stores, gets}
+use Rattle.never_heap.proofs.Effects.{nothing, stores, gets}
 use Rattle.operations.proofs.LiveBound.{IsPlain, no_ref, Carries}
 use Rattle.operations.proofs.Tables.{Frame, Sym, Own, Lasting, Shown, Hold, Has, Table, own_name, value_of, record_with, record_of, held, Meets}
 use Rattle.operations.proofs.RowRules.{IsRegister, in_range, Told}

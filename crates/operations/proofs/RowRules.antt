@@ -18,7 +18,7 @@ use Rattle.never_heap.specs.Steps.{step, made, swapped, same_value}
 use Rattle.never_heap.proofs.StepChanges.{has_field}
 use Rattle.operations.specs.Applications.{kept_next, acted, said, Tells}
 use Rattle.operations.specs.Linearizations.{seen_next}
-use Rattle.operations.proofs.Effects.{Effect, nothing, stores, puts, makes, swaps, gets, puts_is, swaps_is, cas_is}
+use Rattle.never_heap.proofs.Effects.{Effect, nothing, stores, puts, makes, swaps, gets, puts_is, swaps_is, cas_is}
 use Rattle.operations.proofs.Tables.{Frame, same_frame, IsMade, Sym, Empty, Own, Lasting, Shown, Hold, Is, Has, Spot, nowhere, Table, name_at, own_name, value_of, record_with, record_of, held, held_here, held_past, behind, spot_by, Lasts, Meets, InSpot, lasts_move, meets_move, spot_move}
 use Rattle.operations.proofs.Turns.{Before, Arrives, Goes, finishes_none, finishes_more, grown, out_after, out_same, thread, inside, room, place, owes, shared, array, known, reply, acts, told, frame, leaves, shared_stays, shared_changes}
 

@@ -15,7 +15,7 @@ use Rattle.never_heap.specs.Steps.{step}
 use Rattle.never_heap.proofs.GraphMoves.{get_or_set}
 use Rattle.operations.specs.Applications.{Progress, moved, acted, said, kept_next}
 use Rattle.operations.specs.Linearizations.{seen_next}
-use Rattle.operations.proofs.Effects.{Effect}
+use Rattle.never_heap.proofs.Effects.{Effect}
 use Rattle.operations.proofs.Tables.{Frame, IsMade, Spot, Table, spot_of, behind, owed, owed_is, InSpot, Place, place_move}
 
 -- thread t has finished j more objects, and the others as many as before

@@ -12,8 +12,9 @@ use Rattle.array_trees.specs.Trees.{array_blocks}
 use Rattle.object_lists.specs.Records.{record_blocks}
 use Rattle.never_heap.specs.Graphs.{Graph, Object, shared_name, register_of, object_of, field_of}
 use Rattle.never_heap.specs.LiveBlocks.{live_blocks, object_blocks, blocks_of_kind}
+use Rattle.never_heap.proofs.UnchangedBySteps.{thread_of}
 use Rattle.operations.specs.Applications.{Progress}
-use Rattle.operations.proofs.Among.{refs, thread_of}
+use Rattle.operations.proofs.Among.{refs}
 use Rattle.operations.proofs.LiveBound.{IsPlain, no_ref, Carries, IsIn, total, few as few_of}
 use Rattle.operations.proofs.Turns.{HoldsBy, Thread}
 use Rattle.operations.proofs.Tables.{Sym, Own, Lasting, Plain, Shown, Any, Meant, Hold, Is, Has, Spot, Table, own_name, value_of, record_of, held, spot_of, IsProper, Lasts, Meets}

@@ -4,7 +4,7 @@ use Rattle.std.proofs.lemmas.List.{at_drop_all, at_drop_more, map-append}
 use Rattle.std.specs.Prelude.{slice_set, Some, None}
 use Rattle.std.specs.List.{AllByRecursion}
 use Rattle.std.specs.Option.{option_eq}
-use Rattle.std.proofs.lemmas.Bool.{and_parts, cases_eq}
+use Rattle.std.proofs.lemmas.Bool.{and_parts, cases_eq, not-false}
 use Rattle.operations.specs.Linearizations.{Call, calls_of, after_calls, AreAnswered}
 use Rattle.tag_table.specs.Tables.{Tag, answer, table_after, empty_table, place_of}
 use Rattle.tag_table.specs.declared.operation.Operation.{Operation}
@@ -305,10 +305,6 @@ none_left s left end stuck (x ∷ m) are each t =
 
 -- ---- equal answers
 
-not_false : (b : Bool) → not b ≡ false → b ≡ true
-not_false true e = refl
-not_false false e = absurd cc
-
 same_tag : (a b : Tag) → option_eq (λ (x y : ℕ × ℕ). (x.0 == y.0) && (x.1 == y.1)) a b ≡ true
     → a ≡ b
 same_tag None None e = refl
@@ -320,7 +316,7 @@ same_tag (Some x) (Some y) e =
 
 pub same_answer : (a b : Tag) (r : Bool) → r ≡ false
     → r ≡ not (option_eq (λ (x y : ℕ × ℕ). (x.0 == y.0) && (x.1 == y.1)) a b) → a ≡ b
-same_answer a b r same is = same_tag a b (not_false _ (sym is ∙ same))
+same_answer a b r same is = same_tag a b (not-false _ (sym is ∙ same))
 
 -- ---- one more step
 

@@ -1,31 +1,23 @@
 -- How the history that an order makes goes on.
-use Rattle.std.proofs.Common.{◌≡◌, ◌≢◌, ℕ, zero, suc, ◌+◌, ◌<◌, ◌≤◌, Bool, true, false, cond, eq-eqb, ne_eqb, inl, inr, List, [], ◌∷◌, ◌++◌, length, map, drop, set, get_or, replicate, refl, sym, ap, ◌∙◌, subst, append_assoc, append-nil, arith}
+use Rattle.std.proofs.Common.{◌≡◌, ◌≢◌, ℕ, zero, suc, ◌+◌, ◌<◌, ◌≤◌, inl, inr, List, [], ◌∷◌, ◌++◌, length, map, drop, set, get_or, replicate, refl, sym, ap, ◌∙◌, subst, append_assoc, append-nil, arith}
 use Rattle.std.proofs.lemmas.Bool.{cases_eq, cases_lt}
-use Rattle.std.proofs.lemmas.List.{drop-drop, drop_all, get_or-set_same, get_or-set_other, get_or-replicate, get_or_past, length-replicate, length-set}
+use Rattle.std.proofs.lemmas.List.{drop-drop, drop_all, get_or-set_same, get_or-set_other, get_or-replicate, get_or_past, length-replicate, length-set, drop_more}
 use Rattle.never_heap.specs.declared.Entry.{Entry}
 use Rattle.never_heap.specs.declared.Item.{Item}
 use Rattle.never_heap.specs.declared.Item.TheVariants as items
 use Rattle.never_heap.specs.Histories.{HistoryItem, Started, Did, part}
 use Rattle.never_heap.specs.Orders.{item_of, IsHistoryOf}
+use Rattle.never_heap.proofs.OneHistory.{own_part, other_part}
 use Rattle.reference_runs.specs.declared.Happened.{Happened}
 use Rattle.reference_runs.specs.declared.Happened.TheVariants as happened
 use Rattle.reference_runs.specs.Happenings.{item, history}
 use Rattle.reference_runs.specs.Making.{left_of, IsNextEntry, IsNext, NoNext}
 use Rattle.reference_runs.proofs.ReplayInRange.{history_more}
-use Rattle.reference_runs.proofs.Rests.{next_is}
 
 -- an order makes this history of what each log has left
 pub record Makes (order : List Item) (left : ℕ → List Entry) (h : List HistoryItem) : Type 0 where
   pub items : map item_of h ≡ order
   pub logged : (t : ℕ) → part t h ≡ left t
-
-own_part : (e : Entry) (h : List HistoryItem) (t : ℕ) → e.thread ≡ t
-    → part t (Did e ∷ h) ≡ e ∷ part t h
-own_part e h t same = ap (λ b. cond b (e ∷ part t h) (part t h)) (eq-eqb e.thread t same)
-
-other_part : (e : Entry) (h : List HistoryItem) (t : ℕ) → (e.thread ≡ t → ⊥)
-    → part t (Did e ∷ h) ≡ part t h
-other_part e h t differ = ap (λ b. cond b (e ∷ part t h) (part t h)) (ne_eqb e.thread t differ)
 
 abbrev rest_or : {A : Type 0} → List A → List A
 rest_or [] = []
@@ -170,7 +162,7 @@ module _ (logs : List (List Entry)) (order : List Item) where
     pub goes_on : (since : List ℕ) (x : Happened)
         → IsNext logs told since (get_or order i d) x
         → IsUnderWay logs order (i + 1) since (made ++ x ∷ [])
-    goes_on since x next = by_item (get_or order i d) (next_is order i d there) next
+    goes_on since x next = by_item (get_or order i d) (drop_more order i d there) next
       where
         by_item : (n : Item) → drop i order ≡ n ∷ drop (i + 1) order → IsNext logs told since n x
             → IsUnderWay logs order (i + 1) since (made ++ x ∷ [])
@@ -198,7 +190,7 @@ module _ (logs : List (List Entry)) (order : List Item) where
 
     pub no_history : NoNext logs told (get_or order i d) → (k : List HistoryItem)
         → IsHistoryOf order logs k → ⊥
-    no_history none k is = by_item (get_or order i d) (next_is order i d there) none
+    no_history none k is = by_item (get_or order i d) (drop_more order i d there) none
       where
         by_item : (n : Item) → drop i order ≡ n ∷ drop (i + 1) order → NoNext logs told n → ⊥
         by_item items.Start is none = none
@@ -274,7 +266,7 @@ entry_is_next logs told t place e i is same own there here =
         own,
         (
           drop (get_or told t 0 + 1) (get_or logs t []),
-          next_is (get_or logs t []) (get_or told t 0) e low
+          drop_more (get_or logs t []) (get_or told t 0) e low
               ∙ ap (λ x. x ∷ drop (get_or told t 0 + 1) (get_or logs t [])) (sym at),
         ),
       ),

@@ -1,11 +1,6 @@
 -- What is left of a list, in a loop that goes over it.
-use Rattle.std.proofs.Common.{◌≡◌, ℕ, ◌+◌, ◌<◌, ◌≤◌, ◌↔◌, List, [], ◌∷◌, length, drop, get_or, sym, subst, refl}
-use Rattle.std.proofs.lemmas.List.{at_drop_more, drop_all}
-
--- the next item, and what is left behind it
-pub next_is : {X : Type 0} (xs : List X) (i : ℕ) (d : X) → i < length xs
-    → drop i xs ≡ get_or xs i d ∷ drop (i + 1) xs
-next_is xs i d there = at_drop_more (λ ys. ys) xs i d there
+use Rattle.std.proofs.Common.{ℕ, ◌+◌, ◌<◌, ◌≤◌, ◌↔◌, List, [], ◌∷◌, length, drop, get_or, sym, subst}
+use Rattle.std.proofs.lemmas.List.{drop_all, drop_more}
 
 -- Something holds of all, exactly where it holds of what is left. It holds of what is left exactly
 -- where one thing holds of the next item, and another of what is left behind it.
@@ -15,8 +10,8 @@ module _ {X : Type 0} (xs : List X) (i : ℕ) (d : X) (All : Type 0) (left : Lis
       (parts : left (get_or xs i d ∷ drop (i + 1) xs) ↔ (this × rest)) where
     pub goes_on : this → (rest ↔ All)
     goes_on holds = (
-      λ r. so_far.0 (subst left (sym (next_is xs i d there)) (parts.1 (holds, r))),
-      λ a. (parts.0 (subst left (next_is xs i d there) (so_far.1 a))).1,
+      λ r. so_far.0 (subst left (sym (drop_more xs i d there)) (parts.1 (holds, r))),
+      λ a. (parts.0 (subst left (drop_more xs i d there) (so_far.1 a))).1,
     )
 
   pub ends : length xs ≤ i → left [] → All

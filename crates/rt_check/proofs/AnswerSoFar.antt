@@ -5,12 +5,13 @@ use Rattle.never_heap.specs.declared.Command.{Command}
 use Rattle.never_heap.specs.declared.Entry.{Entry}
 use Rattle.never_heap.specs.Histories.{HistoryItem, Started, Did}
 use Rattle.trace_text.specs.Reading.{parted}
+use Rattle.trace_text.proofs.LabelLaws.{parted_some}
 use Rattle.rt_check.specs.declared.follower.Follower.{Follower}
 use Rattle.rt_check.specs.declared.moves.Move.{Move}
 use Rattle.rt_check.specs.Moves.{moves_in}
 use Rattle.rt_check.specs.Standing.{Stands}
 use Rattle.rt_check.specs.Taken.{IsTaken, IsEnd, IsLeft, AreTaken, FirstLeft, AreMoves}
-use Rattle.rt_check.proofs.InputParts.{some_lines, no_lines}
+use Rattle.rt_check.proofs.InputParts.{no_lines}
 
 -- the commands of a history, and of one item more
 pub moves_append : (h k : List HistoryItem) → moves_in (h ++ k) ≡ moves_in h ++ moves_in k
@@ -53,7 +54,7 @@ module _ (c : Config) (traces : List (List Command)) (lines : List (List ℕ))
 
   module _ (line : List ℕ) (after : List (List ℕ)) (first : parted rest ≡ Some (line, after)) where
     rest_is : rest ≡ line ∷ after
-    rest_is = some_lines rest line after first
+    rest_is = parted_some rest line after first
 
     pub more : (i : HistoryItem) → IsTaken c traces past line i
         → Leads c traces lines (past ++ i ∷ []) after (read + 1)

@@ -7,7 +7,7 @@ use Rattle.exit_statuses.specs.Exits.{IsDue}
 use Rattle.exit_statuses.specs.Refusals.{AreNone, status_of, IsReadWhole, IsReadRefusal, HasRead}
 use Rattle.exit_statuses.specs.Sides.{Sides, IsUnfailed}
 use Rattle.exit_statuses.proofs.ExitStatuses.{AreApart}
-use Rattle.exit_statuses.proofs.WholeTexts.{few_taken, refused_unread}
+use Rattle.exit_statuses.proofs.WholeTexts.{few_taken, refused_unread, has_read}
 use Rattle.rt_check.specs.Answers.{Causes, IsAccepted, IsCause, IsJudged}
 use Rattle.rt_check.specs.Inputs.{check_limit}
 use Rattle.rt_check.proofs.OneAnswer.{one_answer}
@@ -42,15 +42,12 @@ refused_by_source source r c =
 
 module _ (source : Sides) (bytes : List ℕ) (whole : IsReadWhole check_limit source bytes)
     (still : IsUnfailed source) where
-  has_read : (P : List ℕ → Type 0) → P bytes → HasRead check_limit P source
-  has_read P p = record { text = bytes; whole = whole; holds = p; unfailed = still }
-
   caused : (r : Refusal) → Causes bytes r → IsCause [] source r
   caused Usage c = absurd c.2
   caused ReadFault c = absurd c.2
   caused OutOfMemory c = absurd c.2
-  caused TooLong c = inr (refl, has_read (λ text. Causes text TooLong) c)
-  caused r c = (refl, has_read (λ text. Causes text r) c)
+  caused TooLong c = inr (refl, has_read source bytes whole still (λ text. Causes text TooLong) c)
+  caused r c = (refl, has_read source bytes whole still (λ text. Causes text r) c)
 
   pub judged_cause : (r : Refusal) → IsJudged bytes (Some r) → IsCause [] source r
   judged_cause r (inl p) = caused r p
@@ -59,5 +56,5 @@ module _ (source : Sides) (bytes : List ℕ) (whole : IsReadWhole check_limit so
       (refl, (few_taken check_limit source bytes whole, still))
 
   pub judged_fine : IsJudged bytes None → HasRead check_limit IsAccepted source
-  judged_fine (inl p) = has_read IsAccepted p
+  judged_fine (inl p) = has_read source bytes whole still IsAccepted p
   judged_fine (inr q) = absurd cc

@@ -13,19 +13,20 @@ use Rattle.never_heap.specs.Jobs.{IsTraceInBounds}
 use Rattle.never_heap.specs.Coming.{left_of}
 use Rattle.never_heap.specs.Cycles.{graph_at}
 use Rattle.never_heap.specs.Graphs.{WideGraph}
-use Rattle.never_heap.specs.Histories.{HistoryItem, Started, Did, is_full, after, replay, starts_in}
-use Rattle.never_heap.specs.Licensed.{IsLicensedReply}
+use Rattle.never_heap.specs.Histories.{HistoryItem, Started, Did, after, replay, starts_in}
 use Rattle.never_heap.specs.LiveBlocks.{live_blocks}
 use Rattle.never_heap.specs.RightWork.{units_told, units_owed}
 use Rattle.never_heap.specs.Steps.{step, blocks_of}
 use Rattle.never_heap.proofs.StepAnswers.{step_not_full, blocks_make}
+use Rattle.never_heap.proofs.NoFullRuns.{needs_no_licence}
+use Rattle.never_heap.proofs.ItemsOfRuns.{thread_low}
 use Rattle.trace_text.specs.Jobs.{Job, IsJobInBounds}
 use Rattle.trace_text.specs.Orders.{item_text, end_text}
 use Rattle.trace_text.specs.Texts.{entry_text}
 use Rattle.rt_check.specs.declared.follower.Follower.{Follower}
 use Rattle.rt_check.specs.Good.{IsGood, IsLast, IsBad}
 use Rattle.rt_check.specs.Standing.{Stands, HasNext, Begins, Counted, IsFullHere, entry_here, graph_here, rest_of}
-use Rattle.rt_check.proofs.ItemOfLine.{begins_one, begins_as, end_begins, full_cycle, Allows, stepped, filled, same_entry, thread_low, candidate, thread_of, no_entry, no_start}
+use Rattle.rt_check.proofs.ItemOfLine.{begins_one, begins_as, end_begins, full_cycle, Allows, stepped, filled, same_entry, candidate, thread_of, no_entry, no_start}
 use Rattle.rt_check.proofs.FollowerState.{stands_entry}
 
 -- ---- what a job holds
@@ -53,14 +54,11 @@ module _ (job : Job) (b : IsJobInBounds job) (t n : ℕ) (command : Command) (re
       all_at (IsCommandInBounds job.config) (get_or job.traces t []) n command rest
       (all_or (IsTraceInBounds job.config) job.traces [] t b.each none_in_bounds).commands next
 
-product_few : (a b m n : ℕ) → a ≤ m → b ≤ n → a * b ≤ m * n
-product_few a b m n p q = mul-le a b m n p q
-
 pub work_small : (c : Config) (rate : ℕ) (command : Command) → IsCommandInBounds c command
     → c.object ≤ 1024 → rate ≤ 131070 → units_owed c.width rate command ≤ 2 ^ 32
 work_small c rate command b object low =
     let few = b.blocks in
-    let most = product_few rate (blocks_of c.width command) 131070 1024 low (omega arith) in
+    let most = mul-le rate (blocks_of c.width command) 131070 1024 low (omega arith) in
     omega (arith, b.units)
 
 -- ---- the state and the items
@@ -136,21 +134,6 @@ module _ (c : Config) (rate : ℕ) (traces : List (List Command)) (past : List H
       items Started good = no_start c rate traces past few line t begins good
       items (Did e) good = none e good
 
--- a reply that is no full needs no licence
-not_full_licensed : (c : Config) (past : List HistoryItem) (r : Reply) → is_full r ≡ false
-    → IsLicensedReply c past r
-not_full_licensed c past (replies.New name) f = tt
-not_full_licensed c past (replies.Full z) f = absurd (let e : true ≡ false = f in cc)
-not_full_licensed c past replies.Stored f = tt
-not_full_licensed c past (replies.Val v) f = tt
-not_full_licensed c past (replies.Len k) f = tt
-not_full_licensed c past replies.Yes f = tt
-not_full_licensed c past replies.No f = tt
-not_full_licensed c past replies.Null f = tt
-not_full_licensed c past replies.Kind f = tt
-not_full_licensed c past replies.Range f = tt
-not_full_licensed c past replies.Idle f = tt
-
 module _ (c : Config) (rate : ℕ) (traces : List (List Command)) (past : List HistoryItem)
     (line : List ℕ)
     (t : ℕ) (command : Command) (rest : List Command)
@@ -163,7 +146,7 @@ module _ (c : Config) (rate : ℕ) (traces : List (List Command)) (past : List H
       first = λ e. absurd (begun e);
       next = (rest, left);
       answered = inl refl;
-      licensed = not_full_licensed c past (step (replay c past) t command).1
+      licensed = needs_no_licence c past (step (replay c past) t command).1
           (step_not_full (replay c past) t command);
       right_work = refl;
     };

@@ -1,22 +1,21 @@
 -- Lines of an order are good to their end, or one of them is the first that is not.
-use Rattle.std.proofs.Common.{◌≡◌, ◌≢◌, ℕ, zero, suc, ◌+◌, ◌<◌, ◌≤◌, ◌⊎◌, inl, inr, false, List, [], ◌∷◌, ◌++◌, length, Some, sym, refl, ap, ◌∙◌, subst, arith}
+use Rattle.std.proofs.Common.{◌≡◌, ◌≢◌, ℕ, zero, suc, ◌+◌, ◌<◌, ◌≤◌, ◌⊎◌, inl, inr, List, [], ◌∷◌, ◌++◌, length, Some, sym, refl, ap, ◌∙◌, subst, arith}
 use Rattle.std.proofs.lemmas.Bool.{cases_eq, cases_lt}
 use Rattle.block_store.specs.declared.Config.{Config}
 use Rattle.never_heap.specs.declared.Command.{Command}
 use Rattle.never_heap.specs.declared.Entry.{Entry}
-use Rattle.never_heap.specs.declared.Reply.{Reply}
-use Rattle.never_heap.specs.declared.Reply.TheVariants as replies
 use Rattle.never_heap.specs.Coming.{left_of, MayCome}
 use Rattle.never_heap.specs.Cycles.{graph_at}
-use Rattle.never_heap.specs.Histories.{HistoryItem, Started, Did, is_full, replay, starts_in}
-use Rattle.never_heap.specs.Licensed.{IsLicensedReply}
+use Rattle.never_heap.specs.Histories.{HistoryItem, Started, Did, replay, starts_in}
 use Rattle.never_heap.specs.LiveBlocks.{live_blocks}
 use Rattle.never_heap.specs.Steps.{step, blocks_of}
 use Rattle.never_heap.proofs.StepAnswers.{step_not_full, blocks_make}
+use Rattle.never_heap.proofs.NoFullRuns.{needs_no_licence}
+use Rattle.never_heap.proofs.ItemsOfRuns.{no_thread, thread_low}
 use Rattle.trace_text.specs.Orders.{item_text, end_text}
 use Rattle.rt_check.specs.Good.{IsGood, IsLast, AreGood, FirstBad}
 use Rattle.rt_check.specs.Standing.{Begins}
-use Rattle.rt_check.proofs.ItemOfLine.{stepped, filled, Allows, full_cycle, entry_tells, candidate, no_thread, thread_low}
+use Rattle.rt_check.proofs.ItemOfLine.{stepped, filled, Allows, full_cycle, entry_tells, candidate}
 
 -- ---- what can be told apart
 
@@ -31,21 +30,6 @@ same_or (x ∷ xs) (y ∷ ys) = elim (cases_eq x y) [
   ]
   | inr ne ↦ inr (λ all. ne (let f = all in cc))
 ]
-
--- no reply of a step is a full, so nothing licenses it
-unlicensed : (c : Config) (past : List HistoryItem) (r : Reply) → is_full r ≡ false
-    → IsLicensedReply c past r
-unlicensed c past (replies.Full z) none = absurd cc
-unlicensed c past (replies.New name) none = tt
-unlicensed c past replies.Stored none = tt
-unlicensed c past (replies.Val v) none = tt
-unlicensed c past (replies.Len k) none = tt
-unlicensed c past replies.Yes none = tt
-unlicensed c past replies.No none = tt
-unlicensed c past replies.Null none = tt
-unlicensed c past replies.Kind none = tt
-unlicensed c past replies.Range none = tt
-unlicensed c past replies.Idle none = tt
 
 -- ---- one line
 
@@ -68,7 +52,7 @@ module _ (c : Config) (rate : ℕ) (traces : List (List Command)) (few : length 
       first = λ none. absurd (begun none);
       next = (rest, left);
       answered = inl refl;
-      licensed = unlicensed c past (step (replay c past) t command).1
+      licensed = needs_no_licence c past (step (replay c past) t command).1
           (step_not_full (replay c past) t command);
       right_work = refl;
     }

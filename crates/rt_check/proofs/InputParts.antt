@@ -1,6 +1,5 @@
 -- Where an input is parted.
-use Rattle.std.proofs.Common.{◌≡◌, ℕ, ◌+◌, List, [], ◌∷◌, drop, Some, None, refl}
-use Rattle.std.proofs.lemmas.Option.{same_Some}
+use Rattle.std.proofs.Common.{◌≡◌, ℕ, ◌+◌, List, [], ◌∷◌, drop, None, refl}
 use Rattle.trace_text.specs.Lines.{lines_of}
 use Rattle.trace_text.specs.Reading.{parted}
 use Rattle.rt_check.specs.Inputs.{job_length}
@@ -10,12 +9,6 @@ pub record Passed (input rest : List ℕ) : Type 0 where
   pub bytes : ℕ
   pub left : rest ≡ drop bytes input
   pub count : job_length (lines_of input) ≡ bytes + job_length (lines_of rest)
-
-pub some_lines : (ls : List (List ℕ)) (line : List ℕ) (others : List (List ℕ))
-    → parted ls ≡ Some (line, others) → ls ≡ line ∷ others
-some_lines [] line others e = cc
-some_lines (l ∷ ls) line others e = let f = same_Some (l, ls) (line, others) e in
-    λ i. (f i).0 ∷ (f i).1
 
 pub no_lines : (ls : List (List ℕ)) → parted ls ≡ None → ls ≡ []
 no_lines [] e = refl

@@ -1,10 +1,9 @@
 -- A line tells its item.
-use Rattle.std.proofs.Common.{◌≡◌, ℕ, zero, suc, ◌+◌, ◌-◌, ◌^◌, ◌<◌, ◌≤◌, ◌⊎◌, inl, inr, eqb, true, false, max, List, [], ◌∷◌, ◌++◌, length, drop, get_or, codes, decimal, Option, Some, None, sym, refl, ap, ◌∙◌, subst, arith}
+use Rattle.std.proofs.Common.{◌≡◌, ℕ, ◌+◌, ◌-◌, ◌^◌, ◌<◌, ◌≤◌, ◌⊎◌, inl, inr, eqb, true, false, max, List, [], ◌∷◌, ◌++◌, length, get_or, codes, decimal, Option, Some, None, sym, refl, ap, ◌∙◌, subst, arith}
 use Rattle.std.specs.Str.Parse.{AllDigits}
-use Rattle.std.proofs.lemmas.Bool.{cases_lt}
 use Rattle.std.proofs.lemmas.Bool.Decides.{nat_tests}
 use Rattle.std.proofs.lemmas.Fmt.{decimal_is_IsNumeral}
-use Rattle.std.proofs.lemmas.List.{append_cancel_left, get_or_past}
+use Rattle.std.proofs.lemmas.List.{append_cancel_left}
 use Rattle.std.proofs.lemmas.Option.{same_Some}
 use Rattle.std.proofs.lemmas.Str.Parse.{digit_from_value}
 use Rattle.block_store.specs.declared.Config.{Config}
@@ -15,12 +14,13 @@ use Rattle.never_heap.specs.declared.Reply.TheVariants as replies
 use Rattle.never_heap.specs.Coming.{left_of}
 use Rattle.never_heap.specs.Graphs.{Graph}
 use Rattle.never_heap.specs.Cycles.{graph_at}
-use Rattle.never_heap.specs.Histories.{HistoryItem, Started, Did, is_full, part, replay, starts_in, work_in}
+use Rattle.never_heap.specs.Histories.{HistoryItem, Started, Did, is_full, replay, starts_in, work_in}
 use Rattle.never_heap.specs.Licensed.{IsLicensedReply}
 use Rattle.never_heap.specs.LiveBlocks.{live_blocks}
 use Rattle.never_heap.specs.RightWork.{units_owed}
 use Rattle.never_heap.specs.Steps.{step, blocks_of}
 use Rattle.never_heap.proofs.StepAnswers.{makers_have_blocks, blocks_answer}
+use Rattle.never_heap.proofs.ItemsOfRuns.{thread_low}
 use Rattle.trace_text.specs.Lines.{tokens_of, onto_first}
 use Rattle.trace_text.specs.Reading.{number_at, digits_on}
 use Rattle.trace_text.specs.Texts.{reply_text}
@@ -72,25 +72,6 @@ pub begins_as : (line text : List ℕ) (n : Option ℕ) → line ≡ text → Be
 begins_as line text n e b = subst (λ (l : List ℕ). Begins l n) (sym e) b
 
 -- ---- the thread, and the reply
-
-drop_none : (n : ℕ) → drop {A = Command} n [] ≡ []
-drop_none zero = refl
-drop_none (suc n) = refl
-
-pub no_thread : (traces : List (List Command)) (past : List HistoryItem) (t : ℕ)
-    → length traces ≤ t → left_of traces past t ≡ []
-no_thread traces past t few =
-    ap (λ (l : List Command). drop (length (part t past)) l) (get_or_past traces t [] few)
-    ∙ drop_none (length (part t past))
-
-pub thread_low : (traces : List (List Command)) (past : List HistoryItem) (t : ℕ)
-    (command : Command) (rest : List Command)
-    → left_of traces past t ≡ command ∷ rest → t < length traces
-thread_low traces past t command rest next = elim (cases_lt t (length traces)) [
-  | inl l ↦ l
-  | inr l ↦ absurd (let none = no_thread traces past t l in
-      let e : [] ≡ command ∷ rest = sym none ∙ next in cc)
-]
 
 no : false ≡ true → ⊥
 no e = cc

@@ -1,7 +1,7 @@
 -- Bytes have one answer at most.
 use Rattle.std.proofs.Common.{◌≡◌, ℕ, ◌≤◌, inl, inr, List, [], length, Option, Some, None, sym, refl, ap, ◌∙◌, subst, arith}
-use Rattle.block_store.specs.declared.Config.{Config}
-use Rattle.rate_plan.specs.Rates.{IsAdmitted, IsRate}
+use Rattle.rate_plan.specs.Rates.{IsAdmitted}
+use Rattle.rate_plan.proofs.Rates.{one_rate}
 use Rattle.trace_text.specs.declared.trace_faults.Why.{Why}
 use Rattle.trace_text.specs.Jobs.{Job}
 use Rattle.trace_text.specs.Lines.{lines_of}
@@ -14,10 +14,6 @@ use Rattle.rt_check.specs.Good.{AreGood, FirstBad}
 use Rattle.rt_check.specs.Inputs.{job_part, order_part, IsTooLong, IsShort, HasBadLine, HasJob, IsOrderOf, IsBadAt}
 use Rattle.rt_check.proofs.Goodness.{law}
 use Rattle.rt_check.proofs.ItemOfLine as telling
-
-one_rate : (c : Config) (p q : ℕ) → IsRate c p → IsRate c q → p ≡ q
-one_rate c p q a b = let f = a.least q b.some b.enough in let h = b.least p a.some a.enough in
-    omega arith
 
 -- ---- of one job
 

@@ -14,6 +14,7 @@ use Rattle.never_heap.specs.Jobs.{IsTraceInBounds}
 use Rattle.never_heap.specs.RightWork.{units_owed}
 use Rattle.never_heap.specs.Steps.{step, blocks_of}
 use Rattle.never_heap.proofs.StepAnswers.{step_not_full, blocks_answer, blocks_untold, owes_told}
+use Rattle.never_heap.proofs.ItemsOfRuns.{thread_low}
 use Rattle.trace_text.specs.Jobs.{Job, IsJobInBounds}
 use Rattle.trace_text.specs.Lines.{tokens_of}
 use Rattle.trace_text.specs.Orders.{item_text}
@@ -28,7 +29,7 @@ use Rattle.rt_check.specs.Taken.{IsTaken, TellsTotals, IsEnd, IsLeft}
 use Rattle.rt_check.specs.Taking.{first_number, number_behind}
 use Rattle.rt_check.proofs.GoodLaws.{all_or, command_in_bounds, work_small, left_is, start_good, step_taken_as}
 use Rattle.rt_check.proofs.TokensLeft.{made_units, totals_cycles, totals_units}
-use Rattle.rt_check.proofs.ItemOfLine.{begins_one, begins_as, stepped, candidate, no_entry, no_start, thread_low}
+use Rattle.rt_check.proofs.ItemOfLine.{begins_one, begins_as, stepped, candidate, no_entry, no_start}
 
 -- ---- the totals
 

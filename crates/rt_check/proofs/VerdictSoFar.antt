@@ -4,10 +4,10 @@ use Rattle.block_store.specs.declared.Config.{Config}
 use Rattle.never_heap.specs.declared.Command.{Command}
 use Rattle.never_heap.specs.Histories.{HistoryItem}
 use Rattle.trace_text.specs.Reading.{parted}
+use Rattle.trace_text.proofs.LabelLaws.{parted_some}
 use Rattle.rt_check.specs.declared.follower.Follower.{Follower}
 use Rattle.rt_check.specs.Good.{IsGood, AreGood, FirstBad}
 use Rattle.rt_check.specs.Standing.{Stands}
-use Rattle.rt_check.proofs.InputParts.{some_lines}
 
 -- what is found from here on is what is found of all lines
 pub record Leads (c : Config) (rate : ℕ) (traces : List (List Command)) (lines : List (List ℕ))
@@ -29,7 +29,7 @@ module _ (c : Config) (rate : ℕ) (traces : List (List Command)) (lines : List 
     module _ (line : List ℕ) (after : List (List ℕ))
         (first : parted rest ≡ Some (line, after)) where
       rest_is : rest ≡ line ∷ after
-      rest_is = some_lines rest line after first
+      rest_is = parted_some rest line after first
 
       pub lead_more : (i : HistoryItem) → IsGood c rate traces past line i
           → Leads c rate traces lines (past ++ i ∷ []) after (read + 1)

@@ -1,15 +1,18 @@
 -- What a line of a script of handles says is what is spelled so, and what is spelled is read again.
 use Rattle.std.proofs.Common.{◌≡◌, ℕ, ◌<◌, ◌≤◌, ◌^◌, true, cond, Option, Some, None, List, [], ◌∷◌, codes, decimal, eq-eqb, refl, sym, ap, ◌∙◌, subst, arith}
 use Rattle.std.proofs.lemmas.Bool.{eqb-true}
+use Rattle.std.proofs.lemmas.Option.{cond_some}
 use Rattle.array_scripts.specs.declared.header.Header.{Header}
 use Rattle.array_scripts.specs.Kinds.{Tokens, IsHeader, Fits, below, line_at, told_at, language}
-use Rattle.array_scripts.proofs.TokenLaws.{bind_then, then_some, some_is, chosen, below_sound, below_again, two_of, three_of, place_sound}
+use Rattle.array_scripts.proofs.TokenLaws.{chosen, below_sound, below_again, two_of, three_of, place_sound}
 use Rattle.array_scripts.proofs.LineLaws.{kind_reads}
 use Rattle.scripts.specs.Scripts.{Reads}
+use Rattle.scripts.proofs.ScriptOrBadLine.{some_is}
 use Rattle.handle_table.specs.declared.operation.Operation.{Operation}
 use Rattle.handle_table.specs.declared.operation.Operation.TheVariants.{Make, See, Drop, Take, Evict}
 use Rattle.handle_table.specs.Handles.{slot_of, CanStand}
 use Rattle.trace_text.specs.Reading.{◌>>=◌, no_more_of, one_token_of, two_tokens_of, three_tokens_of}
+use Rattle.trace_text.proofs.Binds.{bind_then}
 use Rattle.rt_handles.specs.Lines.{op_line, make_at, is_at, handle_at, see_at, drop_at, take_at, evict_at, op_at, handle_kind}
 
 -- what an operation's tokens say
@@ -52,7 +55,7 @@ handle_sound slots before tokens q e =
     bind_then (below slots p.1) _ q e2 (λ i is3 e3.
     let a = below_sound 8 p.0 g is2 in
     let b = below_sound slots p.1 i is3 in
-    let kept = then_some (is_at i (slot_of g before)) (g, i) q e3 in
+    let kept = cond_some (is_at i (slot_of g before)) (g, i) q e3 in
     subst (λ (y : ℕ × ℕ). (tokens ≡ decimal y.0 ∷ decimal y.1 ∷ []) × (y.0 < 8) × (y.1 < slots)
     × (slot_of y.0 before ≡ Some y.1)) kept.1 (
       two_of tokens p is1 ∙ (λ j. a.0 j ∷ b.0 j ∷ []),

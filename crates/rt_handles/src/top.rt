@@ -6,7 +6,7 @@ ghost use Rattle.rt_handles.specs.Calls.{IsCarriedOut};
 
 use crate::exit::HandleExit;
 use crate::kind::Handles;
-use never_heap::Pace;
+use heap_system::Pace;
 use script_runs::{ScriptExit, run_script};
 use std::alloc::Global;
 use std::sync::Wait;

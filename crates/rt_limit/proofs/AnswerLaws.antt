@@ -7,7 +7,7 @@ use Rattle.exit_statuses.specs.Exits.{IsDue}
 use Rattle.exit_statuses.specs.Refusals.{AreNone, status_of, IsReadWhole, IsReadRefusal, HasRead}
 use Rattle.exit_statuses.specs.Sides.{Sides, IsUnfailed}
 use Rattle.exit_statuses.proofs.ExitStatuses.{AreApart}
-use Rattle.exit_statuses.proofs.WholeTexts.{few_taken, refused_unread}
+use Rattle.exit_statuses.proofs.WholeTexts.{few_taken, refused_unread, has_read}
 use Rattle.trace_text.specs.declared.trace_faults.Why.{Why}
 use Rattle.trace_text.specs.Jobs.{Job, IsJobInBounds}
 use Rattle.trace_text.specs.Lines.{lines_of}
@@ -90,15 +90,12 @@ refused_by_source source r c =
 
 module _ (source : Sides) (bytes : List ℕ) (whole : IsReadWhole check_limit source bytes)
     (still : IsUnfailed source) where
-  has_read : (P : List ℕ → Type 0) → P bytes → HasRead check_limit P source
-  has_read P p = record { text = bytes; whole = whole; holds = p; unfailed = still }
-
   caused : (r : Refusal) → Causes bytes r → IsCause [] source r
   caused Usage c = absurd c
   caused ReadFault c = absurd c
   caused OutOfMemory c = absurd c
-  caused TooLong c = inr (refl, has_read (λ text. Causes text TooLong) c)
-  caused r c = (refl, has_read (λ text. Causes text r) c)
+  caused TooLong c = inr (refl, has_read source bytes whole still (λ text. Causes text TooLong) c)
+  caused r c = (refl, has_read source bytes whole still (λ text. Causes text r) c)
 
   pub judged_cause : (r : Refusal) → HasNoText bytes r → IsCause [] source r
   judged_cause r (inl p) = caused r p
@@ -107,4 +104,4 @@ module _ (source : Sides) (bytes : List ℕ) (whole : IsReadWhole check_limit so
 
   pub judged_fine : (text : List ℕ) → HasNeeds bytes text
       → HasRead check_limit (λ b. HasNeeds b text) source
-  judged_fine text p = has_read (λ b. HasNeeds b text) p
+  judged_fine text p = has_read source bytes whole still (λ b. HasNeeds b text) p

@@ -10,7 +10,7 @@ use Rattle.rt_check.specs.declared.moves.Move.{Move}
 use Rattle.rt_limit.specs.declared.counts.Counter.{Counter}
 use Rattle.rt_limit.specs.Counting.{Knows}
 use Rattle.rt_limit.specs.Moments.{graph_after, graph_behind, blocks_made, most_live, IsMoment}
-use Rattle.rt_limit.proofs.LiveGrows.{grows}
+use Rattle.never_heap.proofs.LiveGrows.{grows}
 
 -- ---- an order that goes on by a command
 

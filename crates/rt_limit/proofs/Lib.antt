@@ -1,4 +1,3 @@
-pub mod LiveGrows
 pub mod CountLaws
 pub mod OrderLaws
 pub mod BlockLaws

@@ -15,8 +15,8 @@ use Rattle.never_heap.specs.Runs.{IsRun}
 use Rattle.never_heap.specs.Steps.{step}
 use Rattle.never_heap.proofs.HistoryGrowth.{replay_more, part_append}
 use Rattle.never_heap.proofs.RunInduction.{walk_all}
+use Rattle.never_heap.proofs.ItemsOfRuns.{thread_low}
 use Rattle.rt_check.specs.declared.moves.Move.{Move}
-use Rattle.rt_check.proofs.ItemOfLine.{thread_low}
 use Rattle.rt_limit.specs.Moments.{graph_behind, most_live, moves_of}
 use Rattle.rt_limit.proofs.CountLaws.{behind_more, moment_most}
 

@@ -1,13 +1,8 @@
 -- What a heap costs.
 use Rattle.std.specs.Prelude.{ℕ, ◌+◌, ◌-◌, ◌*◌, ◌/◌, ◌<◌, ◌^◌, min, Option, SomeIff}
 use Rattle.block_store.specs.declared.Config.{Config}
-use Rattle.block_store.specs.Places.{extent, words_count}
 use Rattle.block_store.specs.Widths.{payloads}
 use Rattle.solo_bound.specs.Near.{changes_cost, near_bound, near_unit}
-
--- the bytes of its words
-abbrev pub bytes : Config → ℕ
-bytes c = 8 * words_count (extent c)
 
 -- the most turns of an allocation of k blocks, of a thread that alone has turns
 abbrev pub turns : Config → ℕ → ℕ → ℕ

@@ -7,7 +7,8 @@ use Rattle.trace_text.specs.JobTexts.{line_text}
 use Rattle.trace_text.specs.Spellings.{header}
 use Rattle.rt_limit.specs.declared.blocks.Least.{Least}
 use Rattle.rt_limit.specs.Blocks.{IsNewHeap, IsToldBefore}
-use Rattle.rt_limit.specs.Prices.{bytes, turns, years}
+use Rattle.block_store.specs.Places.{bytes}
+use Rattle.rt_limit.specs.Prices.{turns, years}
 
 -- the rates for which the least heaps are told
 abbrev pub rates : List ℕ

@@ -1,6 +1,6 @@
 //! Laws of the definitions.
 
-ghost use Rattle.std.specs.Prelude.{◌≡◌, ◌+◌, ◌≤◌, ◌∷◌, ◌++◌, [], ℕ, List};
+ghost use Rattle.std.specs.Prelude.{◌≡◌, ◌≤◌, ◌∷◌, ◌++◌, [], ℕ, List};
 ghost use Rattle.block_store.specs.declared.Config.{Config};
 ghost use Rattle.block_store.specs.declared.Width.{Width};
 ghost use Rattle.never_heap.specs.declared.Command.{Command};
@@ -9,18 +9,11 @@ ghost use Rattle.never_heap.specs.Histories.{HistoryItem};
 ghost use Rattle.never_heap.specs.Licensed.{NoFulls};
 ghost use Rattle.never_heap.specs.LiveBlocks.{live_blocks};
 ghost use Rattle.never_heap.specs.Runs.{IsRun};
-ghost use Rattle.never_heap.specs.Steps.{step, blocks_of};
 ghost use Rattle.trace_text.specs.Jobs.{Job, IsJobInBounds};
 ghost use Rattle.rt_check.specs.declared.moves.Move.{Move};
 ghost use Rattle.rt_limit.specs.Answers.{AreNeeds};
 ghost use Rattle.rt_limit.specs.Blocks.{with_limits};
 ghost use Rattle.rt_limit.specs.Moments.{graph_behind, most_live, moves_of, IsMoment};
-
-/// Reachable blocks grow at allocations alone, and by at most the blocks that are made.
-pub fn live_grows()
-    ensures { (w : Width) (g : Graph) (t : ℕ) (command : Command)
-        → live_blocks w (step g t command).0 ≤ live_blocks w g + blocks_of w command }
-{}
 
 /// The greatest number of live blocks is that of some moment, and at none more are live.
 pub fn most_live_is_the_greatest()

@@ -11,6 +11,6 @@ mod top;
 
 pub use blocks::least_blocks;
 pub use counts::Figures;
-pub use laws::{enough_is_never_full, live_grows, most_live_is_the_greatest};
+pub use laws::{enough_is_never_full, most_live_is_the_greatest};
 pub use prices::{near_other_turns, near_turns};
 pub use top::{LimitExit, limit};

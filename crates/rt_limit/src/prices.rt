@@ -16,14 +16,6 @@ const UNITS: u64 = 1 << 45;
 
 const OBJECTS: u64 = (1 << 43) - 1;
 
-/// The bytes of a heap's words.
-pub(crate) fn bytes(heap: &Config) -> u32
-    requires { IsInBounds heap.now }
-    ensures value { result ≡ prices.bytes heap.now }
-{
-    8 * (3 + 2 * heap.threads + (3 + heap.width.payloads()) * heap.blocks)
-}
-
 /// The whole years of a life at this rate.
 pub(crate) fn years(rate: u64) -> u32
     requires { (1 ≤ rate) × (rate ≤ 131070) }

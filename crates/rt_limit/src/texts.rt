@@ -6,7 +6,7 @@ ghost use Rattle.rt_limit.specs.Texts.{number_line, order_line, figures_text, he
 
 use crate::blocks::least_heap;
 use crate::counts::Figures;
-use crate::prices::{bytes, turns, years};
+use crate::prices::{turns, years};
 use block_store::{Config, OutOfMemory};
 use std::alloc::Global;
 use trace_text::{LineBuffer, line_of_config};
@@ -114,7 +114,7 @@ fn line_of_heap(heap: &Config, rate: u64) -> LineBuffer
     line.prepend(b" largest ");
     line.prepend_number(turns(heap, rate, 1));
     line.prepend(b" turns ");
-    line.prepend_short_number(bytes(heap));
+    line.prepend_short_number(heap.bytes());
     line.prepend(b" bytes ");
     line.prepend_short_number(rate as u32);
     line.prepend(b" rate ");

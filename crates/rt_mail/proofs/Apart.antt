@@ -7,7 +7,7 @@ use Rattle.exit_statuses.specs.Exits.{IsDue}
 use Rattle.exit_statuses.specs.Refusals.{AreNone, status_of, refusal_of, IsReadWhole, IsReadRefusal, HasRead}
 use Rattle.exit_statuses.specs.Sides.{Sides, IsUnfailed}
 use Rattle.exit_statuses.proofs.ExitStatuses.{AreApart}
-use Rattle.exit_statuses.proofs.WholeTexts.{few_taken, refused_unread}
+use Rattle.exit_statuses.proofs.WholeTexts.{few_taken, refused_unread, has_read}
 use Rattle.rate_plan.specs.Rates.{IsAdmitted}
 use Rattle.trace_text.specs.declared.trace_faults.TraceFault.{TraceFault}
 use Rattle.trace_text.specs.declared.trace_faults.TraceFault.TheVariants as faults
@@ -90,15 +90,11 @@ are_apart = record {
 
 module _ (source : Sides) (text : List ℕ) (whole : IsReadWhole input_limit source text)
     (still : IsUnfailed source) where
-  -- what holds of the text was read
-  pub has_read : (P : List ℕ → Type 0) → P text → HasRead input_limit P source
-  has_read P p = record { text = text; whole = whole; holds = p; unfailed = still }
-
   -- the refusal of a text that is no job has its cause
   pub refused_by_text : (fault : TraceFault) → IsLineFault (IsFirstBadLine text) fault
       → IsCause [] source (refusal_of fault)
   refused_by_text (faults.BadLine line why) bad =
-      (refl, has_read (λ b. IsFirstBadLine b line why) bad)
+      (refl, has_read source text whole still (λ b. IsFirstBadLine b line why) bad)
   refused_by_text faults.OutOfMemory bad =
       (refl, (few_taken input_limit source text whole, still))
   refused_by_text _ bad = absurd bad
@@ -107,12 +103,12 @@ module _ (source : Sides) (text : List ℕ) (whole : IsReadWhole input_limit sou
   pub refused_by_job : (job : Job) (r : Refusal) → IsJob text job → IsRefusedJob job r
       → IsCause [] source r
   refused_by_job job TooManyThreads is c =
-      (refl, has_read (λ b. Causes b TooManyThreads) (job, is, c))
+      (refl, has_read source text whole still (λ b. Causes b TooManyThreads) (job, is, c))
   refused_by_job job TooManySays is c =
-      (refl, has_read (λ b. Causes b TooManySays) (job, is, c))
+      (refl, has_read source text whole still (λ b. Causes b TooManySays) (job, is, c))
   refused_by_job job LiveTooSmall is c =
-      (refl, has_read (λ b. Causes b LiveTooSmall) (job, is, c))
-  refused_by_job job NoRate is c = (refl, has_read (λ b. Causes b NoRate) (job, is, c))
+      (refl, has_read source text whole still (λ b. Causes b LiveTooSmall) (job, is, c))
+  refused_by_job job NoRate is c = (refl, has_read source text whole still (λ b. Causes b NoRate) (job, is, c))
   refused_by_job job _ is c = absurd c
 
 -- a text that was not read is refused by its cause

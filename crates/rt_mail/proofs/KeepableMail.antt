@@ -8,7 +8,7 @@ use Rattle.exit_statuses.specs.Sides.{Sides}
 use Rattle.never_heap.specs.declared.Entry.{Entry}
 use Rattle.never_heap.specs.Histories.{parts}
 use Rattle.number_rings.specs.Rings.{IsKeepable, last_numbers}
-use Rattle.operations.proofs.PartLogs.{logged}
+use Rattle.never_heap.proofs.PartLogs.{logged}
 use Rattle.rate_plan.specs.Rates.{IsAdmitted}
 use Rattle.said_numbers.specs.Said.{numbers_said, says_in, AreNumbers}
 use Rattle.said_numbers.proofs.NumbersPerThread.{few_said}

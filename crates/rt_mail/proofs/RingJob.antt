@@ -11,7 +11,7 @@ use Rattle.never_heap.specs.declared.Entry.{Entry}
 use Rattle.never_heap.specs.Histories.{parts}
 use Rattle.never_heap.specs.Runs.{IsRun}
 use Rattle.operations.specs.Linearizations.{traces_of}
-use Rattle.operations.proofs.PartLogs.{logged}
+use Rattle.never_heap.proofs.PartLogs.{logged}
 use Rattle.number_rings.specs.Rings.{Operation, rows_of, command_at, script_of, scripts_from, ring_config, ring_traces, recalled, last_numbers, IsKeepable}
 use Rattle.number_rings.proofs.Chunks.{rows_long}
 use Rattle.number_rings.proofs.Jobs.{rings_fit, rings_admitted}

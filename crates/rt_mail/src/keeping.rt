@@ -8,8 +8,9 @@ ghost use Rattle.rt_mail.specs.Recalled.{HasRings, ring_job, recalled_in};
 
 use atom_board::Closed;
 use block_store::OutOfMemory;
+use heap_system::NoPace;
 use mail_post::Taken;
-use never_heap::{Logs, NoPace};
+use never_heap::Logs;
 use number_rings::{config_of_rings, recalled_numbers, trace_of_ring};
 use std::alloc::Global;
 use std::sync::Wait;

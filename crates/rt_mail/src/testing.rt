@@ -1,7 +1,7 @@
 //! Whole calls over sources and sinks in memory, for the tests.
 
 use crate::{MailExit, mail};
-use never_heap::Pace;
+use heap_system::Pace;
 use std::alloc::{AllocError, Global};
 use std::sync::Wait;
 use std::test::Fail;

@@ -2,7 +2,7 @@
 
 use crate::testing::{Call, made};
 use board_jobs::Meeting;
-use never_heap::NoPace;
+use heap_system::NoPace;
 use std::alloc::{AllocError, Global};
 use std::process::Abort;
 use std::sync::Wait;

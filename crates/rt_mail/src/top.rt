@@ -13,7 +13,7 @@ use crate::exit::MailExit;
 use crate::printing::write_lines;
 use crate::running::{Delivered, mailed};
 use exit_statuses::{Refusal, refused};
-use never_heap::Pace;
+use heap_system::Pace;
 use std::alloc::Global;
 use std::sync::Wait;
 use std::thread::Threads;

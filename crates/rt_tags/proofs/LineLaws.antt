@@ -2,13 +2,15 @@
 use Rattle.std.proofs.Common.{◌≡◌, ℕ, ◌≤◌, ◌^◌, Some, None, List, [], ◌∷◌, codes, decimal, refl, ◌∙◌, subst, arith}
 use Rattle.array_scripts.specs.declared.header.Header.{Header}
 use Rattle.array_scripts.specs.Kinds.{Tokens, IsHeader, Fits, below, line_at, told_at, language}
-use Rattle.array_scripts.proofs.TokenLaws.{bind_then, some_is, chosen, below_sound, below_again, three_of, place_sound}
+use Rattle.array_scripts.proofs.TokenLaws.{chosen, below_sound, below_again, three_of, place_sound}
 use Rattle.array_scripts.proofs.LineLaws.{kind_reads}
 use Rattle.scripts.specs.Scripts.{Reads}
+use Rattle.scripts.proofs.ScriptOrBadLine.{some_is}
 use Rattle.tag_table.specs.declared.operation.Operation.{Operation}
 use Rattle.tag_table.specs.declared.operation.Operation.TheVariants.{Write, Clear, Read}
 use Rattle.tag_table.specs.Tables.{IsOperationInRange}
 use Rattle.trace_text.specs.Reading.{◌>>=◌, no_more_of, one_token_of, two_tokens_of, three_tokens_of}
+use Rattle.trace_text.proofs.Binds.{bind_then}
 use Rattle.rt_tags.specs.Lines.{op_line, write_at, clear_at, read_at, op_at, tag_kind}
 
 -- what an operation's tokens say

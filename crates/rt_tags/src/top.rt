@@ -6,7 +6,7 @@ ghost use Rattle.rt_tags.specs.Calls.{IsCarriedOut};
 
 use crate::exit::TagExit;
 use crate::kind::Tags;
-use never_heap::Pace;
+use heap_system::Pace;
 use script_runs::{ScriptExit, run_script};
 use std::alloc::Global;
 use std::sync::Wait;

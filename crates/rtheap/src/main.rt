@@ -3,8 +3,8 @@
 
 mod help;
 
+use heap_system::NoPace;
 use help::{HELP, VERSION};
-use never_heap::NoPace;
 use program_words::{Question, words_of};
 use rtheap_core::rtheap;
 use std::alloc::AllocError;

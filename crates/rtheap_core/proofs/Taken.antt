@@ -4,7 +4,7 @@ use Rattle.exit_statuses.specs.declared.refusal.Refusal.{Refusal}
 use Rattle.exit_statuses.specs.declared.refusal.Refusal.TheVariants.{OutOfMemory}
 use Rattle.exit_statuses.specs.Refusals.{refusal_of, refusal_of_plan, IsReadWhole, IsReadRefusal, HasRead}
 use Rattle.exit_statuses.specs.Sides.{Sides, IsUnfailed}
-use Rattle.exit_statuses.proofs.WholeTexts.{few_taken, refused_unread}
+use Rattle.exit_statuses.proofs.WholeTexts.{few_taken, refused_unread, has_read}
 use Rattle.rate_plan.specs.declared.PlanFault.{PlanFault}
 use Rattle.rate_plan.specs.declared.PlanFault.TheVariants as plans
 use Rattle.rate_plan.specs.Rates.{IsAdmitted, IsRefusal}
@@ -26,13 +26,10 @@ refused_by_source source r c words a =
 
 module _ (source : Sides) (text : List ℕ) (whole : IsReadWhole input_limit source text)
     (still : IsUnfailed source) where
-  has_read : (P : List ℕ → Type 0) → P text → HasRead input_limit P source
-  has_read P p = record { text = text; whole = whole; holds = p; unfailed = still }
-
   pub without_job : (fault : TraceFault) → IsLineFault (IsFirstBadLine text) fault
       → (words : List (List ℕ)) → AskForJob words → IsCause words source (refusal_of fault)
   without_job (faults.BadLine line why) f words a =
-      (a, has_read (λ b. IsFirstBadLine b line why) f)
+      (a, has_read source text whole still (λ b. IsFirstBadLine b line why) f)
   without_job faults.OutOfMemory f words a =
       ((a.0, a.2), (few_taken input_limit source text whole, still))
   without_job faults.ReadFault f words a = absurd f
@@ -42,9 +39,9 @@ module _ (source : Sides) (text : List ℕ) (whole : IsReadWhole input_limit sou
       → IsRefusal job.config fault → (words : List (List ℕ)) → AskForJob words
       → IsCause words source (refusal_of_plan fault)
   without_rate job is plans.LiveTooSmall f words a =
-      (a, has_read (λ b. Causes words b (refusal_of_plan plans.LiveTooSmall)) (job, is, f))
+      (a, has_read source text whole still (λ b. Causes words b (refusal_of_plan plans.LiveTooSmall)) (job, is, f))
   without_rate job is plans.NoRate f words a =
-      (a, has_read (λ b. Causes words b (refusal_of_plan plans.NoRate)) (job, is, f))
+      (a, has_read source text whole still (λ b. Causes words b (refusal_of_plan plans.NoRate)) (job, is, f))
 
   pub read_as : (job : Job) → IsJob text job → IsReadAs source job
   read_as job is = record { text = text; whole = whole; is_job = is }

@@ -7,6 +7,7 @@ use Rattle.exit_statuses.specs.declared.refusal.Refusal.TheVariants.{Usage, BadL
 use Rattle.exit_statuses.specs.Exits.{IsDueOrFails, IsDueFor}
 use Rattle.exit_statuses.specs.Refusals.{status_of, HasRead}
 use Rattle.exit_statuses.specs.Sides.{Sides}
+use Rattle.exit_statuses.proofs.ExitStatuses.{map_told}
 use Rattle.never_heap.specs.declared.Command.{Command}
 use Rattle.rate_plan.specs.declared.PlanFault.{PlanFault}
 use Rattle.rate_plan.specs.declared.PlanFault.TheVariants as plans
@@ -50,11 +51,6 @@ if_told : (left : Option (List ℕ)) (P : List ℕ → Type 0)
     → ((bytes : List ℕ) → left ≡ Some bytes → P bytes) → IfSome left P
 if_told None P f = tt
 if_told (Some bytes) P f = f bytes refl
-
-map_told : (left : Option (List ℕ)) (P Q : List ℕ → Type 0) → ((bytes : List ℕ) → P bytes → Q bytes)
-    → IfSome left P → IfSome left Q
-map_told None P Q f h = tt
-map_told (Some bytes) P Q f h = f bytes h
 
 -- ---- a replay of a known job
 

@@ -18,7 +18,7 @@ use crate::reading::planned_job;
 use crate::telling::refused;
 use atom_board::Closed;
 use exit_statuses::Refusal;
-use never_heap::Pace;
+use heap_system::Pace;
 use std::alloc::Global;
 use std::sync::Wait;
 use std::thread::Threads;

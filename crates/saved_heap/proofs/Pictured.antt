@@ -1,8 +1,8 @@
 -- A walk over a heap gives its picture.
 use Rattle.std.proofs.Common.{◌≡◌, ℕ, zero, suc, ◌+◌, ◌^◌, ◌<◌, ◌≤◌, ◌⊎◌, Bool, true, false, ◌&&◌, eqb, leb, ltb, List, [], ◌∷◌, ◌++◌, length, map, get_or, inl, inr, refl, sym, ap, ◌∙◌, subst, arith}
 use Rattle.std.specs.List.{list_all}
-use Rattle.std.proofs.lemmas.Bool.{and_parts, cases_lt, eq-eqb, eqb-true, le-leb, lt-ltb, ltb-true}
-use Rattle.std.proofs.lemmas.List.{get_or_past}
+use Rattle.std.proofs.lemmas.Bool.{and_parts, cases_lt, eq-eqb, eqb-true, le-leb, lt-ltb, ltb-true, and_from}
+use Rattle.std.proofs.lemmas.List.{get_or_past, map_push, get_or_default}
 use Rattle.block_store.specs.declared.Name.{Name}
 use Rattle.block_store.specs.declared.Value.{Value}
 use Rattle.block_store.specs.declared.Value.TheVariants.{Nil, Int, Ref}
@@ -13,7 +13,7 @@ use Rattle.heap_pictures.specs.declared.picture.Item.{Item}
 use Rattle.heap_pictures.specs.Pictures.{Content, are_within, graph_of, is_item, is_sound, is_within, view}
 use Rattle.heap_pictures.specs.UpToNames.{AreOneUpToNames, renamed, renamed_object}
 use Rattle.heap_pictures.proofs.Building.{name_is, object_is}
-use Rattle.heap_pictures.proofs.Lists.{get_map, length_map}
+use Rattle.heap_pictures.proofs.Lists.{get_map, length_map, length_front}
 use Rattle.control_heap.specs.Controls.{Control}
 use Rattle.control_heap.specs.Images.{HasRun, Image, image_of}
 use Rattle.control_heap.specs.Seen.{HasSeen, IsSeen, IsSeenAt, value_seen}
@@ -22,14 +22,10 @@ use Rattle.control_heap.proofs.SeenRead.{exists_in, one_name, sixteen_in}
 use Rattle.saved_heap.specs.Orders.{AreInTurn, AreSearched, IsInOrder, named_after}
 use Rattle.saved_heap.specs.Walks.{AreFieldsOf, AreLow, AreRegisters, Grows, HasNumber, HasNumberAt, HasRead, IsEmpty, IsFound, IsItem, IsReading, IsWalk, Reads, ReadsItem, State, Walks, block_seen, is_whole, number_at, numbered, numbered_at}
 use Rattle.saved_heap.specs.Renewals.{IsPictureOf}
-use Rattle.saved_heap.proofs.Walking.{Each, each_at, each_push, grows_on, map_push, other_default, push_low, some_on, values_on}
+use Rattle.saved_heap.proofs.Walking.{Each, each_at, each_push, grows_on, push_low, some_on, values_on}
 
 abbrev pub no_seen : Seen
 no_seen = record { value = Nil; block = 0 }
-
-true_of_both : (x y : Bool) → x ≡ true → y ≡ true → (x && y) ≡ true
-true_of_both true y a b = b
-true_of_both false y a b = absurd cc
 
 abbrev positive : ℕ → Bool
 positive n = ltb 0 n
@@ -63,7 +59,7 @@ module _ (h : Image) (r : Run) (st : HasRun h r) (w : State) (walk : IsWalk r w)
   seen_reached v x a seen some is =
       let kept : IsSeenAt r (Ref a) x = subst (λ u. IsSeenAt r u x) is seen in
       let number : 0 < number_at w x = subst (λ u. HasNumberAt w u x) is some in
-      true_of_both (r.names.kept a) (positive (number_of a)) kept.0
+      and_from (r.names.kept a) (positive (number_of a)) kept.0
       (lt-ltb 0 (number_of a) (subst (λ y. 0 < number_at w y) kept.1 number))
 
   low_number : (x : ℕ) → 0 < number_at w x → number_at w x ≤ length w.found
@@ -117,18 +113,18 @@ module _ (h : Image) (r : Run) (st : HasRun h r) (w : State) (walk : IsWalk r w)
   within_one Nil x seen some = refl
   within_one (Int n) x seen some = lt-ltb n (2 ^ 62) seen
   within_one (Ref a) x seen some =
-      true_of_both (leb 1 (number_at w x)) (leb (number_at w x) (length w.found)) (le-leb 1 (number_at w x) (omega (arith, some)))
+      and_from (leb 1 (number_at w x)) (leb (number_at w x) (length w.found)) (le-leb 1 (number_at w x) (omega (arith, some)))
       (le-leb (number_at w x) (length w.found) (low_number x some))
 
   within_all : (xs : List Seen) → Each (IsSeen r) xs → Each (HasNumber w) xs → are_within (length w.found) (map (numbered w) xs) ≡ true
   within_all [] seen some = refl
   within_all (x ∷ xs) seen some =
-      true_of_both (is_within (length w.found) (numbered w x)) (are_within (length w.found) (map (numbered w) xs)) (within_one x.value x.block seen.0 some.0) (within_all xs seen.1 some.1)
+      and_from (is_within (length w.found) (numbered w x)) (are_within (length w.found) (map (numbered w) xs)) (within_one x.value x.block seen.0 some.0) (within_all xs seen.1 some.1)
 
   all_items : (n : ℕ) (os : List Object) → ((k : ℕ) → k < length os → is_item n (get_or os k no_object) ≡ true) → list_all (is_item n) os ≡ true
   all_items n [] each = refl
   all_items n (o ∷ os) each =
-      true_of_both (is_item n o) (list_all (is_item n) os) (each 0 (omega arith)) (all_items n os (λ k low. each (suc k) (omega (arith, low))))
+      and_from (is_item n o) (list_all (is_item n) os) (each 0 (omega arith)) (all_items n os (λ k low. each (suc k) (omega (arith, low))))
 
   module _ (rs : List Seen) (registers : AreRegisters h rs) (some : Each (HasNumber w) rs) (os : List Object) (all : length os ≡ length w.found)
       (items : (k : ℕ) (d : Seen) (e : Object) → k < length os → IsItem h w (get_or w.found k d) (get_or os k e)) where
@@ -213,7 +209,7 @@ module _ (h : Image) (r : Run) (st : HasRun h r) (w : State) (walk : IsWalk r w)
         let m = length_map (numbered w) item.fields in
         let f = ap length item.values in
         subst (λ n. is_item n (get_or os k no_object) ≡ true) (sym all)
-        (true_of_both (leb (length (get_or os k no_object).fields) 65535) (are_within (length w.found) (get_or os k no_object).fields)
+        (and_from (leb (length (get_or os k no_object).fields) 65535) (are_within (length w.found) (get_or os k no_object).fields)
         (le-leb (length (get_or os k no_object).fields) 65535 (omega (arith, few, m, f)))
         (ap (are_within (length w.found)) item.values ∙ within_all item.fields its.1.seen item.some))
 
@@ -222,8 +218,8 @@ module _ (h : Image) (r : Run) (st : HasRun h r) (w : State) (walk : IsWalk r w)
         let m = length_map (numbered w) rs in
         let l = registers.sixteen in
         let n = length os in
-        true_of_both (eqb (length (map (numbered w) rs)) 16 && are_within n (map (numbered w) rs)) (list_all (is_item n) os)
-        (true_of_both (eqb (length (map (numbered w) rs)) 16) (are_within n (map (numbered w) rs))
+        and_from (eqb (length (map (numbered w) rs)) 16 && are_within n (map (numbered w) rs)) (list_all (is_item n) os)
+        (and_from (eqb (length (map (numbered w) rs)) 16) (are_within n (map (numbered w) rs))
         (eq-eqb (length (map (numbered w) rs)) 16 (omega (arith, m, l)))
         (subst (λ k. are_within k (map (numbered w) rs) ≡ true) (sym all) (within_all rs rs_seen some)))
         (all_items n os item_sound)
@@ -243,10 +239,6 @@ at_end : {A : Type 0} (xs : List A) (x d : A) → get_or (xs ++ x ∷ []) (lengt
 at_end [] x d = refl
 at_end (y ∷ xs) x d = at_end xs x d
 
-push_long : {A : Type 0} (xs : List A) (x : A) → length (xs ++ x ∷ []) ≡ suc (length xs)
-push_long [] x = refl
-push_long (y ∷ xs) x = ap suc (push_long xs x)
-
 -- one object more of a search
 search_on : (k n m l : ℕ) (os : List Object) (o : Object) → k + length os < m → AreInTurn m o.fields → named_after m o.fields ≡ l → AreSearched k n os m
     → AreSearched k n (os ++ o ∷ []) l
@@ -257,14 +249,14 @@ search_on k n m l (p ∷ os) o low turn named all = (all.0, all.1, search_on (su
 pub item_walked : (h : Image) (w v u : State) (os : List Object) (s : Seen) (o : Object) → Walks h w v os → length os < length v.found
     → s ≡ get_or v.found (length os) s → ReadsItem h v u s o → Walks h w u (os ++ o ∷ [])
 item_walked h w v u os s o all low is read = record {
-  few = let l = read.grows.longer in let m = push_long os o in omega (arith, low, l, m);
+  few = let l = read.grows.longer in let m = length_front os o in omega (arith, low, l, m);
   items = λ k d e less.
       elim (cases_lt k (length os)) [
         | inl before ↦ let old = item_on h v u (get_or v.found k d) (get_or os k e) read.grows (all.items k d e before) in
             let few = all.few in
             subst (λ x. IsItem h u x (get_or (os ++ o ∷ []) k e)) (sym (read.grows.found k d (omega (arith, before, few))))
             (subst (λ y. IsItem h u (get_or v.found k d) y) (sym (push_low os o e k before)) old)
-        | inr after ↦ let m = push_long os o in
+        | inr after ↦ let m = length_front os o in
             let last : k ≡ length os = omega (arith, less, after, m) in
             let place : get_or u.found k d ≡ s = read.grows.found k d (omega (arith, low, last)) ∙ ap (λ i. get_or v.found i d) last ∙ other d in
             let value : get_or (os ++ o ∷ []) k e ≡ o = ap (λ i. get_or (os ++ o ∷ []) i e) last ∙ at_end os o e in
@@ -282,7 +274,7 @@ item_walked h w v u os s o all low is read = record {
 }
   where
     other : (d : Seen) → get_or v.found (length os) d ≡ s
-    other d = other_default v.found (length os) d s low ∙ sym is
+    other d = get_or_default v.found (length os) d s low ∙ sym is
 
 -- one item more
 pub walked_on : (h : Image) (w v u : State) (xs zs : List Item) (x : Item) (n : ℕ) (s : Seen) → length xs ≡ n → n < length v.found
@@ -438,7 +430,7 @@ left_over i ys w os n a b long some reading how not =
       | inl e ↦ e
       | inr more ↦ let few = all.walked.few in
           let e : n ≡ length w.found = omega (arith, long, few, more) in
-          absurd (not_both (sym not ∙ true_of_both (ltb 0 (length ys)) (eqb n (length w.found)) (lt-ltb 0 (length ys) some) (eq-eqb n (length w.found) e)))
+          absurd (not_both (sym not ∙ and_from (ltb 0 (length ys)) (eqb n (length w.found)) (lt-ltb 0 (length ys) some) (eq-eqb n (length w.found) e)))
     ]
   where
     not_both : false ≡ true → ⊥

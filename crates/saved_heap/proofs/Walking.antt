@@ -3,7 +3,7 @@ use Rattle.std.proofs.Common.{◌≡◌, ℕ, zero, suc, ◌+◌, ◌<◌, ◌�
 use Rattle.std.specs.List.{AllByRecursion}
 use Rattle.std.proofs.Math.Seq.{take-suc}
 use Rattle.std.proofs.lemmas.Bool.{cases_eq, cases_lt}
-use Rattle.std.proofs.lemmas.List.{get_or-set_same, get_or-set_other}
+use Rattle.std.proofs.lemmas.List.{get_or-set_same, get_or-set_other, map_push}
 use Rattle.block_store.specs.declared.Name.{Name}
 use Rattle.block_store.specs.declared.Value.{Value}
 use Rattle.block_store.specs.declared.Value.TheVariants.{Nil, Int, Ref}
@@ -23,10 +23,6 @@ pub each_push : {A : Type 0} (P : A → Type 0) (xs : List A) (x : A) → Each P
 each_push P [] x all one = (one, tt)
 each_push P (y ∷ xs) x all one = (all.0, each_push P xs x all.1 one)
 
-pub map_push : {A B : Type 0} (f : A → B) (xs : List A) (x : A) → map f (xs ++ x ∷ []) ≡ map f xs ++ f x ∷ []
-map_push f [] x = refl
-map_push f (y ∷ xs) x = ap (λ l. f y ∷ l) (map_push f xs x)
-
 pub each_at : {A : Type 0} (P : A → Type 0) (xs : List A) (i : ℕ) (d : A) → i < length xs → Each P xs → P (get_or xs i d)
 each_at P [] i d low all = absurd (omega (arith, low))
 each_at P (x ∷ xs) zero d low all = all.0
@@ -44,11 +40,6 @@ pub push_low : {A : Type 0} (xs : List A) (x d : A) (k : ℕ) → k < length xs 
 push_low [] x d k low = absurd (omega (arith, low))
 push_low (y ∷ xs) x d zero low = refl
 push_low (y ∷ xs) x d (suc k) low = push_low xs x d k (omega (arith, low))
-
-pub other_default : {A : Type 0} (xs : List A) (k : ℕ) (d e : A) → k < length xs → get_or xs k d ≡ get_or xs k e
-other_default [] k d e less = absurd (omega (arith, less))
-other_default (x ∷ xs) zero d e less = refl
-other_default (x ∷ xs) (suc k) d e less = other_default xs k d e (omega (arith, less))
 
 pub push_zero : (xs : List ℕ) (x : ℕ) → get_or (xs ++ 0 ∷ []) x 0 ≡ get_or xs x 0
 push_zero [] zero = refl

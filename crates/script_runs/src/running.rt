@@ -15,7 +15,7 @@ use array_scripts::{Runnable, all_answers, planned, read_script, traces};
 use atom_board::Closed;
 use block_store::{Config, OutOfMemory};
 use exit_statuses::Refusal;
-use never_heap::Pace;
+use heap_system::Pace;
 use std::alloc::Global;
 use std::sync::Wait;
 use std::thread::Threads;

@@ -11,7 +11,7 @@ use crate::running::kept;
 use array_scripts::{Runnable, tell_answers};
 use atom_board::Closed;
 use exit_statuses::{Refusal, refused};
-use never_heap::Pace;
+use heap_system::Pace;
 use std::alloc::Global;
 use std::sync::Wait;
 use std::thread::Threads;

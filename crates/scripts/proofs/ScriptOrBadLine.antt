@@ -2,7 +2,7 @@
 use Rattle.std.proofs.Common.{◌≡◌, ℕ, ◌+◌, ◌<◌, ◌⊎◌, inl, inr, Option, Some, None, List, [], ◌∷◌, ◌++◌, drop, get_or, map, append-nil, refl, sym, ap, ◌∙◌, arith, subst}
 use Rattle.scripts.specs.Scripts.{Said, Thread, Told, End, Start, Among, Done, Language, thread_lines, script_lines, behind, begins, or_bad, bad_line, AreFit, AllFit, IsScript, Reads, begin_thread, front_op, told_next, told}
 
-some_is : {A : Type 0} {x y : A} → Some x ≡ Some y → x ≡ y
+pub some_is : {A : Type 0} {x y : A} → Some x ≡ Some y → x ≡ y
 some_is {A} {x} {y} f = ap (λ (o : Option A). or o) f
   where
     or : Option A → A

@@ -11,8 +11,9 @@ use Rattle.never_heap.proofs.HistoryGrowth.{part_append}
 use Rattle.heap_system.specs.Lives.{sum_after, objects_of}
 use Rattle.heap_system.specs.Locals.{LocalState, is_done, works}
 use Rattle.heap_system.proofs.OwedAndPaid.{works_append}
+use Rattle.heap_system.proofs.TraceSums.{sum_more}
+use Rattle.heap_system.proofs.TurnFacts.{as_long}
 use Rattle.control_heap.proofs.Behind.{behind_done, history_of as history_of_thread}
-use Rattle.control_heap.proofs.GrownJobs.{sum_more}
 use Rattle.shared_heap.specs.declared.port.Port.{Port}
 use Rattle.shared_heap.specs.declared.rules.Held.{Held}
 use Rattle.shared_heap.specs.declared.rules.Past.{Past}
@@ -24,7 +25,7 @@ use Rattle.shared_heap.specs.Turns.{GoesFar}
 use Rattle.shared_heap.specs.Pending.{Awaits, IsPending, IsStillPending, MadeMore, PendingState, pending_of, start_pending}
 use Rattle.shared_heap.specs.Workers.{HasAnswered, HasMade, IsKept, IsSame, Keeps, WorkerState, worker_of}
 use Rattle.shared_heap.proofs.Asking.{held_is, is_kept, is_pending, notes_are, sound_of}
-use Rattle.shared_heap.proofs.Rests.{as_long, its_part, its_said}
+use Rattle.shared_heap.proofs.Rests.{its_part, its_said}
 use Rattle.shared_heap.proofs.Runs.{far_behind}
 use Rattle.shared_heap.proofs.Views.{starts_on}
 

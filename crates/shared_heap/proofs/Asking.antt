@@ -7,16 +7,18 @@ use Rattle.atomic_table.specs.Table as table
 use Rattle.atomic_table.specs.Seated.{TableId}
 use Rattle.block_store.specs.declared.Config.{Config}
 use Rattle.rate_plan.specs.Rates.{IsRate}
+use Rattle.rate_plan.proofs.Rates.{one_rate}
 use Rattle.never_heap.specs.declared.Command.{Command}
 use Rattle.never_heap.specs.Bounds.{IsCommandInBounds}
 use Rattle.never_heap.specs.Histories.{part}
 use Rattle.never_heap.specs.RightWork.{units_owed}
 use Rattle.heap_system.specs.Lives.{objects_of, most_commands, most_units, most_objects}
 use Rattle.heap_system.specs.Locals.{LocalState, IsLocal, begun, is_done, is_rest, works}
-use Rattle.heap_system.proofs.SystemStart.{one_rate}
+use Rattle.heap_system.proofs.TraceSums.{sum_last}
+use Rattle.heap_system.proofs.TurnFacts.{at_rest, as_long}
 use Rattle.control_heap.specs.Growth.{given}
 use Rattle.control_heap.proofs.Behind.{given_behind}
-use Rattle.control_heap.proofs.GrownJobs.{HasRoomFor, sum_last}
+use Rattle.control_heap.proofs.GrownJobs.{HasRoomFor}
 use Rattle.shared_heap.specs.declared.rules.Held.{Held}
 use Rattle.shared_heap.specs.declared.rules.Moment.{Moment}
 use Rattle.shared_heap.specs.declared.rules.Past.{Past}
@@ -24,7 +26,7 @@ use Rattle.shared_heap.specs.declared.rules.View.{View}
 use Rattle.shared_heap.specs.Shared.{AllOfRuns, AllSeenIn, Gives, IsOfRun, IsStartOf, behind, first_held, given_of, given_past, gives_on, held, held_of, history_of, one_view}
 use Rattle.shared_heap.specs.Pending.{Awaits, HasAnnounced, IsPending, MayAnnounce, PendingState, pending_of, start_pending}
 use Rattle.shared_heap.specs.Workers.{AllStart, HasLeft, HasRoom, HasSeenIts, IsDealt, IsKept, Keeps, WorkerState, worker_of}
-use Rattle.shared_heap.proofs.Rests.{as_long, at_rest, its_fits, its_legal, its_licensed, its_part, its_rate, its_right, its_said, its_spent, part_begun, room_for}
+use Rattle.shared_heap.proofs.Rests.{its_fits, its_legal, its_licensed, its_part, its_rate, its_right, its_said, its_spent, part_begun, room_for}
 use Rattle.shared_heap.proofs.Views.{noted_start, starts_itself}
 
 -- what the seat knows is one thread with these notes

@@ -8,17 +8,14 @@ use Rattle.block_store.specs.declared.Config.{Config}
 use Rattle.never_heap.specs.declared.Command.{Command}
 use Rattle.heap_system.specs.Locals.{is_done}
 use Rattle.heap_system.specs.Machines.{State, IsJob, IsOpening, no_local}
+use Rattle.heap_system.proofs.Always.{start_count}
+use Rattle.atom_board.proofs.Crews.{get_or_map}
 use Rattle.shared_heap.specs.declared.rules.Held.{Held}
 use Rattle.shared_heap.specs.declared.rules.Moment.{Moment}
 use Rattle.shared_heap.specs.declared.rules.View.{View}
 use Rattle.shared_heap.specs.Shared.{joined, one_view}
 use Rattle.shared_heap.specs.Workers.{AreOnes, HeapState, WorkerState, AreInOrder, AreFresh, AreOfWorkers, IsOfWorker, IsSame, KnowsAll, start_worker, worker_of}
-use Rattle.shared_heap.proofs.InitialHeaps.{config_at, many, thread_at}
-
-pub get_or_map : {A B : Type 0} (f : A → B) (l : List A) (i : ℕ) (d : B) (e : A) → i < length l → get_or (map f l) i d ≡ f (get_or l i e)
-get_or_map f [] i d e low = absurd (omega arith)
-get_or_map f (x ∷ l) zero d e low = refl
-get_or_map f (x ∷ l) (suc i) d e low = get_or_map f l i d e (omega arith)
+use Rattle.shared_heap.proofs.InitialHeaps.{config_at, thread_at}
 
 -- the first is removed
 pub taken_first : (xs ys : List WorkerState) (x : WorkerState) → 0 < length xs → x ≡ get_or xs 0 x → ys ≡ remove xs 0 → x ∷ ys ≡ xs
@@ -53,7 +50,7 @@ of_at (w ∷ ws) (h ∷ hs) (suc i) d e all low = of_at ws hs i d e all.1 (omega
 module _ (c : Config) (traces : List (List Command)) (job : IsJob c traces) (s : State) (start : IsOpening c traces s) (ones : AreOnes traces) (id : TableId) (ws : List WorkerState) (are : ws ≡ map (start_worker id) s.locals) where
   pub in_order : (h : HeapState) → h ≡ record { id = id; config = c } → AreInOrder h ws
   in_order h is = subst (λ x. AreInOrder x ws) (sym is) (subst (λ xs. AreInOrder (record { id = id; config = c }) xs) (sym are) (record {
-    count = length-map s.locals (start_worker id) ∙ many c traces job s start;
+    count = length-map s.locals (start_worker id) ∙ start_count c traces job s start;
     each = λ t d low.
         (let tl : t < length s.locals = omega (arith, low, length-map s.locals (start_worker id)) in
         let e = get_or_map (start_worker id) s.locals t d (no_local c) tl in

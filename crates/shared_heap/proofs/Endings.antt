@@ -1,6 +1,6 @@
 -- A seat that has all threads, each of them done, knows that there is one history.
 use Rattle.std.proofs.Common.{◌≡◌, ℕ, zero, suc, ◌-◌, ◌*◌, ◌<◌, ◌≤◌, true, refl, arith, subst, sym, ap, ◌∙◌, List, [], ◌∷◌, length, get_or, map}
-use mathlib.Core.Option.{some, some-injective, some-ne-none}
+use mathlib.Core.Option.{some}
 use lib.ListN.{get_elem?}
 use Rattle.atomic_table.specs.Table as table
 use Rattle.block_store.specs.declared.Config.{Config}
@@ -16,15 +16,17 @@ use Rattle.heap_system.proofs.Kept.{Kept}
 use Rattle.heap_system.proofs.LawsOf.{laws_of}
 use Rattle.heap_system.proofs.RunBounds.{all_done, least, licensed, most, never_full}
 use Rattle.heap_system.proofs.TalliesOf.{tallies_of}
-use Rattle.heap_system.proofs.TurnFacts.{right_work}
+use Rattle.heap_system.proofs.TurnFacts.{right_work, at_rest}
+use Rattle.heap_system.proofs.RunLaws.{kept_of}
+use Rattle.atom_board.proofs.Endings.{first_word}
 use Rattle.shared_heap.specs.declared.rules.Held.{Held}
 use Rattle.shared_heap.specs.declared.rules.View.{View}
 use Rattle.shared_heap.specs.Shared.{Fits, AllFit, SharedKept, IsStartOf, first_past, held}
 use Rattle.shared_heap.specs.Workers.{HeapState, WorkerState, AreInOrder, AreOfWorkers, IsOfWorker, KnowsAll, HasPart, HaveOneHistory, IsOfMachine}
 use Rattle.shared_heap.proofs.Crews.{of_at, of_long}
-use Rattle.shared_heap.proofs.Grown.{here, kept_of}
+use Rattle.shared_heap.proofs.Grown.{here}
 use Rattle.shared_heap.proofs.Orders.{nobody}
-use Rattle.shared_heap.proofs.Rests.{at_rest, said_when_done, told_at_rest}
+use Rattle.shared_heap.proofs.Rests.{said_when_done, told_at_rest}
 
 pub fit_at : (c : Config) (r : Run) (hs : List Held) (i : ℕ) (d : Held) → AllFit c r hs → i < length hs → Fits c r (get_or hs i d)
 fit_at c r [] i d fit low = absurd (omega arith)
@@ -135,11 +137,6 @@ module _ (k : Whole) (s : table.State Command View) (kept : SharedKept k s) (id 
         most_units = many cycles started;
         machine = machine;
       })
-
--- the word that is read at place 0 is the phase word
-first_word : (ws : List ℕ) (w : ℕ) → get_elem? ws 0 ≡ some w → get_or ws 0 0 ≡ w
-first_word [] w e = absurd (some-ne-none w (sym e))
-first_word (x ∷ ws) w e = some-injective x w e
 
 pub cycle_is : (s : table.State Command View) (ws : List ℕ) (w : ℕ) → s.words ≡ ws → get_elem? ws 0 ≡ some w → cycle_of (get_or s.words 0 0) ≡ cycle_of w
 cycle_is s ws w same at = ap (λ x. cycle_of (get_or x 0 0)) same ∙ ap cycle_of (first_word ws w at)

@@ -15,6 +15,7 @@ use Rattle.heap_system.specs.Locals.{LocalState, is_done}
 use Rattle.heap_system.specs.Machines.{Run, local_in}
 use Rattle.heap_system.specs.Systems.{Whole}
 use Rattle.heap_system.proofs.Kept.{Kept}
+use Rattle.heap_system.proofs.RunLaws.{kept_of}
 use Rattle.control_heap.specs.Controls.{IsByEvents}
 use Rattle.control_heap.specs.Growth.{given, run_grown}
 use Rattle.control_heap.proofs.GrownJobs.{HasRoomFor}
@@ -25,7 +26,7 @@ use Rattle.shared_heap.specs.declared.rules.View.{View}
 use Rattle.shared_heap.specs.Shared.{Fits, AllFit, AllNotedIn, AllTimed, SharedKept, Gives, IsOfRun, IsStartOf, held, history_of, one_view, given_past, gives_on}
 use Rattle.shared_heap.proofs.Views.{seat_parts, seats_set, grown_at, others_same, history_is, moments_of, starts_itself}
 use Rattle.shared_heap.proofs.Timed.{timed_given, timed_grown}
-use Rattle.shared_heap.proofs.Grown.{events_grown, events_grown_long, given_here, here, kept_of}
+use Rattle.shared_heap.proofs.Grown.{events_grown, events_grown_long, given_here, here}
 
 -- a compare-exchange of 0 with 0 changes no word
 same_word : (w : ℕ) → either (eqb w 0) 0 w ≡ w

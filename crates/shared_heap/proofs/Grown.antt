@@ -7,17 +7,13 @@ use Rattle.never_heap.specs.declared.Command.TheVariants as commands
 use Rattle.never_heap.specs.Bounds.{IsCommandInBounds}
 use Rattle.heap_system.specs.Locals.{LocalState, is_done}
 use Rattle.heap_system.specs.Machines.{Run, IsAfterTurns, has_event, local_in, next, no_local, opened}
-use Rattle.heap_system.proofs.Always.{opening_kept, run_kept}
-use Rattle.heap_system.proofs.Kept.{Kept}
-use Rattle.heap_system.proofs.LawsOf.{laws_of}
+use Rattle.heap_system.proofs.Always.{opening_kept}
 use Rattle.heap_system.proofs.TurnFacts.{after_last}
+use Rattle.heap_system.proofs.RunLaws.{kept_of}
 use Rattle.control_heap.specs.Controls.{IsByEvents}
 use Rattle.control_heap.specs.Growth.{given, grown, run_grown}
 use Rattle.control_heap.proofs.GrownRuns.{go_more, go_grown, local_grown}
 use Rattle.control_heap.proofs.GrownJobs.{HasRoomFor, job_grown, run_extended}
-
-pub kept_of : (c : Config) (r : Run) (is : IsAfterTurns c r) → Kept c is.traces r
-kept_of c r is = run_kept c is.traces (laws_of c) is.job is.turns r is.by_turns
 
 module _ (c : Config) (t : ℕ) (tl : t < c.threads) (r : Run) where
   -- one turn more that is an event

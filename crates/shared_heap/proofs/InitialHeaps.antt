@@ -1,7 +1,6 @@
 -- The rule holds at the start, where the first seat has all threads, and none has a command.
 use Rattle.std.proofs.Common.{◌≡◌, ℕ, zero, suc, ◌≤◌, ◌<◌, ◌+◌, eqb, true, false, refl, arith, subst, sym, ap, ◌∙◌, List, [], ◌∷◌, ◌++◌, length, length-append, append_assoc, get_or, map, eq-eqb, ne_eqb, inl, inr}
 use Rattle.std.proofs.lemmas.Bool.{cases_eq}
-use Rattle.std.proofs.lemmas.List.{get_or_default}
 use Rattle.std.specs.List.{AllByRecursion}
 use mathlib.Core.Option.{some, some-injective, some-ne-none}
 use lib.ListN.{get_elem?}
@@ -14,11 +13,11 @@ use Rattle.never_heap.specs.Bounds.{IsCommandInBounds}
 use Rattle.never_heap.specs.Histories.{Started}
 use Rattle.heap_system.specs.Lives.{IsLife}
 use Rattle.heap_system.specs.Locals.{LocalState, at_start}
-use Rattle.heap_system.specs.Machines.{Run, State, no_local, starts_from, opened, IsJob, IsOpening, local_in}
+use Rattle.heap_system.specs.Machines.{Run, State, starts_from, opened, IsJob, IsOpening, local_in}
 use Rattle.heap_system.specs.Systems.{Whole}
-use Rattle.heap_system.proofs.Always.{here}
-use Rattle.heap_system.proofs.SystemStart.{length_starts}
+use Rattle.heap_system.proofs.Always.{here, start_count, start_at}
 use Rattle.control_heap.specs.Controls.{IsByEvents}
+use Rattle.atom_board.proofs.InitialHeaps.{at_length}
 use Rattle.shared_heap.specs.declared.rules.Held.{Held}
 use Rattle.shared_heap.specs.declared.rules.View.{View}
 use Rattle.shared_heap.specs.Shared.{AllFit, AllNotedIn, AllTimed, SharedKept, IsOfRun, IsStartOf, threads_of, first_held, first_past, first_view, held, unasked}
@@ -54,10 +53,6 @@ idle_job c traces job = record {
 pub unasked_starts : (c : Config) (rate : ℕ) (space : ℕ → ℕ) (t : ℕ) (traces : List (List Command)) → map unasked (starts_from c rate space t traces) ≡ starts_from c rate space t (nothings traces)
 unasked_starts c rate space t [] = refl
 unasked_starts c rate space t (x ∷ xs) = ap (λ ls. at_start c rate (space t) t [] ∷ ls) (unasked_starts c rate space (t + 1) xs)
-
-at_length : (ls gs : List LocalState) (l d : LocalState) → l ≡ get_or (ls ++ l ∷ gs) (length ls) d
-at_length [] gs l d = refl
-at_length (x ∷ ls) gs l d = at_length ls gs l d
 
 -- a thread that has seen the start of cycle 1
 abbrev opening_held : LocalState → Held
@@ -148,12 +143,6 @@ module _ (c : Config) (traces : List (List Command)) (job : IsJob c traces) (s :
   pub each_once : (t : ℕ) → t < c.threads → threads_of t (map first_held s.locals) ≡ 1
   each_once t tl = ap (threads_of t) held_are ∙ one_within c start.rate start.space 0 t (nothings traces) (omega arith) (omega (arith, tl, (idle_job c traces job).bounds.threads))
 
-  pub many : length s.locals ≡ c.threads
-  many = ap length start.locals ∙ length_starts c start.rate start.space 0 traces ∙ job.bounds.threads
-
-  pub start_at : (i : ℕ) (d : LocalState) → i < length s.locals → get_or s.locals i d ≡ at_start c start.rate (start.space i) i (get_or traces i [])
-  start_at i d low = get_or_default s.locals i d (no_local c) low ∙ here c traces job s start i (omega (arith, many, low))
-
   pub idle_at : (i : ℕ) → i < c.threads → local_in c (opened c idle) i ≡ at_start c start.rate (start.space i) i (get_or (nothings traces) i [])
   idle_at i low = here c (nothings traces) (idle_job c traces job) idle idle_opening i low
 
@@ -224,7 +213,7 @@ module _ (c : Config) (traces : List (List Command)) (job : IsJob c traces) (s :
 
   pub dealt_at : (ws : ℕ) → ws ≡ length s.words → (i : ℕ) (d : LocalState) → i < length s.locals → IsDealt ws (get_or s.locals i d)
   dealt_at ws count i d low =
-      let il : i < c.threads = omega (arith, many c traces job s start, low) in
+      let il : i < c.threads = omega (arith, start_count c traces job s start, low) in
       subst (λ l. IsDealt ws l) (sym (start_at c traces job s start i d low)) (record {
         told = start_of_run i (at_start c start.rate (start.space i) i (get_or traces i [])) il;
         rest = refl;

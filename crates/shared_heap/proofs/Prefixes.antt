@@ -25,9 +25,10 @@ use Rattle.heap_system.proofs.Kept.{Kept}
 use Rattle.heap_system.proofs.LawsOf.{laws_of}
 use Rattle.heap_system.proofs.RunBounds.{licensed}
 use Rattle.heap_system.proofs.TalliesOf.{tallies_of}
-use Rattle.heap_system.proofs.TurnFacts.{rest_is, right_work}
+use Rattle.heap_system.proofs.TurnFacts.{rest_is, right_work, at_rest, as_long}
 use Rattle.heap_system.proofs.alone.Near.{near_ends}
 use Rattle.heap_system.proofs.alone.Runs.{lone_ends}
+use Rattle.heap_system.proofs.RunLaws.{kept_of}
 use Rattle.control_heap.specs.Controls.{IsByEvents}
 use Rattle.control_heap.specs.Growth.{given, run_grown}
 use Rattle.control_heap.proofs.GrownJobs.{HasRoomFor}
@@ -39,8 +40,8 @@ use Rattle.shared_heap.specs.Shared.{Fits, AllFit, SharedKept, IsOfRun, later_pa
 use Rattle.shared_heap.specs.Workers.{HasRoom}
 use Rattle.shared_heap.specs.Prefixes.{AllDone, HasPartOf, AllHaveParts, FitsOneHistory, AllAreDone, EndsInTime}
 use Rattle.shared_heap.proofs.Views.{history_is, moments_of, seen_fits}
-use Rattle.shared_heap.proofs.Grown.{events_grown, given_here, here, kept_of}
-use Rattle.shared_heap.proofs.Rests.{as_long, at_rest, room_for}
+use Rattle.shared_heap.proofs.Grown.{events_grown, given_here, here}
+use Rattle.shared_heap.proofs.Rests.{room_for}
 
 one_at_most : (t : ℕ) (k : Command) (work : ℕ) (a : Option Reply) → length (entries_of t k work a) ≤ 1
 one_at_most t k work None = omega arith

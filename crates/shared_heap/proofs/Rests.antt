@@ -1,6 +1,5 @@
 -- What holds of a thread of a run, and of one that is done.
-use Rattle.std.proofs.Common.{List, ◌≡◌, ℕ, ◌<◌, true, eqb, eqb-true, ◌++◌, length, append-nil, map, take, sym, ap, ◌∙◌, subst, arith}
-use Rattle.std.proofs.lemmas.Bool.{and_parts}
+use Rattle.std.proofs.Common.{List, ◌≡◌, ℕ, ◌<◌, true, ◌++◌, append-nil, map, take, sym, ap, ◌∙◌, subst, arith}
 use Rattle.std.proofs.Math.Seq.{take-length}
 use Rattle.block_store.specs.declared.Config.{Config}
 use Rattle.rate_plan.specs.Rates.{IsRate}
@@ -20,20 +19,13 @@ use Rattle.heap_system.proofs.LawsOf.{laws_of}
 use Rattle.heap_system.proofs.RunBounds.{licensed}
 use Rattle.heap_system.proofs.SeenAndKept.{IsSettled}
 use Rattle.heap_system.proofs.TalliesOf.{tallies_of}
-use Rattle.heap_system.proofs.RunLaws.{entries_right}
-use Rattle.heap_system.proofs.TurnFacts.{rest_is, right_work}
-use Rattle.control_heap.proofs.GrownJobs.{HasRoomFor, owed_works}
+use Rattle.heap_system.proofs.RunLaws.{entries_right, kept_of}
+use Rattle.heap_system.proofs.TurnFacts.{rest_is, right_work, at_rest, as_long}
+use Rattle.heap_system.proofs.TraceSums.{owed_works}
+use Rattle.control_heap.proofs.GrownJobs.{HasRoomFor}
 use Rattle.shared_heap.specs.declared.rules.Past.{Past}
 use Rattle.shared_heap.specs.Shared.{IsOfRun, history_of}
 use Rattle.shared_heap.specs.Workers.{HasRoom}
-use Rattle.shared_heap.proofs.Grown.{kept_of}
-
--- a thread that is done is at rest, with as many entries as commands
-pub at_rest : (l : LocalState) → is_done l ≡ true → is_rest l.part ≡ true
-at_rest l done = (and_parts (is_rest l.part) (eqb (length l.log) (length l.trace)) done).0
-
-pub as_long : (l : LocalState) → is_done l ≡ true → length l.log ≡ length l.trace
-as_long l done = eqb-true (length l.log) (length l.trace) (and_parts (is_rest l.part) (eqb (length l.log) (length l.trace)) done).1
 
 module _ (c : Config) (t : ℕ) (tl : t < c.threads) (r : Run) (is : IsAfterTurns c r) where
   abbrev own : LocalState

@@ -20,6 +20,7 @@ use Rattle.heap_system.proofs.ThreadAccounts.{local_reads}
 use Rattle.heap_system.proofs.Kept.{Kept}
 use Rattle.heap_system.proofs.KeptByTurns.{sums}
 use Rattle.heap_system.proofs.LawsOf.{laws_of}
+use Rattle.heap_system.proofs.RunLaws.{kept_of}
 use Rattle.control_heap.specs.Controls.{IsByEvents}
 use Rattle.shared_heap.specs.declared.rules.Held.{Held}
 use Rattle.shared_heap.specs.declared.rules.Moment.{Moment}
@@ -29,7 +30,7 @@ use Rattle.shared_heap.specs.Shared.{Fits, AllFit, AllNotedIn, AllTimed, SharedK
 use Rattle.shared_heap.specs.Spans.{IsTimed}
 use Rattle.shared_heap.proofs.Timed.{in_time, timed_append, timed_next, timed_others}
 use Rattle.shared_heap.proofs.Views.{first_timed, rest_timed, seat_parts, seats_set, seats_append, threads_append, cut_sum, fit_append, first_fit, rest_fit, others_fit, history_is, moments_of, noted_append, noted_more, seen_noted, starts_itself, starts_more}
-use Rattle.shared_heap.proofs.Grown.{events_more, events_more_long, goes, here, kept_of}
+use Rattle.shared_heap.proofs.Grown.{events_more, events_more_long, goes, here}
 
 -- what one event of thread t is, of this run
 module _ (c : Config) (t : ℕ) (tl : t < c.threads) (r : Run) (by : IsByEvents c r) (l : LocalState) (at : l ≡ local_in c r t) (going : is_done l ≡ false) where

@@ -13,6 +13,8 @@ use Rattle.heap_system.proofs.Kept.{Kept}
 use Rattle.heap_system.proofs.LawsOf.{laws_of}
 use Rattle.heap_system.proofs.alone.Near.{near_ends}
 use Rattle.heap_system.proofs.alone.Runs.{lone_ends}
+use Rattle.heap_system.proofs.RunLaws.{kept_of}
+use Rattle.heap_system.proofs.TurnFacts.{at_rest, as_long}
 use Rattle.control_heap.specs.Controls.{IsByEvents}
 use Rattle.control_heap.specs.Growth.{given, run_grown}
 use Rattle.control_heap.proofs.GrownRuns.{local_grown, next_grown}
@@ -20,8 +22,7 @@ use Rattle.shared_heap.specs.declared.rules.Held.{Held}
 use Rattle.shared_heap.specs.declared.rules.Moment.{Moment}
 use Rattle.shared_heap.specs.Shared.{AllFit, AllTimed, given_past, held, stepped_past, threads_of}
 use Rattle.shared_heap.specs.Spans.{EndsBy, IsAlone, IsBound, IsInTime, IsTimed}
-use Rattle.shared_heap.proofs.Grown.{given_here, here, kept_of}
-use Rattle.shared_heap.proofs.Rests.{as_long, at_rest}
+use Rattle.shared_heap.proofs.Grown.{given_here, here}
 use Rattle.shared_heap.proofs.Views.{apart_of}
 
 -- an event of a thread that is alone

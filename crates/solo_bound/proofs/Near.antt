@@ -7,7 +7,7 @@ use Rattle.solo_bound.specs.Moves.{Spot, Lone, Terms, at, begun, Goes, Stays, Pa
 use Rattle.solo_bound.specs.Prices.{allocation_bound, idle_bound, inside_cost}
 use Rattle.solo_bound.specs.Near.{Scene, Keeps, Sweeps, NoFarther, near_unit, near_bound, near_other_bound, cycle_cost, farthest, changes_cost, near_at, near_left, paid, cycles, mark_debt, sweep_debt, debt, closing, marking}
 
-less : (r : ℕ) → suc r - 1 ≡ r
+pub less : (r : ℕ) → suc r - 1 ≡ r
 less r = omega arith
 
 pub next_mul : (b a unit : ℕ) → b ≡ suc a → b * unit ≡ a * unit + unit
@@ -17,7 +17,7 @@ mul_next : (b a unit : ℕ) → b ≡ suc a → unit * b ≡ unit * a + unit
 mul_next b a unit next = ap (λ v. unit * v) next ∙ mul-suc unit a
 
 -- quotients
-div_low : (a b m : ℕ) → 0 < m → a ≤ b → a / m ≤ b / m
+pub div_low : (a b m : ℕ) → 0 < m → a ≤ b → a / m ≤ b / m
 div_low a b m some low = le-div (a / m) b m some (omega (arith, div-mul-le_self a m, low))
 
 div_one : (a m : ℕ) → 0 < m → suc (a / m) ≤ (a + m) / m

@@ -4,12 +4,10 @@ use Rattle.std.proofs.lemmas.Bool.{cases_Bool}
 use Rattle.std.proofs.Math.Nat.{mul-suc, suc-mul, mul-le-mul_right}
 use Rattle.solo_bound.specs.Moves.{Spot, Lone, Terms, at, begun, Goes, Stays, Pays, Dealt, Passed, Writes, Moves}
 use Rattle.solo_bound.specs.Prices.{left, left_at, at_look, base, unit_cost, allocation_bound, idle_bound}
+use Rattle.solo_bound.proofs.Near.{less, next_mul}
 
 add-suc : (a b : ℕ) → a + suc b ≡ suc (a + b)
 add-suc a b = omega arith
-
-less : (r : ℕ) → suc r - 1 ≡ r
-less r = omega arith
 
 mul_add : (unit a b : ℕ) → (a + b) * unit ≡ a * unit + b * unit
 mul_add unit a zero = omega arith
@@ -269,9 +267,6 @@ module _ (e : Terms) (unit : ℕ) (wide : 2 ≤ e.payloads)
     | inl p ↦ stands z Spot.LeaveDone _ p.1 (let q = p.0 in omega arith)
     | inr p ↦ stands z (Spot.Serve p.0) _ p.2 (let q = p.1 in omega arith)
   ]
-
-next_mul : (b a unit : ℕ) → b ≡ suc a → b * unit ≡ a * unit + unit
-next_mul b a unit next = ap (λ v. v * unit) next ∙ suc-mul a unit
 
 pub exactly : (e : Terms) (r : ℕ) (sweep ready : Bool) → 2 ≤ e.payloads → e.allocates ≡ true
     → at_look e (unit_cost e.threads e.payloads) r sweep ready

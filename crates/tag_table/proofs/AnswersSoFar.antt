@@ -2,7 +2,7 @@
 use Rattle.std.proofs.Common.{◌≡◌, ℕ, ◌≤◌, List, ◌++◌, length, drop}
 use Rattle.std.specs.Prelude.{flat_map}
 use Rattle.never_heap.specs.declared.Entry.{Entry}
-use Rattle.operations.proofs.PartLogs.{replies}
+use Rattle.never_heap.proofs.PartLogs.{replies}
 use Rattle.tag_table.specs.declared.operation.Operation.{Operation}
 use Rattle.tag_table.specs.Tables.{Tag, rows_of, answers_of}
 

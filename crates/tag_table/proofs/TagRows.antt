@@ -166,7 +166,7 @@ module _ (tags : ℕ) where
 
 -- ---- scripts
 
-whole : (op : Operation) (more : List Row)
+pub whole : (op : Operation) (more : List Row)
     → ops_in decides (rows_of op ++ more) ≡ op ∷ ops_in decides more
 whole (Write i v q) more = refl
 whole _ more = refl

@@ -10,8 +10,7 @@ ghost use Rattle.threaded_runs.specs.EndedRuns.{HasHistory, HasTurns, job_of};
 
 use atom_board::{AtomBoard, Closed, Mutator};
 use block_store::OutOfMemory;
-use heap_system::{cycles_cost_few_units, cycles_give_few_blocks, fulls_are_licensed};
-use never_heap::Pace;
+use heap_system::{Pace, cycles_cost_few_units, cycles_give_few_blocks, fulls_are_licensed};
 use std::alloc::Global;
 use std::sync::Wait;
 use std::thread;

@@ -1,7 +1,7 @@
 //! The times at which commands began.
 
 use block_store::OutOfMemory;
-use never_heap::Pace;
+use heap_system::Pace;
 use std::alloc::Global;
 use std::sync::Wait;
 use std::sync::atomic::{AtomicU64, Ordering};

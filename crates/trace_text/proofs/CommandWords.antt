@@ -1,12 +1,12 @@
 -- What holds of the word of each command, and of the numbers behind it.
-use Rattle.std.proofs.Common.{◌≡◌, ℕ, ◌<◌, ◌≤◌, ◌^◌, Bool, true, ltb, ◌&&◌, List, [], ◌∷◌, map, length, Some, refl, ap, ◌∙◌, arith}
+use Rattle.std.proofs.Common.{◌≡◌, ℕ, ◌<◌, ◌≤◌, ◌^◌, Bool, true, ltb, ◌&&◌, List, [], ◌∷◌, length, Some, refl, ap, ◌∙◌, arith}
 use Rattle.std.specs.List.{AllByRecursion}
 use Rattle.std.specs.Option.{unwrap_or}
 use Rattle.block_store.specs.declared.Width.{Width}
 use Rattle.never_heap.specs.declared.Command.{Command}
 use Rattle.never_heap.specs.declared.Command.TheVariants as commands
 use Rattle.never_heap.specs.Signatures as signed
-use Rattle.never_heap.specs.Signatures.{Operand, Register, IsInRange, IsOfVersion, numbers, signature, sizes_in, value_of}
+use Rattle.never_heap.specs.Signatures.{IsOfVersion, numbers, signature, sizes_in}
 use Rattle.trace_text.specs.declared.reading.words.Word.{Word}
 use Rattle.trace_text.specs.declared.reading.words.Word.TheVariants as words
 use Rattle.trace_text.specs.Said.{count_is}
@@ -85,15 +85,6 @@ spelled (commands.Idle u) = record {
 -- its word is read again
 pub word_again : (k : Command) → word_at (signature k).word ≡ Some (word_of k)
 word_again k = ap word_at (spelled k).text ∙ word_complete (word_of k)
-
-pub operand_low : (o : Operand) → IsInRange o → value_of o < 2 ^ 62
-operand_low (Register role r) h = omega (arith, h)
-operand_low _ h = omega (arith, h)
-
-pub operands_low : (os : List Operand) → AllByRecursion IsInRange os
-    → AllByRecursion (λ n. n < 2 ^ 62) (map value_of os)
-operands_low [] h = tt
-operands_low (o ∷ os) h = (operand_low o h.0, operands_low os h.1)
 
 pub are_written : (ns : List ℕ) → AllByRecursion (λ n. n < 2 ^ 62) ns → AreWritten ns
 are_written [] h = tt

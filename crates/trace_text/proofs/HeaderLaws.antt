@@ -16,6 +16,7 @@ use Rattle.trace_text.specs.Refusals.{is_outside, numbers_fault, header_fault, n
 use Rattle.trace_text.proofs.NumberLaws.{number_sound, number_complete}
 use Rattle.trace_text.proofs.LabelLaws.{labels, labels_sound, labels_complete}
 use Rattle.trace_text.proofs.LineLaws.{reason, bind_ok, from_option}
+use Rattle.trace_text.proofs.Binds.{same_Ok}
 
 -- ---- reasons
 
@@ -94,9 +95,6 @@ unfolding header_fault header_at
 header_agrees ps = labels_agree (labels_at ps)
 
 -- ---- what is said is what is written so
-
-same_Ok : {A : Type 0} (x y : A) → ◌≡◌ {A = Result A Why} (Ok x) (Ok y) → x ≡ y
-same_Ok x y e = cc
 
 in_range : (t : Bool) (n m : ℕ) → out t n ≡ Ok m → (t ≡ false) × (n ≡ m)
 in_range true n m e = absurd cc

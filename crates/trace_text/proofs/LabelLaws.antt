@@ -1,5 +1,5 @@
 -- The tokens behind the labels of a header.
-use Rattle.std.proofs.Common.{◌≡◌, List, [], ◌∷◌, ℕ, codes, bytes_eq, Option, Some, None, cond, inl, inr, refl, ap, subst, ◌∙◌}
+use Rattle.std.proofs.Common.{◌≡◌, List, [], ◌∷◌, ℕ, codes, bytes_eq, Some, None, cond, inl, inr, refl, ap, subst, ◌∙◌}
 use Rattle.std.proofs.lemmas.Option.{same_Some, some_pair_parts}
 use Rattle.std.proofs.lemmas.Slice.Eq.{bytes_eq-Decides}
 use Rattle.std.proofs.lemmas.Bool.{cases_Bool}
@@ -9,6 +9,7 @@ use Rattle.trace_text.specs.Reading.{◌>>=◌, parted, no_more_of}
 use Rattle.trace_text.specs.Spellings.{version}
 use Rattle.trace_text.specs.Headers.{behind_at, width_at, version_at, labelled_at, Labels, labels_at}
 use Rattle.trace_text.proofs.NumberLaws.{then_some}
+use Rattle.trace_text.proofs.Binds.{bind_some, bind_then}
 
 pub parted_some : {A : Type 0} (xs : List A) (x : A) (others : List A)
     → parted xs ≡ Some (x, others) → xs ≡ x ∷ others
@@ -20,28 +21,12 @@ pub parted_none : {A : Type 0} (xs : List A) → parted xs ≡ None → xs ≡ [
 parted_none [] e = refl
 parted_none (y ∷ ys) e = absurd cc
 
-record Through {A B : Type 0} (o : Option A) (f : A → Option B) (y : B) : Type 0 where
-  at : A
-  first : o ≡ Some at
-  second : f at ≡ Some y
-
-bind_some : {A B : Type 0} (o : Option A) (f : A → Option B) (y : B) → (o >>= f) ≡ Some y
-    → Through o f y
-bind_some None f y e = absurd cc
-bind_some (Some x) f y e = record { at = x; first = refl; second = e }
-
--- the same for what follows from the steps
-bind_then : {A B P : Type 0} (o : Option A) (f : A → Option B) (y : B) → (o >>= f) ≡ Some y
-    → ((x : A) → o ≡ Some x → f x ≡ Some y → P) → P
-bind_then None f y e go = absurd cc
-bind_then (Some x) f y e go = go x refl e
-
 none_sound : (ps : List (List ℕ)) (x : Unit {0}) → no_more_of ps ≡ Some x → ps ≡ []
 unfolding no_more_of
 none_sound [] x e = refl
 none_sound (p ∷ ps) x e = absurd cc
 
-behind_sound : (word : List ℕ) (ps rest : List (List ℕ)) → behind_at word ps ≡ Some rest
+pub behind_sound : (word : List ℕ) (ps rest : List (List ℕ)) → behind_at word ps ≡ Some rest
     → ps ≡ word ∷ rest
 unfolding behind_at
 behind_sound word [] rest e = absurd cc
@@ -51,11 +36,11 @@ behind_sound word (first ∷ others) rest e =
     let same : others ≡ rest = same_Some others rest t.1 in
     cc
 
-behind_complete : (word : List ℕ) (rest : List (List ℕ)) → behind_at word (word ∷ rest) ≡ Some rest
+pub behind_complete : (word : List ℕ) (rest : List (List ℕ)) → behind_at word (word ∷ rest) ≡ Some rest
 unfolding behind_at
 behind_complete word rest = rw ((bytes_eq-Decides word word).1 refl) refl
 
-labelled_sound : (label : List ℕ) (ps : List (List ℕ)) (x : List ℕ × List (List ℕ))
+pub labelled_sound : (label : List ℕ) (ps : List (List ℕ)) (x : List ℕ × List (List ℕ))
     → labelled_at label ps ≡ Some x → ps ≡ label ∷ x.0 ∷ x.1
 unfolding labelled_at
 labelled_sound label ps x e =
@@ -63,7 +48,7 @@ labelled_sound label ps x e =
     behind_sound label ps a.at a.first
     ∙ ap (λ (r : List (List ℕ)). label ∷ r) (parted_some a.at x.0 x.1 a.second)
 
-labelled_complete : (label token : List ℕ) (rest : List (List ℕ))
+pub labelled_complete : (label token : List ℕ) (rest : List (List ℕ))
     → labelled_at label (label ∷ token ∷ rest) ≡ Some (token, rest)
 unfolding labelled_at
 labelled_complete label token rest = rw (behind_complete label (token ∷ rest)) refl

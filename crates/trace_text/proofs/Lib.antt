@@ -19,3 +19,4 @@ pub mod EachInput
 pub mod OneJob
 pub mod ReadResults
 pub mod InOrder
+pub mod Binds

@@ -16,7 +16,7 @@ use Rattle.never_heap.specs.declared.Command.TheVariants as commands
 use Rattle.never_heap.specs.Bounds.{IsCommandInBounds}
 use Rattle.never_heap.specs.Signatures as signed
 use Rattle.never_heap.specs.Signatures.{numbers}
-use Rattle.never_heap.proofs.CommandBounds.{operands_in_range}
+use Rattle.never_heap.proofs.CommandBounds.{operands_in_range, operands_low}
 use Rattle.trace_text.specs.declared.trace_faults.Why.{Why}
 use Rattle.trace_text.specs.declared.trace_faults.Why.TheVariants as whys
 use Rattle.trace_text.specs.declared.reading.lines.Line.{Line}
@@ -29,8 +29,9 @@ use Rattle.trace_text.specs.Words.{word_at, word_in, has_word, is_wide, is_comma
 use Rattle.trace_text.specs.Said.{◌>>=◌, HasRegisters, IsOfWidth, is_oversized, register_at, length_at, fitted, count_is, numbers_at, on_none, on_one, on_two, on_three, on_four, told_at, operands_at, in_turn, line_at}
 use Rattle.trace_text.specs.Refusals.{Before, first_of, is_number, value_of, any_operand, is_high_register, is_too_large, is_out_of_turn, word_fault, later_fault}
 use Rattle.trace_text.proofs.Sizes.{in_ranges, not_oversized}
-use Rattle.trace_text.proofs.CommandWords.{are_written, operands_low, spelled, word_of}
+use Rattle.trace_text.proofs.CommandWords.{are_written, spelled, word_of}
 use Rattle.trace_text.proofs.WordLaws.{word_text, word_known, word_sound, word_complete, count_map, count_length, values_are, AreWritten, numbers_complete, numbers_sound}
+use Rattle.trace_text.proofs.Binds.{same_Ok}
 
 -- the reason of an answer
 abbrev pub reason : {A : Type 0} → Result A Why → Option Why
@@ -296,9 +297,6 @@ pub record Says (c : Config) (t k : ℕ) (w : Word) (l : Line) (ns : List ℕ) :
   pub text : word_text w ∷ map decimal ns ≡ line_text l
   pub fits : Fits c t k l
   pub command : is_command w ≡ false → (l ≡ Thread t) ⊎ (l ≡ End)
-
-same_Ok : {A : Type 0} (x y : A) → ◌≡◌ {A = Result A Why} (Ok x) (Ok y) → x ≡ y
-same_Ok x y e = cc
 
 in_order : (r : Bool) (x l : Line) → cond r (Err whys.Order) (Ok x) ≡ Ok l → (r ≡ false) × (x ≡ l)
 in_order true x l e = absurd cc

@@ -1,5 +1,5 @@
 -- Bytes are at most one job.
-use Rattle.std.proofs.Common.{◌≡◌, ℕ, ◌+◌, Bool, true, false, List, [], ◌∷◌, ◌++◌, map, decimal, codes, Option, Some, None, Result, Ok, refl, sym, ap, subst, ◌∙◌, append_assoc, arith}
+use Rattle.std.proofs.Common.{◌≡◌, ℕ, ◌+◌, Bool, true, false, List, [], ◌∷◌, ◌++◌, map, decimal, codes, Option, Some, None, refl, sym, ap, subst, ◌∙◌, append_assoc, arith}
 use Rattle.std.specs.List.{AllByRecursion}
 use Rattle.block_store.specs.declared.Config.{Config}
 use Rattle.block_store.specs.Configs.{IsInBounds}
@@ -10,7 +10,6 @@ use Rattle.trace_text.specs.declared.reading.lines.Line.{Line}
 use Rattle.trace_text.specs.declared.reading.lines.Line.TheVariants.{Told}
 use Rattle.trace_text.specs.declared.reading.words.Word.{Word}
 use Rattle.trace_text.specs.declared.reading.words.Word.TheVariants as words
-use Rattle.trace_text.specs.declared.trace_faults.Why.{Why}
 use Rattle.trace_text.specs.Spellings.{header, command_line, trace_lines, traces_lines, job_lines}
 use Rattle.trace_text.specs.Jobs.{Job, IsJob}
 use Rattle.trace_text.specs.Words.{word_at, is_command}
@@ -18,6 +17,7 @@ use Rattle.trace_text.specs.Said.{line_at, header_at}
 use Rattle.trace_text.proofs.CommandWords.{spelled, word_again}
 use Rattle.trace_text.proofs.LineLaws.{place, line_complete}
 use Rattle.trace_text.proofs.HeaderLaws.{header_complete}
+use Rattle.trace_text.proofs.Binds.{same_Ok}
 
 abbrev first_of : {A : Type 0} → A → List A → A
 first_of d [] = d
@@ -25,9 +25,6 @@ first_of d (x ∷ xs) = x
 
 same_first : {A : Type 0} (x y : A) (xs ys : List A) → x ∷ xs ≡ y ∷ ys → x ≡ y
 same_first x y xs ys e = ap (first_of x) e
-
-same_Ok : {A : Type 0} (x y : A) → ◌≡◌ {A = Result A Why} (Ok x) (Ok y) → x ≡ y
-same_Ok x y e = cc
 
 same_Told : (x y : Command) → ◌≡◌ {A = Line} (Told x) (Told y) → x ≡ y
 same_Told x y e = cc

@@ -2,6 +2,7 @@
 use Rattle.std.proofs.Common.{◌≡◌, ℕ, ◌^◌, ◌<◌, ◌≤◌, ◌↔◌, Bool, true, false, cond, leb, ltb, not, ◌||◌, IsTrue, List, [], ◌∷◌, length, Ok, Err, refl, arith}
 use Rattle.std.specs.List.{AllByRecursion, list_any}
 use Rattle.std.proofs.lemmas.Bool.Decides.{nat_tests}
+use Rattle.std.proofs.lemmas.Bool.{or_parts}
 use Rattle.block_store.specs.declared.Config.{Config}
 use Rattle.block_store.specs.declared.TheConstants.{REGISTERS}
 use Rattle.never_heap.specs.declared.Command.{Command}
@@ -39,11 +40,6 @@ few_units u e = grind (arith, nat_tests)
 are_few : (u : ℕ) → u ≤ 131070 → ltb 131070 u ≡ false
 are_few u h = grind (arith, nat_tests)
 
--- neither of two tests
-neither : (a b : Bool) → (a || b) ≡ false → (a ≡ false) × (b ≡ false)
-neither true b e = absurd cc
-neither false b e = (refl, e)
-
 -- ---- operands of which none is too large
 
 all_in_range : (c : Config) (os : List Operand)
@@ -52,16 +48,16 @@ all_in_range : (c : Config) (os : List Operand)
 all_in_range c [] h e = tt
 all_in_range c (Register role r ∷ os) h e = (h.0, all_in_range c os h.1 e)
 all_in_range c (Length kind n ∷ os) h e =
-    let p = neither (is_large c (Length kind n)) (list_any (is_large c) os) e in
+    let p = or_parts (is_large c (Length kind n)) (list_any (is_large c) os) e in
     ((short n (blocks_of_kind c.width kind n) c.object p.0).0, all_in_range c os h p.1)
 all_in_range c (Field access i ∷ os) h e =
-    let p = neither (is_large c (Field access i)) (list_any (is_large c) os) e in
+    let p = or_parts (is_large c (Field access i)) (list_any (is_large c) os) e in
     (small i p.0, all_in_range c os h p.1)
 all_in_range c (Number n ∷ os) h e =
-    let p = neither (is_large c (Number n)) (list_any (is_large c) os) e in
+    let p = or_parts (is_large c (Number n)) (list_any (is_large c) os) e in
     (small n p.0, all_in_range c os h p.1)
 all_in_range c (Units u ∷ os) h e =
-    let p = neither (is_large c (Units u)) (list_any (is_large c) os) e in
+    let p = or_parts (is_large c (Units u)) (list_any (is_large c) os) e in
     (omega (arith, few_units u p.0), all_in_range c os h p.1)
 
 blocks_fit : (c : Config) (os : List Operand) → list_any (is_large c) os ≡ false
@@ -69,27 +65,27 @@ blocks_fit : (c : Config) (os : List Operand) → list_any (is_large c) os ≡ f
 blocks_fit c [] e = omega arith
 blocks_fit c (Length kind n ∷ os) e =
     (short n (blocks_of_kind c.width kind n) c.object
-    (neither (is_large c (Length kind n)) (list_any (is_large c) os) e).0).1
+    (or_parts (is_large c (Length kind n)) (list_any (is_large c) os) e).0).1
 blocks_fit c (Register role r ∷ os) e = blocks_fit c os e
 blocks_fit c (Field access i ∷ os) e =
-    blocks_fit c os (neither (is_large c (Field access i)) (list_any (is_large c) os) e).1
+    blocks_fit c os (or_parts (is_large c (Field access i)) (list_any (is_large c) os) e).1
 blocks_fit c (Number n ∷ os) e =
-    blocks_fit c os (neither (is_large c (Number n)) (list_any (is_large c) os) e).1
+    blocks_fit c os (or_parts (is_large c (Number n)) (list_any (is_large c) os) e).1
 blocks_fit c (Units u ∷ os) e =
-    blocks_fit c os (neither (is_large c (Units u)) (list_any (is_large c) os) e).1
+    blocks_fit c os (or_parts (is_large c (Units u)) (list_any (is_large c) os) e).1
 
 units_fit : (c : Config) (os : List Operand) → list_any (is_large c) os ≡ false
     → units_in os ≤ 131070
 units_fit c [] e = omega arith
 units_fit c (Units u ∷ os) e =
-    few_units u (neither (is_large c (Units u)) (list_any (is_large c) os) e).0
+    few_units u (or_parts (is_large c (Units u)) (list_any (is_large c) os) e).0
 units_fit c (Register role r ∷ os) e = units_fit c os e
 units_fit c (Length kind n ∷ os) e =
-    units_fit c os (neither (is_large c (Length kind n)) (list_any (is_large c) os) e).1
+    units_fit c os (or_parts (is_large c (Length kind n)) (list_any (is_large c) os) e).1
 units_fit c (Field access i ∷ os) e =
-    units_fit c os (neither (is_large c (Field access i)) (list_any (is_large c) os) e).1
+    units_fit c os (or_parts (is_large c (Field access i)) (list_any (is_large c) os) e).1
 units_fit c (Number n ∷ os) e =
-    units_fit c os (neither (is_large c (Number n)) (list_any (is_large c) os) e).1
+    units_fit c os (or_parts (is_large c (Number n)) (list_any (is_large c) os) e).1
 
 -- a command of registers that is not oversized is in its ranges
 pub in_ranges : (c : Config) (command : Command) → HasRegisters command → IsOfWidth c.width command

@@ -15,6 +15,7 @@ use Rattle.trace_text.specs.Words.{word_at, has_word, if_known}
 use Rattle.trace_text.specs.Said.{◌>>=◌, count_is, values_at, numbers_at}
 use Rattle.trace_text.specs.Refusals.{is_number, value_of}
 use Rattle.trace_text.proofs.NumberLaws.{number_sound, number_complete}
+use Rattle.trace_text.proofs.Binds.{same_Ok}
 
 -- ---- words
 
@@ -145,9 +146,6 @@ pub numbers_complete : (k : ℕ) (ns : List ℕ) → count_is k ns ≡ true → 
     → numbers_at k (map decimal ns) ≡ Ok ns
 unfolding numbers_at
 numbers_complete k ns c w = rw (count_map decimal k ns, c) (values_complete ns w)
-
-same_Ok : {A : Type 0} (x y : A) → ◌≡◌ {A = Result A Why} (Ok x) (Ok y) → x ≡ y
-same_Ok x y e = cc
 
 values_next : (o : Option ℕ) (r : Result (List ℕ) Why) (p : List ℕ) (ps : List (List ℕ))
     (ns : List ℕ) → ((n : ℕ) → o ≡ Some n → p ≡ decimal n)

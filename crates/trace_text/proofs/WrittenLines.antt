@@ -5,6 +5,7 @@ use Rattle.std.specs.Str.Parse.{AllDigits}
 use Rattle.std.proofs.lemmas.Bool.Decides.{nat_tests}
 use Rattle.std.proofs.lemmas.Fmt.{decimal_is_IsNumeral}
 use Rattle.std.proofs.lemmas.Str.Parse.{digit_from_value}
+use Rattle.std.proofs.lemmas.Bool.{and_parts}
 use Rattle.block_store.specs.declared.Config.{Config}
 use Rattle.block_store.specs.declared.Width.{Width}
 use Rattle.block_store.specs.declared.Width.TheVariants.{Four, Eight}
@@ -12,14 +13,14 @@ use Rattle.block_store.specs.Configs.{IsInBounds}
 use Rattle.never_heap.specs.declared.Command.{Command}
 use Rattle.never_heap.specs.Bounds.{IsCommandInBounds}
 use Rattle.never_heap.specs.Signatures.{numbers, operands}
-use Rattle.never_heap.proofs.CommandBounds.{operands_in_range}
+use Rattle.never_heap.proofs.CommandBounds.{operands_in_range, operands_low}
 use Rattle.never_heap.specs.Jobs.{IsTraceInBounds}
 use Rattle.trace_text.specs.Lines.{lines_of, tokens_of, onto_first}
 use Rattle.trace_text.specs.Reading.{tokenized}
 use Rattle.trace_text.specs.Spellings.{version, header, command_line, trace_lines, traces_lines, job_lines}
 use Rattle.trace_text.specs.Jobs.{Job, input_limit, IsJobInBounds, IsJob, IsInput}
 use Rattle.trace_text.specs.JobTexts.{line_text, job_text}
-use Rattle.trace_text.proofs.CommandWords.{is_token, operands_low, spelled}
+use Rattle.trace_text.proofs.CommandWords.{is_token, spelled}
 
 -- ---- bytes
 
@@ -92,10 +93,6 @@ abbrev IsLine : List (List ℕ) → Type 0
 IsLine [] = ⊥
 IsLine (token ∷ tokens) = are_tokens (token ∷ tokens) ≡ true
 
-both : (a b : Bool) → (a && b) ≡ true → (a ≡ true) × (b ≡ true)
-both true b e = (refl, e)
-both false b e = absurd cc
-
 seen_as : (bytes as_bytes first as_first : List ℕ) (others : List (List ℕ))
     (more : List (List (List ℕ))) → bytes ≡ as_bytes → first ≡ as_first
     → Begins bytes first others more → Begins as_bytes as_first others more
@@ -112,12 +109,12 @@ seen_as bytes as_bytes first as_first others more e f h =
 line_begins : (token : List ℕ) (tokens : List (List ℕ)) (rest : List ℕ) → IsLine (token ∷ tokens)
     → Begins (line_text (token ∷ tokens) ++ rest) token tokens (tokenized rest)
 line_begins token [] rest is =
-    let own = both (is_token token) true is in
+    let own = and_parts (is_token token) true is in
     let h = at_token token (10 ∷ rest) [] [] (tokenized rest) own.0 (at_feed rest) in
     seen_as _ _ _ _ [] (tokenized rest) (sym (append_assoc token (10 ∷ []) rest))
     (append-nil token) h
 line_begins token (next ∷ tokens) rest is =
-    let own = both (is_token token) (are_tokens (next ∷ tokens)) is in
+    let own = and_parts (is_token token) (are_tokens (next ∷ tokens)) is in
     let behind = line_begins next tokens rest own.1 in
     let bytes : List ℕ = line_text (next ∷ tokens) ++ rest in
     let spaced = at_space bytes next tokens (tokenized rest) behind in

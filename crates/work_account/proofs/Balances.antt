@@ -1,5 +1,5 @@
 -- Each call keeps an account sound, and the sum over the accounts of a cycle.
-use Rattle.std.proofs.Common.{◌≡◌, ℕ, zero, suc, ◌+◌, ◌-◌, ◌*◌, ◌/◌, ◌%◌, ◌≤◌, ◌<◌, arith, ap, inl, inr, eq-eqb, ne_eqb, lt-ltb}
+use Rattle.std.proofs.Common.{◌≡◌, ℕ, zero, suc, ◌+◌, ◌-◌, ◌*◌, ◌/◌, ◌%◌, ◌≤◌, ◌<◌, arith, ap, inl, inr, eq-eqb, ne_eqb, lt-ltb, refl}
 use Rattle.std.proofs.lemmas.Bool.{cases_eq, cases_lt, le-ltb}
 use Rattle.std.proofs.lemmas.Nat.{div-add-mod', le-div}
 use Rattle.block_store.specs.Counts.{total}
@@ -86,3 +86,41 @@ all_given n rate object c most as' some s few =
     ≤ total n (λ t. units_in c (as' t)) + n * (rate * object)
     = all_count n rate object c as' s in
     quotient rate (given_and_paid n rate c as') most (n * object) some (omega arith)
+
+-- what the calls of an account make of its counts in the cycle z
+pub paid_entered : (z : ℕ) (a : Balance) → (entered z a).paid ≡ a.paid
+paid_entered z a = elim (cases_lt a.cycle z) [
+  | inl l ↦ rw (lt-ltb a.cycle z l) refl
+  | inr g ↦ rw (le-ltb a.cycle z g) refl
+]
+
+pub cycle_entered : (z : ℕ) (a : Balance) → a.cycle ≤ z → (entered z a).cycle ≡ z
+cycle_entered z a low = elim (cases_lt a.cycle z) [
+  | inl l ↦ rw (lt-ltb a.cycle z l) refl
+  | inr g ↦ rw (le-ltb a.cycle z g) (omega arith)
+]
+
+pub units_entered : (z : ℕ) (a : Balance) → a.cycle ≤ z → units_in z (entered z a) ≡ units_in z a
+units_entered z a low = elim (cases_lt a.cycle z) [
+  | inl l ↦ rw (lt-ltb a.cycle z l, eq-eqb z z refl, ne_eqb a.cycle z (λ e. omega arith)) refl
+  | inr g ↦ rw (le-ltb a.cycle z g) refl
+]
+
+pub given_entered : (z : ℕ) (a : Balance) → a.cycle ≤ z → given_in z (entered z a) ≡ given_in z a
+given_entered z a low = elim (cases_lt a.cycle z) [
+  | inl l ↦ rw (lt-ltb a.cycle z l, eq-eqb z z refl, ne_eqb a.cycle z (λ e. omega arith)) refl
+  | inr g ↦ rw (le-ltb a.cycle z g) refl
+]
+
+pub units_more : (z : ℕ) (a : Balance) → a.cycle ≡ z → units_in z (with_unit a) ≡ units_in z a + 1
+units_more z a e = rw (eq-eqb a.cycle z e) refl
+
+pub given_more_in : (z k : ℕ) (a : Balance) → a.cycle ≡ z
+    → given_in z (published k a) ≡ given_in z a + k
+given_more_in z k a e = rw (eq-eqb a.cycle z e) refl
+
+pub units_later : (z : ℕ) (a : Balance) → a.cycle ≤ z → units_in (z + 1) a ≡ 0
+units_later z a l = rw (ne_eqb a.cycle (z + 1) (λ e. omega arith)) refl
+
+pub given_later : (z : ℕ) (a : Balance) → a.cycle ≤ z → given_in (z + 1) a ≡ 0
+given_later z a l = rw (ne_eqb a.cycle (z + 1) (λ e. omega arith)) refl

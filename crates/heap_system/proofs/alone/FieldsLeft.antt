@@ -1,9 +1,8 @@
 -- How many events a command that allocates nothing has left at most, before it goes out: each event
 -- leaves fewer.
-use Rattle.std.proofs.Common.{◌≡◌, ◌≢◌, ℕ, zero, suc, ◌+◌, ◌-◌, ◌*◌, ◌/◌, ◌≤◌, ◌<◌, eqb, ltb, refl, arith, sym, ◌∙◌, ltb-true, Some, None, inl, inr}
+use Rattle.std.proofs.Common.{◌≡◌, ◌≢◌, ℕ, zero, suc, ◌+◌, ◌-◌, ◌*◌, ◌≤◌, ◌<◌, eqb, ltb, refl, arith, sym, ◌∙◌, ltb-true, Some, None, inl, inr}
 use Rattle.std.proofs.lemmas.Bool.{cases_Bool, cases_lt}
-use Rattle.std.proofs.lemmas.Nat.{le-div, mul-le}
-use Rattle.std.proofs.Math.Nat.{div-mul-le_self}
+use Rattle.std.proofs.lemmas.Nat.{mul-le}
 use Rattle.block_store.specs.declared.Config.{Config}
 use Rattle.block_store.specs.declared.Payload.{Payload}
 use Rattle.block_store.specs.declared.Payload.TheVariants as payloads
@@ -16,11 +15,12 @@ use Rattle.block_store.specs.Configs.{IsInBounds}
 use Rattle.block_store.specs.Payloads.{target}
 use Rattle.block_store.specs.Places.{extent}
 use Rattle.block_store.specs.Widths.{payloads as payloads_of}
+use Rattle.block_store.proofs.Registers.{many}
 use Rattle.object_lists.specs.Records.{record_blocks, record_slot}
 use Rattle.array_trees.specs.Levels.{array_depth, level}
 use Rattle.array_trees.specs.Trees.{array_blocks, leaves}
 use Rattle.array_trees.proofs.Arrays.{depth_is}
-use Rattle.array_trees.proofs.Counts.{le-tree, many}
+use Rattle.array_trees.proofs.Counts.{le-tree}
 use Rattle.array_trees.proofs.Depths.{depth_few}
 use Rattle.never_heap.specs.declared.Command.{Command}
 use Rattle.never_heap.specs.declared.Command.TheVariants as commands
@@ -40,6 +40,7 @@ use Rattle.barrier_steps.specs.Fits.{RowFits}
 use Rattle.barrier_steps.specs.Operands.{field_index}
 use Rattle.barrier_steps.specs.Rows.{first_row, row_got, field_reply, shape_in, payload_in, on_way, at_block, after_object, after_shape, after_field, after_said, after_owner, after_register, after_store, object_in, before_store, in_barrier, stored_word, shaded_for, way_from, way_on}
 use Rattle.barrier_steps.specs.Walks.{links_to, shape_length}
+use Rattle.solo_bound.proofs.Near.{div_low}
 use Rattle.heap_system.specs.Alone.{longest_array, most_events, most_links}
 
 -- from the block of the field on: `put` and `cas` shade and store, `get` loads, names, shades and
@@ -254,10 +255,6 @@ events_few c _ is = omega arith
 record_way : (w : Width) (n i : ℕ) → i < n → (record_slot w i).0 < record_blocks w n
 record_way Four n i low = omega arith
 record_way Eight n i low = omega arith
-
--- a longer array is as deep at least
-div_low : (a b m : ℕ) → 0 < m → a ≤ b → a / m ≤ b / m
-div_low a b m some low = le-div (a / m) b m some (omega (arith, div-mul-le_self a m, low))
 
 level_low : (w q r h : ℕ) → 0 < w → q ≤ r → level w q h ≤ level w r h
 level_low w q r zero some low = low

@@ -9,6 +9,7 @@ use Rattle.block_store.specs.Heaps.{Heap}
 use Rattle.block_store.specs.Registers.{registers_end}
 use Rattle.block_store.specs.Widths.{payloads}
 use Rattle.rate_plan.specs.Rates.{IsRate, IsAdmitted}
+use Rattle.rate_plan.proofs.Rates.{opening_room}
 use Rattle.never_heap.specs.declared.Command.{Command}
 use Rattle.never_heap.specs.declared.Command.TheVariants as commands
 use Rattle.never_heap.specs.declared.Entry.{Entry}
@@ -26,7 +27,6 @@ use Rattle.heap_system.specs.Locals.{LocalState, command_of, owed, is_done}
 use Rattle.heap_system.specs.Machines.{Run, IsJob, local_at, local_in, heap_in, next}
 use Rattle.heap_system.proofs.Kept.{Kept}
 use Rattle.heap_system.proofs.LawsOf.{laws_of}
-use Rattle.heap_system.proofs.OwedAndPaid.{opening_room}
 use Rattle.heap_system.proofs.KeptByTurns.{at_part, event, next_is}
 use Rattle.heap_system.proofs.alone.WorkLeft.{scene_of, far_of, far_few, keep_law}
 use Rattle.heap_system.proofs.alone.Runs

@@ -1,5 +1,5 @@
 -- A thread that builds, while every other thread holds nothing, finds a Free block in some list.
-use Rattle.std.proofs.Common.{mod-eq_of_lt, ◌≡◌, ℕ, zero, suc, ◌+◌, ◌-◌, ◌*◌, ◌<◌, ◌≤◌, ◌&&◌, true, eqb, eq-eqb, ne_eqb, List, [], ◌∷◌, length, refl, sym, ap, ◌∙◌, subst, arith, inl, inr}
+use Rattle.std.proofs.Common.{mod-eq_of_lt, ◌≡◌, ℕ, zero, suc, ◌+◌, ◌-◌, ◌*◌, ◌<◌, ◌≤◌, ◌&&◌, true, List, [], ◌∷◌, length, sym, ap, ◌∙◌, subst, arith, inl, inr}
 use Rattle.std.proofs.lemmas.Bool.{cases_eq, cases_lt}
 use Rattle.std.proofs.lemmas.Nat.{mod-mul-add}
 use Rattle.block_store.specs.Colours.{is_free, link}
@@ -8,30 +8,12 @@ use Rattle.block_store.specs.Heaps.{Heap}
 use Rattle.block_store.specs.Phases.{bit}
 use Rattle.block_store.specs.Places.{Extent, FreeList, ColourOf, is_block}
 use Rattle.block_store.proofs.Functions.{total_none, total_part, total_same}
+use Rattle.block_store.proofs.Totals.{total_plus, all_times}
+use Rattle.block_store.proofs.Indexes.{block_is}
 use Rattle.heap_machine.specs.Chains.{Chain}
 use Rattle.heap_machine.specs.FreeBlocks.{FreeHolding, no_free, count_free, FreeKept}
 use Rattle.heap_machine.proofs.ChainLaws.{Chain-zero}
-use Rattle.heap_machine.proofs.FreeBlocks.{block_is}
 use Rattle.build_steps.specs.Rows.{list_of}
-
-total_add : (m : ℕ) (f g : ℕ → ℕ) → total m (λ x. f x + g x) ≡ total m f + total m g
-total_add zero f g = refl
-total_add (suc m) f g = omega (arith, total_add m f g)
-
-total_above : (m y : ℕ) → m < y → total m (λ x. bit (eqb (suc x) y)) ≡ 0
-total_above m y low = total_none m (λ x. bit (eqb (suc x) y)) (λ x xl. ap bit (ne_eqb (suc x) y (λ e. omega (arith, e, xl, low))))
-
-total_point : (m y : ℕ) → total m (λ x. bit (eqb (suc x) y)) ≤ 1
-total_point zero y = omega arith
-total_point (suc m) y = elim (cases_eq (suc m) y) [
-  | inl e ↦ (let none = total_above m y (omega (arith, e)) in rw (eq-eqb (suc m) y e) (omega (arith, none)))
-  | inr ne ↦ (let below = total_point m y in rw (ne_eqb (suc m) y ne) (omega (arith, below)))
-]
-
--- the numbers from 1 to m stand in a list at most as often as it is long
-total_times : (m : ℕ) (xs : List ℕ) → total m (λ x. times (suc x) xs) ≤ length xs
-total_times m [] = omega (arith, total_none m (λ x. 0) (λ x xl. refl))
-total_times m (y ∷ ys) = omega (arith, total_add m (λ x. bit (eqb (suc x) y)) (λ x. times (suc x) ys), total_point m y, total_times m ys)
 
 -- a sum of which one part is left
 total_one : (n : ℕ) (f : ℕ → ℕ) (t : ℕ) → t < n → ((u : ℕ) → u < n → (t ≡ u → ⊥) → f u ≡ 0) → total n f ≡ f t
@@ -99,9 +81,9 @@ module _ (e : Extent) (h : Heap) (fs : ℕ → FreeHolding) (k : FreeKept e h fs
   all_here = omega (
     arith,
     total_same e.blocks (λ x. bit (is_free (colour (suc x)))) (λ x. times (suc x) (k.hands t) + times (suc x) (fs t).held) free_here,
-    total_add e.blocks (λ x. times (suc x) (k.hands t)) (λ x. times (suc x) (fs t).held),
-    total_times e.blocks (k.hands t),
-    total_times e.blocks (fs t).held,
+    total_plus e.blocks (λ x. times (suc x) (k.hands t)) (λ x. times (suc x) (fs t).held),
+    all_times e.blocks (k.hands t),
+    all_times e.blocks (fs t).held,
   )
 
   -- and fewer than it has reserved there are not

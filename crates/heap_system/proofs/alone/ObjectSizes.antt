@@ -24,12 +24,12 @@ use Rattle.never_heap.proofs.GraphMoves.{object_with_register}
 use Rattle.never_heap.proofs.FieldStores.{object_with_field, object_with_object}
 use Rattle.never_heap.proofs.StepChanges.{Change, none, store, put, swap, make, change_of, has_field, threads_put, with_object_threads}
 use Rattle.never_heap.proofs.UnchangedBySteps.{step_past}
+use Rattle.never_heap.proofs.CommandBounds.{blocks_low, bounds_at}
 use Rattle.heap_system.specs.Alone.{longest_array}
 use Rattle.heap_system.specs.Locals.{LocalState, command_of, entries_of}
 use Rattle.heap_system.specs.Machines.{Run, local_at}
 use Rattle.heap_system.specs.Pictures.{waiting, entries_waiting}
 use Rattle.heap_system.proofs.Kept.{Kept}
-use Rattle.heap_system.proofs.OwedAndPaid.{bounds_at, blocks_low}
 use Rattle.heap_system.proofs.alone.FieldsLeft.{array_short}
 
 abbrev pub IsLow : Config → Object → Type 0

@@ -11,6 +11,7 @@ use Rattle.block_store.specs.Places.{Phase}
 use Rattle.block_store.specs.Widths.{payloads}
 use Rattle.block_store.proofs.Functions.{total_part}
 use Rattle.rate_plan.specs.Rates.{IsRate}
+use Rattle.rate_plan.proofs.Rates.{one_rate}
 use Rattle.never_heap.specs.declared.Command.{Command}
 use Rattle.never_heap.specs.declared.Command.TheVariants as commands
 use Rattle.never_heap.specs.declared.Entry.{Entry}
@@ -36,7 +37,6 @@ use Rattle.heap_system.proofs.Kept.{Kept}
 use Rattle.heap_system.proofs.LawsOf.{laws_of}
 use Rattle.heap_system.proofs.TurnFacts.{rest_is}
 use Rattle.heap_system.proofs.SeenAndKept.{IsSettled, Seen}
-use Rattle.heap_system.proofs.SystemStart.{one_rate}
 use Rattle.heap_system.proofs.KeptByTurns.{seen, at_part, event, event_kept, word_is, local_new, heap_new, paid_new, new_local, new_heap, new_run, next_is}
 use Rattle.heap_system.proofs.WaitingTurns.{part_waits}
 use Rattle.heap_system.proofs.alone.FieldsLeft.{events_few, field_left, fields_first}

@@ -37,13 +37,12 @@ use Rattle.std.proofs.Common.{
 use Rattle.std.proofs.lemmas.Bool.{cases_Bool}
 use Rattle.block_store.specs.declared.Config.{Config}
 use Rattle.block_store.specs.declared.Width.{Width}
-use Rattle.block_store.specs.Colours.{is_free, is_grey, black_word, link}
+use Rattle.block_store.specs.Colours.{is_free, is_grey, black_word}
 use Rattle.block_store.specs.Counts.{changed}
 use Rattle.block_store.specs.Heaps.{Heap}
 use Rattle.block_store.specs.Phases.{is_closed, is_sweep, cycle_of}
 use Rattle.block_store.specs.Places.{Phase, Cursor, FreeCount, ColourOf, extent}
-use Rattle.block_store.proofs.ColourWords.{free_is, not_grey_black, not_grey_free}
-use Rattle.never_heap.specs.declared.Command.{Command}
+use Rattle.block_store.proofs.ColourWords.{not_grey_black, free_not_grey}
 use Rattle.never_heap.specs.declared.Reply.{Reply}
 use Rattle.never_heap.specs.declared.Reply.TheVariants as replies
 use Rattle.never_heap.specs.Graphs.{count_of, next_name}
@@ -128,7 +127,7 @@ use Rattle.heap_system.specs.Machines.{starts_by}
 use Rattle.heap_system.specs.Naming.{Naming, Same, Made, renamed}
 use Rattle.heap_system.specs.Pictures.{gating}
 use Rattle.heap_system.specs.Units.{turns_black}
-use Rattle.heap_system.proofs.OwedAndPaid.{blocks_object}
+use Rattle.heap_system.proofs.OwedAndPaid.{blocks_object, replied_sum}
 use Rattle.heap_system.proofs.PartLaws.{AtPart, PartEvent, PartLaws}
 use Rattle.heap_system.proofs.GatePassage.{inside_open}
 use Rattle.heap_system.proofs.SeenAndKept.{
@@ -177,10 +176,6 @@ row_cursor W h b Publish = refl
 row_cursor W h b Built = refl
 row_cursor W h b Refused = refl
 
--- a block that it makes black was Free, and so not grey
-not_grey : (v : ℕ) → is_free v ≡ true → is_grey v ≡ false
-not_grey v free = ap is_grey (free_is v (eqb-true _ 0 free)) ∙ not_grey_free (link v)
-
 grey_not_black : (v n : ℕ) → (is_grey v && eqb v (black_word n)) ≡ false
 grey_not_black v n = elim (cases_Bool (is_grey v)) [
   | inl grey ↦ elim (cases_Bool (eqb v (black_word n))) [
@@ -202,7 +197,7 @@ row_blackens : (c : Config) (h : Heap) (b : BuildState) (r : BuildRow)
 row_blackens c h b (WriteColour o) fits free =
     ap (λ g. g && eqb (heap_after h (row_want c.width b (WriteColour o)) (ColourOf (built_at b o)))
     (black_word (cycle_of (h Phase))))
-    (not_grey (h (ColourOf (built_at b o))) (free o (omega (arith, fits.0, fits.1)) (omega arith)))
+    (free_not_grey (h (ColourOf (built_at b o))) (free o (omega (arith, fits.0, fits.1)) (omega arith)))
 row_blackens c h b (Collect a u) fits free =
     grey_not_black (h (ColourOf a)) (cycle_of (h Phase))
 row_blackens c h b ReadCount fits free = refl
@@ -243,12 +238,6 @@ row_turn b (WriteColour o) w = refl
 row_turn b Publish w = refl
 row_turn b Built w = refl
 row_turn b Refused w = refl
-
--- what is paid goes into the entry
-units_are : (t : ℕ) (k : Command) (paid : ℕ) (o : Option Reply)
-    → works (entries_of t k paid o) + spent_got o false paid ≡ paid + 0
-units_are t k paid None = omega arith
-units_are t k paid (Some r) = omega arith
 
 row_not_built : (r : BuildRow) → build_over r ≡ false → is_built r ≡ false
 row_not_built Built e = absurd (let z : true ≡ false = e in cc)
@@ -559,5 +548,5 @@ build_laws c b = record {
   low = λ done all w pass r fits e. fits.1;
   turn = λ w. row_turn b b.row w;
   black = λ s at. row_blackens c s.heap b b.row at.fits.0.row (free_still c s b at);
-  units = λ t k paid w. units_are t k paid (build_reply (build_got (extent c) b w));
+  units = λ t k paid w. replied_sum t k paid (build_reply (build_got (extent c) b w));
 }

@@ -12,6 +12,7 @@ use Rattle.never_heap.specs.declared.Command.{Command}
 use Rattle.never_heap.specs.declared.Command.TheVariants as commands
 use Rattle.never_heap.specs.Steps.{blocks_of}
 use Rattle.never_heap.proofs.CommandBounds as ranges
+use Rattle.never_heap.proofs.CommandBounds.{blocks_low}
 use Rattle.graph_relation.specs.Events.{unloaded}
 use Rattle.heap_machine.specs.Gates.{gate_step, is_of_pass, is_empty, is_going_in, GateFits, SeenOpen}
 use Rattle.heap_machine.specs.Gating.{Gating, GateOf, Outside, Inside}
@@ -44,7 +45,7 @@ use Rattle.heap_system.specs.Pictures.{gating}
 use Rattle.heap_system.specs.Units.{blackens}
 use Rattle.heap_system.proofs.PartLaws.{AtPart, PartEvent, PartLaws, word_at}
 use Rattle.heap_system.proofs.GatePassage.{Comes, phase_is, began, look_event, gate_event, is_thread}
-use Rattle.heap_system.proofs.OwedAndPaid.{blocks_low, blocks_object}
+use Rattle.heap_system.proofs.OwedAndPaid.{blocks_object}
 use Rattle.heap_system.proofs.SeenAndKept.{IsEntering, Knows, Seen, EventKept, errand}
 
 -- at the first row of a command nothing is loaded or held

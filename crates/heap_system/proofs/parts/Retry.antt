@@ -6,8 +6,9 @@ use Rattle.heap_machine.specs.Gating.{Gating}
 use Rattle.heap_machine.specs.declared.Step.TheVariants as steps
 use Rattle.heap_machine.specs.declared.gate.GateRow.TheVariants as gates
 use Rattle.heap_machine.proofs.Gatings.{inside_some}
+use Rattle.heap_machine.proofs.GateRows.{inside_low}
 use Rattle.heap_system.specs.Parts.{Enter, Retry}
-use Rattle.heap_system.proofs.GatePassage.{phase_is, inside_low, leave_event, inside_open}
+use Rattle.heap_system.proofs.GatePassage.{phase_is, leave_event, inside_open}
 use Rattle.heap_system.proofs.PartLaws.{PartLaws}
 
 pub again_laws : (c : Config) → PartLaws c Retry

@@ -51,12 +51,13 @@ use Rattle.barrier_steps.proofs.NameRulesKept.{keeps_names, loaded_solid, due_on
 use Rattle.sweep_steps.specs.SweepUnits.{unpassed}
 use Rattle.heap_system.specs.Parts.{Part, Serve, Leave}
 use Rattle.heap_system.specs.declared.Turn.TheVariants as turns
-use Rattle.heap_system.specs.Locals.{Verdict, Effect, plain, task, spent_got, made_got, if_replied, if_decides, turn_of, entry_of, entries_of, works}
+use Rattle.heap_system.specs.Locals.{Verdict, Effect, plain, task, made_got, if_replied, if_decides, turn_of, entry_of, entries_of, works}
 use Rattle.heap_system.specs.Pictures.{gating, holding}
 use Rattle.heap_system.specs.Units.{blackens, turns_black}
 use Rattle.heap_system.proofs.GatePassage.{inside_open}
 use Rattle.heap_system.proofs.PartLaws.{AtPart, PartLaws}
 use Rattle.heap_system.proofs.SeenAndKept.{stage, stage_of, lead, Seen, EventKept, graph_decided, told_by, items_told}
+use Rattle.heap_system.proofs.OwedAndPaid.{replied_sum}
 
 -- the other threads' rows say the same of a graph in which their registers are the same
 store_stays : (g new : Graph) (u : ℕ) (k : Command) (store : FieldStore) → ((q : ℕ) → register_of new u q ≡ register_of g u q) → (KnownBefore g u k store → KnownBefore new u k store) × (due_before new u k store ≡ due_before g u k store)
@@ -144,10 +145,6 @@ made_on k _ made never = refl
 turns_in : (o : Option Reply) → turn_of (step_of o) ≡ turns.Went
 turns_in None = refl
 turns_in (Some r) = refl
-
-replied_sum : (t : ℕ) (k : Command) (paid : ℕ) (o : Option Reply) → works (entries_of t k paid o) + spent_got o false paid ≡ paid + 0
-replied_sum t k paid None = omega arith
-replied_sum t k paid (Some r) = omega arith
 
 module _ (c : Config) (s : Seen c) (f : FieldState) (at : AtPart c s (Serve f)) where
   abbrev w : ℕ

@@ -10,9 +10,10 @@ use Rattle.heap_machine.specs.declared.Step.TheVariants as steps
 use Rattle.heap_machine.specs.declared.gate.GateRow.TheVariants as gates
 use Rattle.heap_machine.specs.declared.pass.Pass.{Pass}
 use Rattle.heap_machine.proofs.Gatings.{inside_some}
+use Rattle.heap_machine.proofs.GateRows.{inside_low}
+use Rattle.rate_plan.proofs.Rates.{opening_room}
 use Rattle.heap_system.specs.Parts.{ToChange, PhaseChange}
-use Rattle.heap_system.proofs.GatePassage.{phase_is, inside_low, leave_event, inside_open, same_stage}
-use Rattle.heap_system.proofs.OwedAndPaid.{opening_room}
+use Rattle.heap_system.proofs.GatePassage.{phase_is, leave_event, inside_open, same_stage}
 use Rattle.heap_system.proofs.PartLaws.{AtPart, PartEvent, PartLaws}
 use Rattle.heap_system.proofs.SeenAndKept.{stage, stage_of, Forward, IsSwept, Seen}
 

@@ -33,6 +33,7 @@ use Rattle.build_steps.proofs.Shapes.{made_blocks}
 use Rattle.work_account.specs.Accounts.{published, refused}
 use Rattle.cycle_tally.specs.Events as events
 use Rattle.cycle_tally.specs.Tallies.{Spending, Tally, made_of}
+use Rattle.cycle_tally.proofs.OneThreadEvents.{spends_here, spends_twice, others_twice}
 use Rattle.heap_system.specs.Parts.{Build, Leave}
 use Rattle.heap_system.specs.Locals.{Open, AsStep, Refused, plain, if_decides, if_replied, entry_of, idle_part}
 use Rattle.heap_system.proofs.Balances.{no_idle}
@@ -41,7 +42,7 @@ use Rattle.heap_system.proofs.PartLaws.{AtPart}
 use Rattle.heap_system.proofs.SeenAndKept.{Seen}
 use Rattle.heap_system.proofs.parts.Build.{row_no_reply}
 use Rattle.heap_system.proofs.TallyLaw.{IsSpending, Counted, TallyEvent, TallyLaw, reserved_for, Asking, asking, IsNext}
-use Rattle.heap_system.proofs.tallies.Moves.{SameWords, same_words, spends_here, spends_twice, others_twice, paid_by, told_none, stays, moves}
+use Rattle.heap_system.proofs.tallies.Moves.{SameWords, same_words, paid_by, told_none, stays, moves}
 
 -- a builder claims nothing
 no_claim : (k : ℕ) (held : List ℕ) (r : BuildRow) → ((row_holding k held r).low ≡ 0) × ((row_holding k held r).high ≡ 0)

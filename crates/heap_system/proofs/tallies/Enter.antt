@@ -24,13 +24,14 @@ use Rattle.build_steps.specs.Rows.{building}
 use Rattle.work_account.specs.Accounts.{Balance, entered}
 use Rattle.cycle_tally.specs.Events as events
 use Rattle.cycle_tally.specs.Tallies.{Spending, Tally}
+use Rattle.cycle_tally.proofs.OneThreadEvents.{spends_here}
 use Rattle.heap_system.specs.Parts.{Part, Rest, Enter, Serve, Mark, Sweep, Build}
 use Rattle.heap_system.specs.Locals.{Errand, plain, first_part, pass_by, effect, part_want, part_got}
 use Rattle.heap_system.proofs.GatePassage.{phase_is}
 use Rattle.heap_system.proofs.PartLaws.{word_at}
 use Rattle.heap_system.proofs.SeenAndKept.{Seen, IsEntering, errand}
 use Rattle.heap_system.proofs.TallyLaw.{IsSpending, Counted, TallyEvent, TallyLaw, Asking, asking}
-use Rattle.heap_system.proofs.tallies.Moves.{spends_on, same_words, spends_here, told_none, stays, moves}
+use Rattle.heap_system.proofs.tallies.Moves.{spends_on, same_words, told_none, stays, moves}
 
 -- a command begins with nothing claimed
 first_claims : (c : Config) (q : Pass) (k : Command) → ((field_holding (extent c) (at_first_row q k)).low ≡ 0) × ((field_holding (extent c) (at_first_row q k)).high ≡ 0)

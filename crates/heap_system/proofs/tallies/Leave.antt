@@ -13,11 +13,12 @@ use Rattle.heap_machine.specs.declared.gate.GateRow.TheVariants as gates
 use Rattle.heap_machine.proofs.Gatings.{inside_some}
 use Rattle.cycle_tally.specs.Events as events
 use Rattle.cycle_tally.specs.Tallies.{Spending, Tally}
+use Rattle.cycle_tally.proofs.OneThreadEvents.{spends_here}
 use Rattle.heap_system.specs.Parts.{Part, Rest, Enter, Retry, ToChange, PhaseChange, Leave}
 use Rattle.heap_system.specs.Locals.{plain}
 use Rattle.heap_system.proofs.SeenAndKept.{Seen}
 use Rattle.heap_system.proofs.TallyLaw.{IsSpending, Counted, TallyEvent, TallyLaw, Asking, asking}
-use Rattle.heap_system.proofs.tallies.Moves.{spends_on, spends_here, told_none, moves}
+use Rattle.heap_system.proofs.tallies.Moves.{spends_on, told_none, moves}
 
 -- from a part that is inside with nothing claimed or reserved to Rest, or to one that stands as
 -- that

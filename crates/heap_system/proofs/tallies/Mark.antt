@@ -26,6 +26,7 @@ use Rattle.grey_steps.proofs.MarkUnits.{unit_grey}
 use Rattle.work_account.specs.Accounts.{Balance}
 use Rattle.cycle_tally.specs.Events as events
 use Rattle.cycle_tally.specs.Tallies.{Spending, Tally, made_of, due_of, with_made}
+use Rattle.cycle_tally.proofs.OneThreadEvents.{spends_here}
 use Rattle.heap_system.specs.Parts.{Part, Mark, Retry, ToChange}
 use Rattle.heap_system.specs.Locals.{Effect, Open, idle_part, spent_got, balance_made, balance_got}
 use Rattle.heap_system.proofs.Balances.{idle_more}
@@ -36,7 +37,7 @@ use Rattle.heap_system.proofs.SeenAndKept.{Seen}
 use Rattle.heap_system.proofs.TallyLaw.{asked_got, IsSpending, Counted, TallyEvent, TallyLaw, more_if, Asking, asking}
 use Rattle.heap_system.proofs.parts.InPass.{of_pass, pass_is, grey_or_black}
 use Rattle.heap_system.proofs.parts.Mark.{no_claim}
-use Rattle.heap_system.proofs.tallies.Moves.{SameWords, same_words, spends_here, paid_by, told_none, no_more, same_past, stays, moves}
+use Rattle.heap_system.proofs.tallies.Moves.{SameWords, same_words, paid_by, told_none, no_more, same_past, stays, moves}
 
 module _ (c : Config) (rate : ℕ) (s : Seen c) (p : Part) (before : Tally) (k : Counted c rate s p before) (next : Asking) where
   -- a block of the phase's white becomes grey

@@ -1,12 +1,10 @@
 -- How the event of a part moves a tally: not at all, or by one event of the tally or a few.
-use Rattle.std.proofs.Common.{◌≡◌, ℕ, Bool, false, ◌&&◌, List, [], ◌++◌, append-nil, refl, sym, ap, ◌∙◌, subst, arith}
+use Rattle.std.proofs.Common.{◌≡◌, ℕ, Bool, false, ◌&&◌, List, [], ◌++◌, append-nil, refl, sym, ap, ◌∙◌, arith}
 use Rattle.block_store.specs.declared.Config.{Config}
 use Rattle.block_store.specs.Colours.{black_word}
-use Rattle.block_store.specs.Counts.{changed}
 use Rattle.block_store.specs.Heaps.{Heap, put_at}
 use Rattle.block_store.specs.Phases.{is_sweep, cycle_of}
 use Rattle.block_store.specs.Places.{Phase, Cursor, FreeCount, ColourOf}
-use Rattle.block_store.proofs.Functions.{changed_here, changed_else}
 use Rattle.never_heap.specs.RightWork.{units_told}
 use Rattle.never_heap.specs.Histories.{HistoryItem}
 use Rattle.never_heap.specs.Steps.{blocks_of}
@@ -38,16 +36,6 @@ same_words h = record { cycle = refl; sweep = refl; cursor = refl; free = refl; 
 -- a write of the phase word that leaves the cycle and the phase
 pub phase_words : (h : Heap) (v : ℕ) → cycle_of v ≡ cycle_of (h Phase) → is_sweep v ≡ is_sweep (h Phase) → SameWords h (put_at h Phase v)
 phase_words h v cycle sweep = record { cycle = cycle; sweep = sweep; cursor = refl; free = refl; colour = λ x. refl }
-
--- a thread that is at this, changed once and twice
-pub spends_here : (P : Spending → Type 0) (f : ℕ → Spending) (t : ℕ) (w : Spending) → P w → P (changed f t w t)
-spends_here P f t w p = subst P (sym (changed_here f t w)) p
-
-pub spends_twice : (P : Spending → Type 0) (f : ℕ → Spending) (t : ℕ) (w : Spending) (g : Spending → Spending) → P (g w) → P (changed (changed f t w) t (g (changed f t w t)) t)
-spends_twice P f t w g p = subst P (sym (changed_here (changed f t w) t (g (changed f t w t)) ∙ ap g (changed_here f t w))) p
-
-pub others_twice : (f : ℕ → Spending) (t : ℕ) (w v : Spending) (u : ℕ) → (t ≡ u → ⊥) → changed (changed f t w) t v u ≡ f u
-others_twice f t w v u other = changed_else (changed f t w) t u v other ∙ changed_else f t u w other
 
 -- a thread at a part that stands, claims and has reserved the same
 pub spends_on : (c : Config) (p q : Part) (b : Balance) (asked : Asking) (w : Spending) → is_inside (stand_of c p) ≡ is_inside (stand_of c q) → (holding c p).low ≡ (holding c q).low → (holding c p).high ≡ (holding c q).high

@@ -35,6 +35,7 @@ use Rattle.barrier_steps.specs.Fits.{RowFits}
 use Rattle.barrier_steps.specs.Rows.{FieldState, field_reply, field_got, field_step, store_want, row_want, row_got, row_holding, in_barrier}
 use Rattle.cycle_tally.specs.Events as events
 use Rattle.cycle_tally.specs.Tallies.{Spending, Tally, made_of}
+use Rattle.cycle_tally.proofs.OneThreadEvents.{spends_here, spends_twice, others_twice}
 use Rattle.work_account.specs.Accounts.{Balance}
 use Rattle.heap_system.specs.Parts.{Serve, Leave}
 use Rattle.heap_system.specs.Locals.{Open, AsStep, plain, if_decides, if_replied, entry_of, balance_paid}
@@ -45,7 +46,7 @@ use Rattle.heap_system.proofs.SeenAndKept.{Seen}
 use Rattle.heap_system.proofs.parts.Mark as mark
 use Rattle.heap_system.proofs.TallyLaw.{IsSpending, Counted, TallyEvent, TallyLaw, Asking, asking, IsNext}
 use Rattle.heap_system.proofs.tallies.Mark.{shades}
-use Rattle.heap_system.proofs.tallies.Moves.{SameWords, same_words, spends_here, spends_twice, others_twice, paid_by, told_none, stays, moves}
+use Rattle.heap_system.proofs.tallies.Moves.{SameWords, same_words, paid_by, told_none, stays, moves}
 
 -- such a command claims nothing
 no_claim : (m : ℕ) (q : Pass) (r : FieldRow) → ((row_holding m q r).low ≡ 0) × ((row_holding m q r).high ≡ 0)

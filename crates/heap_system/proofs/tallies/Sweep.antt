@@ -25,6 +25,7 @@ use Rattle.cycle_tally.specs.Events as events
 use Rattle.cycle_tally.specs.Kept.{TallyKept}
 use Rattle.cycle_tally.proofs.Laws.{run_kept}
 use Rattle.cycle_tally.proofs.Steps.{step_kept}
+use Rattle.cycle_tally.proofs.OneThreadEvents.{spends_here, spends_twice, others_twice}
 use Rattle.cycle_tally.specs.Tallies.{Spending, Tally, with_made}
 use Rattle.heap_system.specs.Locals.{idle_part, balance_made}
 use Rattle.heap_system.proofs.Balances.{idle_more}
@@ -35,7 +36,7 @@ use Rattle.heap_system.proofs.TallyLaw.{IsSpending, IsTallyOf, Counted, TallyEve
 use Rattle.heap_system.specs.Units.{turns_black}
 use Rattle.heap_system.proofs.parts.InPass.{of_pass, pass_is, grey_or_black}
 use Rattle.heap_system.proofs.parts.Sweep.{freed_word}
-use Rattle.heap_system.proofs.tallies.Moves.{SameWords, same_words, spends_here, spends_twice, others_twice, paid_by, told_none, stays, moves}
+use Rattle.heap_system.proofs.tallies.Moves.{SameWords, same_words, paid_by, told_none, stays, moves}
 
 -- what the rows after a look at the cursor, at a block and past a block claim
 read_claims : (m owed w : ℕ) → ((sweep_holding (after_read m owed w)).low ≡ 0) × ((sweep_holding (after_read m owed w)).high ≡ 0)

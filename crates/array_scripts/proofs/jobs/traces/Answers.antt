@@ -1,8 +1,8 @@
 use Rattle.std.proofs.Common.{◌<◌, refl, length, map, subst, sym, ◌≡◌, ◌∙◌, [], arith}
-use Rattle.std.proofs.lemmas.List.{length-map}
+use Rattle.std.proofs.lemmas.List.{length-map, get_or_default}
 use Rattle.array_scripts.specs.Kinds.{AreOfThread}
 use Rattle.array_scripts.proofs.EachThread.{one_more}
-use Rattle.array_scripts.proofs.Items.{items_at, pushed_items, same_default}
+use Rattle.array_scripts.proofs.Items.{items_at, pushed_items}
 use Rattle.array_scripts.proofs.jobs.traces.Goals as goal
 
 pub trace_of-requires : goal.trace_of-requires
@@ -13,7 +13,7 @@ trace_of-requires g c =
     subst (AreOfThread g.K.Scripted.kind)
     (sym (c.deref.ensures.value
     ∙ items_at c.args.scripts.now c.loop-t.t c.index-scripts-t.result c.index-scripts-t.is (λ ops. ops.items)
-    ∙ same_default ops c.loop-t.t c.index-scripts-t.result.items [] low)) (c.requires.fit c.loop-t.t)
+    ∙ get_or_default ops c.loop-t.t c.index-scripts-t.result.items [] low)) (c.requires.fit c.loop-t.t)
 
 pub loop-t-preserved : goal.loop-t-preserved
 loop-t-preserved g c =

@@ -4,8 +4,8 @@ use Rattle.heap_system.proofs.RunBounds.{licensed, never_full}
 use Rattle.heap_system.proofs.LawsOf.{laws_of}
 use Rattle.heap_system.proofs.TurnFacts.{right_work}
 use Rattle.heap_system.proofs.TalliesOf.{tallies_of}
+use Rattle.heap_system.proofs.SystemStart.{one_log}
 use Rattle.control_heap.proofs.HeapAsRun.{kept_of}
-use Rattle.control_heap.proofs.Histories.{one_log}
 use Rattle.control_heap.proofs.laws.histories_are_right.Goals as goal
 
 pub returns-clause-legal : goal.returns-clause-legal

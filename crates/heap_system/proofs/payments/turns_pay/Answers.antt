@@ -2,12 +2,12 @@ use Rattle.std.proofs.Common.{ap, ◌∙◌, subst}
 use Rattle.block_store.specs.declared.Config.{Config}
 use Rattle.never_heap.specs.RightWork.{units_owed}
 use Rattle.rate_plan.specs.Rates.{IsRate}
+use Rattle.rate_plan.proofs.Rates.{one_rate}
 use Rattle.heap_system.specs.Locals.{command_of}
 use Rattle.heap_system.specs.Machines.{local_at}
 use Rattle.heap_system.proofs.Always.{run_kept}
 use Rattle.heap_system.proofs.LawsOf.{laws_of}
 use Rattle.heap_system.proofs.UnitsOfTurns.{turn_makes, decided_owed}
-use Rattle.heap_system.proofs.SystemStart.{one_rate}
 use Rattle.heap_system.proofs.payments.turns_pay.Goals as goal
 
 pub returns-clause-units : goal.returns-clause-units

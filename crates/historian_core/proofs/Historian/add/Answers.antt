@@ -1,42 +1,40 @@
-use Rattle.std.proofs.Common.{arith}
+use Rattle.std.proofs.Common.{inl, inr, ◌+◌, ◌*◌, length, arith}
+use Rattle.std.proofs.lemmas.List.{length_push}
+use Rattle.heap_structures.specs.declared.trend.Sample.{Sample}
 use Rattle.heap_structures.proofs.Answered.{ok_map}
-use Rattle.historian_core.proofs.Keeping.{state}
-use Rattle.historian_core.proofs.LastOnes.{keeps_on, not_left, room_left}
+use Rattle.historian_core.specs.Kept.{heap_config, samples}
+use Rattle.historian_core.proofs.Life.{left, room}
+use Rattle.historian_core.proofs.Readings.{keeps_on, long_as}
 use Rattle.historian_core.proofs.Historian.add.Goals as goal
 
-pub returns-in_err-record : goal.returns-in_err-record
-returns-in_err-record c = λ xs k same room.
-    absurd (c.in_err-record.ensures (state k) (omega (arith, same, room), omega (arith, same, room))
-    (omega (arith, same, room)))
-
-pub returns-in_err-forget : goal.returns-in_err-forget
-returns-in_err-forget c = λ xs k same room.
-    let s1 = c.in_ok-record.ensures (state k) (omega (arith, same, room), omega (arith, same, room))
-    (omega (arith, same, room)) in
-    absurd (c.in_err-forget.ensures (state s1)
-    (omega (arith, same, room), omega (arith, same, room)) room)
-
-pub returns-in_err-judge : goal.returns-in_err-judge
-returns-in_err-judge c = λ xs k same room.
-    let s1 = c.in_ok-record.ensures (state k) (omega (arith, same, room), omega (arith, same, room))
-    (omega (arith, same, room)) in
-    let s2 = c.in_ok-forget.ensures (state s1)
-    (omega (arith, same, room), omega (arith, same, room)) room in
-    absurd (c.in_err-judge.ensures (state s2) (omega (arith, same, room), omega (arith, same, room))
-    room (not_left c.args.limits.now xs c.args.reading c.args.count same)
-    (room_left c.args.limits.now xs c.args.reading c.args.count same))
+pub returns-in_err-push : goal.returns-in_err-push
+returns-in_err-push c = λ xs k low.
+    let h = c.args.self.now in
+    let l = c.args.limits.now in
+    let most = 2 + 207 * length xs in
+    let long = long_as l xs in
+    absurd (elim (c.in_err-push.ensures heap_config 40 most (samples l xs) k).2 [
+      | inl none ↦ none (room h most (samples l xs) k 127 (
+        omega (arith, low),
+        omega (
+          arith,
+          low,
+          long,
+        ),
+      ))
+      | inr none ↦ none ((left h most (samples l xs) k (omega (arith, long))).0
+          (omega (arith, low, long)))
+    ])
 
 pub returns : goal.returns
-returns c = λ xs k same room.
+returns c = λ xs k low.
     let l = c.args.limits.now in
-    let s1 = c.in_ok-record.ensures (state k) (omega (arith, same, room), omega (arith, same, room))
-    (omega (arith, same, room)) in
-    let s2 = c.in_ok-forget.ensures (state s1)
-    (omega (arith, same, room), omega (arith, same, room)) room in
-    let s3 = c.in_ok-judge.ensures (state s2) (omega (arith, same, room), omega (arith, same, room))
-    room (not_left l xs c.args.reading c.args.count same)
-    (room_left l xs c.args.reading c.args.count same) in
+    let most = 2 + 207 * length xs in
+    let x : Sample = record { value = c.args.reading; alarm = c.has_alarm.result } in
+    let is = (c.in_ok-push.ensures heap_config 40 most (samples l xs) k).0 in
+    let long = long_as l xs in
+    let more = length_push (samples l xs) x in
     ok_map _ _ c.figures.result
-    (λ f by. keeps_on l xs c.args.reading c.args.count same c.has_alarm.result c.has_alarm.ensures
-    c.figures.new.self _ f (omega arith) by)
-    (c.figures.ensures (state s3) (omega (arith, same, room), omega (arith, same, room)))
+    (λ f by. keeps_on l xs c.args.reading c.has_alarm.result c.has_alarm.ensures
+    c.figures.new.self f by)
+    (c.figures.ensures (most + 127) _ is (omega (arith, low), omega (arith, low, long, more)))

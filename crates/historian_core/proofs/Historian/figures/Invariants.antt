@@ -1,13 +1,17 @@
 -- The figures so far are those of the newest readings.
-use Rattle.std.proofs.Common.{◌≡◌, ◌≤◌, ◌+◌, ◌-◌, ◌*◌, ◌^◌, length, drop}
-use Rattle.historian_core.specs.Kept.{Fits, State, Stores, counted}
+use Rattle.std.proofs.Common.{◌≡◌, ◌≤◌, ◌+◌, ◌-◌, ◌*◌, ◌^◌, ℕ, List, drop}
+use Rattle.heap_structures.specs.Circles.{last_of}
+use Rattle.heap_structures.specs.Trends.{alarms_in, values_in}
+use Rattle.heap_structures.specs.declared.trend.Sample.{Sample}
+use Rattle.historian_core.specs.Kept.{Fits, IsGiven, counted}
 use Rattle.historian_core.proofs.Historian.figures.Given as goal
 
 abbrev pub invariant-loop-back : goal.invariant-loop-back
 invariant-loop-back l = record {
-  told : (s : State l.fn.self) → Fits s 80
-      → Stores l.self (s.most + 2 * l.back) s.made s.ys s.ls
-      × (l.figures ≡ counted (length s.ls) (drop (l.kept - l.back) s.ys));
+  told : (most : ℕ) (xs : List Sample) → IsGiven l.fn.self most xs → Fits most xs 80
+      → IsGiven l.self (most + 2 * l.back) xs
+      × (l.figures ≡ counted (alarms_in (last_of 40 xs))
+      (drop (l.kept - l.back) (values_in (last_of 40 xs))));
   total : l.figures.total ≤ l.back * 2 ^ 32;
   count : l.figures.count ≡ l.back;
 }

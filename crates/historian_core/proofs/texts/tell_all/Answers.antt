@@ -32,7 +32,7 @@ returns-in_default-clause-report g c =
     (due_after l past) (told_line l past)
     (due_more l t.0 c.in-Ok.reading (omega (arith, t.2, c.in-Ok.ensures.room)))
     (g.S.Source.left c.loop-count.source) new (g.K.Sink.held c.loop-count.sink) last (omega arith)
-    (c.in-Ok.ensures.next l t.0 t.2) (c.in_default.ensures.prefix t.0 t.1 t.2))
+    (c.in-Ok.ensures.next l t.0 t.2) (c.in_default.ensures.prefix t.0 t.1))
 
 pub loop-count-preserved : goal.loop-count-preserved
 loop-count-preserved g c =
@@ -42,13 +42,13 @@ loop-count-preserved g c =
     record {
       told = (
         past,
-        c.tell.ensures.kept t.0 t.1 t.2,
+        c.tell.ensures.kept t.0 t.1,
         omega (arith, length-append t.0 (c.in-Ok.reading ∷ []), t.2),
         λ new last r by. t.3 new last r (goes_on reading_at (Some c.in-Ok.reading) (due_after l t.0)
             (due_after l past) (told_line l past)
             (due_more l t.0 c.in-Ok.reading (omega (arith, t.2, c.in-Ok.ensures.room)))
             _ _ _ _ _ _ r (c.in-Ok.ensures.next l t.0 t.2)
-            (c.in-Ok-tell.ensures.written t.0 t.1 t.2) refl by),
+            (c.in-Ok-tell.ensures.written t.0 t.1) refl by),
       );
       room = omega (arith, c.in-Ok.ensures.room);
       counted = search rules;

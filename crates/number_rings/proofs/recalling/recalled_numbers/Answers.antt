@@ -1,5 +1,5 @@
 use Rattle.std.proofs.Common.{◌*◌}
-use Rattle.operations.proofs.PartLogs.{replies}
+use Rattle.never_heap.proofs.PartLogs.{replies}
 use Rattle.number_rings.specs.Rings.{recalled}
 use Rattle.number_rings.proofs.TracesSoFar.{told_none, told_more}
 use Rattle.number_rings.proofs.recalling.recalled_numbers.Goals as goal

@@ -1,7 +1,7 @@
 -- The numbers so far, and those that the rest of the log tells, are all numbers.
 use Rattle.std.proofs.Common.{◌≡◌, ◌++◌, length}
 use Rattle.number_rings.specs.Rings.{numbers_told, recalled}
-use Rattle.operations.proofs.PartLogs.{replies}
+use Rattle.never_heap.proofs.PartLogs.{replies}
 use Rattle.number_rings.proofs.recalling.recalled_numbers.Given as goal
 
 abbrev pub invariant-loop-rest : goal.invariant-loop-rest

@@ -1,5 +1,6 @@
 use Rattle.std.proofs.Common.{ℕ, List, [], ◌∷◌, ◌++◌, codes, decimal, ap, ◌∙◌, refl}
-use Rattle.rt_limit.specs.Prices.{bytes, turns, years}
+use Rattle.block_store.specs.Places.{bytes}
+use Rattle.rt_limit.specs.Prices.{turns, years}
 use Rattle.rt_limit.proofs.TextLaws.{figure}
 use Rattle.rt_limit.proofs.texts.line_of_heap.Goals as goal
 

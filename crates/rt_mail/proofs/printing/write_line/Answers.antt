@@ -1,8 +1,9 @@
 use Rattle.std.proofs.Common.{◌∙◌, ◌∷◌, [], ◌++◌, subst, List, ℕ, codes, decimal}
+use Rattle.std.proofs.lemmas.Result.{on_ok_weaker, on_err_weaker}
 use Rattle.trace_text.specs.Streams.{Appends, AppendsPrefix}
 use Rattle.trace_text.proofs.AppendedTexts.{at_err}
 use Rattle.rt_mail.specs.Tellings.{last_text}
-use Rattle.rt_mail.proofs.WrittenLines.{on_ok, on_err, three_in_turn, first_front, second_front, third_front}
+use Rattle.rt_mail.proofs.WrittenLines.{three_in_turn, first_front, second_front, third_front}
 use Rattle.rt_mail.proofs.printing.write_line.Goals as goal
 
 pub returns-in_err-put-clause-prefix : goal.returns-in_err-put-clause-prefix
@@ -30,7 +31,7 @@ pub returns-clause-written : goal.returns-clause-written
 returns-clause-written g c =
     let held = g.K.Sink.held in
     let count : List ℕ = decimal c.args.thread ++ codes " got " ++ decimal c.args.got in
-    on_ok c.put-2.result
+    on_ok_weaker c.put-2.result
     (λ h. three_in_turn (held c.args.sink.now) (held c.put.new.self) (held c.write_last.new.sink)
     (held c.put-2.new.self) count (last_text c.args.got c.args.last.now) (10 ∷ [])
     (subst (λ (text : List ℕ). Appends (held c.args.sink.now) (held c.put.new.self) text)
@@ -41,7 +42,7 @@ pub returns-clause-prefix : goal.returns-clause-prefix
 returns-clause-prefix g c =
     let held = g.K.Sink.held in
     let count : List ℕ = decimal c.args.thread ++ codes " got " ++ decimal c.args.got in
-    on_err c.put-2.result
+    on_err_weaker c.put-2.result
     (λ h. third_front (held c.args.sink.now) (held c.put.new.self) (held c.write_last.new.sink)
     (held c.put-2.new.self) count (last_text c.args.got c.args.last.now) (10 ∷ [])
     (subst (λ (text : List ℕ). Appends (held c.args.sink.now) (held c.put.new.self) text)

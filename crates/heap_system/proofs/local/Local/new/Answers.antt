@@ -1,5 +1,5 @@
 use Rattle.std.proofs.Common.{arith}
-use Rattle.heap_system.proofs.OwedAndPaid.{rate_low}
+use Rattle.rate_plan.proofs.Rates.{rate_low}
 use Rattle.heap_system.proofs.local.Local.new.Goals as goal
 
 pub new-requires-clause-rate : goal.new-requires-clause-rate

@@ -2,9 +2,10 @@ use Rattle.std.proofs.Common.{◌≡◌, ◌∷◌, [], ◌++◌, List, length, 
 use Rattle.std.specs.Vec.Iter.{into_iter_items}
 use Rattle.never_heap.specs.declared.Command.{Command}
 use Rattle.rate_plan.proofs.Plans.{found}
+use Rattle.rate_plan.proofs.Rates.{one_rate}
 use Rattle.heap_system.specs.Locals.{at_start}
 use Rattle.heap_system.specs.Machines.{starts_from, IsOpening}
-use Rattle.heap_system.proofs.SystemStart.{AreAtStart, spaces, one_rate, thread_more, opened_traces, opened_reached, number_low, trace_fits, splits_on}
+use Rattle.heap_system.proofs.SystemStart.{AreAtStart, spaces, thread_more, opened_traces, opened_reached, number_low, trace_fits, splits_on}
 use Rattle.heap_system.proofs.system.System.new.Goals as goal
 
 -- the trace of a vector

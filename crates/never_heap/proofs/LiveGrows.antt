@@ -1,7 +1,7 @@
 -- Reachable blocks grow at allocations alone, and by at most the blocks that are made.
-use Rattle.std.proofs.Common.{ℕ, zero, suc, ◌+◌, ◌≡◌, ◌<◌, ◌≤◌, Bool, true, false, cond, eqb, leb, ltb, List, [], ◌∷◌, length, ap, sym, ◌∙◌, refl, subst, arith, inl, inr, eq-eqb, ne_eqb}
+use Rattle.std.proofs.Common.{ℕ, zero, suc, ◌+◌, ◌≡◌, ◌<◌, ◌≤◌, Bool, true, false, cond, eqb, ltb, List, [], ◌∷◌, length, ap, sym, ◌∙◌, refl, subst, arith, inl, inr, eq-eqb, ne_eqb}
 use Rattle.std.specs.List.{sum_by, All}
-use Rattle.std.proofs.lemmas.Bool.{cases_eq, cases_lt, cases_Bool, both_ways, le-leb, lt-ltb, le-ltb}
+use Rattle.std.proofs.lemmas.Bool.{cases_eq, cases_lt, cases_Bool, both_ways, lt-ltb, le-ltb}
 use Rattle.std.proofs.lemmas.List.{length-replicate}
 use Rattle.std.proofs.lemmas.List.Sums.{sum_by-append, sum_by-cons}
 use Rattle.block_store.specs.declared.Name.{Name}
@@ -21,6 +21,7 @@ use Rattle.never_heap.proofs.NameLists.{same_itself, name_of_place, length_of_th
 use Rattle.never_heap.proofs.ReachSteps.{reached_after}
 use Rattle.never_heap.proofs.UnchangedBySteps.{step_past, next_is_new, step_shape, step_counts}
 use Rattle.never_heap.proofs.StepChanges.{step_threads, with_object_threads}
+use Rattle.never_heap.proofs.Sums.{has_serial}
 
 -- sums of what is no more at each element
 sum_le : (f h : Name → ℕ) (xs : List Name) → All (λ a. f a ≤ h a) xs → sum_by f xs ≤ sum_by h xs
@@ -30,19 +31,13 @@ sum_le f h (x ∷ xs) all =
     let rest = sum_le f h xs (λ k d l. all (suc k) d (omega arith)) in
     omega (arith, sum_by-cons f x xs, sum_by-cons h x xs)
 
--- the names of a thread are those of its objects
-named : (g : Graph) (t s : ℕ) → s < count_of g t
-    → has_name g (record { thread = t; serial = s + 1 }) ≡ true
-named g t s l = ap (λ b. cond b (eqb t (length g.mutators)) (leb (s + 1) (count_of g t)))
-    (ne_eqb (s + 1) 0 (λ e. absurd (omega arith))) ∙ le-leb (s + 1) (count_of g t) (omega arith)
-
 -- what holds of each name of a graph holds of the names of a thread
 of_thread : (P : Name → Type 0) (g : Graph) (t : ℕ) → ((a : Name) → has_name g a ≡ true → P a)
     → All P (thread_names t (count_of g t))
 of_thread P g t each = λ k d l.
     let few : k < count_of g t = omega (arith, length_of_thread t (count_of g t)) in
     subst P (sym (name_of_place t (count_of g t) k d few))
-    (each (record { thread = t; serial = k + 1 }) (named g t k few))
+    (each (record { thread = t; serial = k + 1 }) (has_serial g t k few))
 
 -- the blocks of a new object
 nil_blocks : (w : Width) (kind : ObjectKind) (n : ℕ)
