@@ -5,8 +5,9 @@
    The heap has a worker for each of its threads, with 16 registers of its own. Register 0 of each
    starts as a reference to the one shared array. A thread of the program attaches a worker to a
    handle and gives it one command at a time: rtheap_worker_start announces the command, and
-   rtheap_worker_poll carries it out, at most so many steps in a call. No call waits, takes a lock
-   or starts a thread. Only rtheap_group_open and rtheap_group_attach allocate.
+   rtheap_worker_poll carries it out, at most so many steps in a call. No call takes a lock or
+   starts a thread; only rtheap_worker_ask waits; only rtheap_group_open and rtheap_group_attach
+   allocate.
 
        rtheap_group group = RTHEAP_GROUP_CLOSED;
        rtheap_worker worker = RTHEAP_WORKER_CLOSED;    one for each thread

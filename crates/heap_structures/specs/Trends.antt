@@ -25,12 +25,13 @@ use Rattle.heap_structures.specs.Heaps.{HasRoom}
 use Rattle.heap_structures.specs.Records.{IsRecords, first_of, records_cells}
 
 -- The live limit that is asked for a trend of n samples: the blocks of the registers and of the
--- shared array, of two objects of n values, of one object for each sample, and of the next one.
+-- shared array, of two records or arrays of n values, whichever are larger, of one object for each
+-- sample, and of the next one.
 abbrev pub trend_blocks : Config → ℕ → ℕ
 trend_blocks c n =
     opening_blocks c + (2 * max (record_blocks c.width n) (array_blocks c.width n) + (n + 1))
 
--- a heap of this configuration can be opened, and holds a trend of n samples
+-- a heap of this configuration can be opened, and suffices for a trend of n samples, 2 to 65,535
 pub record HoldsTrend (c : Config) (n : ℕ) : Type 0 where
   pub can : CanOpen c
   pub some : 2 ≤ n
@@ -41,7 +42,7 @@ pub record HoldsTrend (c : Config) (n : ℕ) : Type 0 where
 abbrev pub values_in : List Sample → List ℕ
 values_in xs = map (λ x. x.value) xs
 
--- alarm i in front of others, or none
+-- alarm i in front of others, if it is one
 abbrev pub with_alarm : Bool → ℕ → List Alarm → List Alarm
 with_alarm b i ls = if b then record { number = i; acknowledged = false } ∷ ls else ls
 
@@ -83,8 +84,9 @@ pub record IsLaid (c : Config) (n : ℕ) (g : Graph) (r : Records) (a : AlarmLis
   pub readings : IsRecords g r ys
   pub alarms : IsAlarms g a ls
 
--- The heap of a trend has met no `Full`, has done at most so many commands, and has made the two
--- arrays and so many objects of one value: these values and alarms are there.
+-- The heap of a trend has this configuration, which suffices. It has met no `Full`, has done at most
+-- so many commands, and has made the two arrays and so many objects of one block: these values and
+-- alarms are there.
 pub record Lays (t : Trend) (c : Config) (n most made : ℕ) (ys : List ℕ) (ls : List Alarm)
     : Type 0 where
   pub graph : Graph
@@ -119,7 +121,7 @@ pub record IsTrend (t : Trend) (c : Config) (n most : ℕ) (xs : List Sample) : 
 abbrev pub LeavesRoom : ℕ → Control → Control → Type 0
 LeavesRoom n h z = (k : ℕ) → HasRoom (n + k) h → HasRoom k z
 
--- the same configuration after a call of m commands, with so many objects, these values and alarms
+-- the same configuration after at most m commands, with so many objects, these values and alarms
 abbrev pub LaysAfter : {t : Trend} → State t → ℕ → Trend → ℕ → List ℕ → List Alarm → Type 0
 LaysAfter {t} s m u made ys ls =
     Lays u s.config s.size (s.most + m) made ys ls × LeavesRoom m t.heap u.heap

@@ -81,7 +81,7 @@ impl Trend {
     ///
     /// # Errors
     ///
-    /// `NoMemory`: the configuration rules out the other causes of `ControlHeap::open`.
+    /// `NoMemory`, at any time: the configuration rules out the other causes of `ControlHeap::open`.
     pub fn open(alloc: Global, config: Config, size: u32) -> Result<Trend, OpenFault>
         requires { HoldsTrend config size }
         ensures trend { IfOk result (λ t. IsTrend t config size 2 []) }

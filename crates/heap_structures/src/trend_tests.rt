@@ -27,6 +27,27 @@ fn get(trend: &mut Trend, i: u32) -> Option<u32> {
     trend.get(i).unwrap_or(None)
 }
 
+fn alarm(trend: &mut Trend, i: u32) -> Option<u64> {
+    trend.alarm(i).unwrap_or(None)
+}
+
+// How many of the last samples are alarms, and the number of the sample that is alarm `which`.
+fn alarms_of(plain: &VecDeque<Sample>, pushed: u64, which: u32) -> (u32, Option<u64>) {
+    let mut number = pushed.saturating_sub(plain.len() as u64);
+    let mut alarms = 0u32;
+    let mut found = None;
+    for sample in plain {
+        if sample.alarm {
+            if alarms == which {
+                found = Some(number);
+            }
+            alarms = alarms.saturating_add(1);
+        }
+        number = number.saturating_add(1);
+    }
+    (alarms, found)
+}
+
 #[test]
 fn a_trend_keeps_the_last_samples(rt: HostRuntime) -> Result<(), Fail> {
     if !Trend::fits(&LEAST, SIZE) {
@@ -35,6 +56,7 @@ fn a_trend_keeps_the_last_samples(rt: HostRuntime) -> Result<(), Fail> {
     let mut trend = Trend::open(rt.alloc(), LEAST, SIZE).ok().ok_or("trend")?;
     let mut plain = VecDeque::new(rt.alloc());
     let mut state = 7;
+    let mut pushed = 0u64;
     for _turn in 0..DRAWN {
         let sample = Sample {
             value: (draw(&mut state) % (1 << 32)) as u32,
@@ -42,6 +64,7 @@ fn a_trend_keeps_the_last_samples(rt: HostRuntime) -> Result<(), Fail> {
         };
         assert!(rt; push(&mut trend, sample));
         plain.push_back(sample)?;
+        pushed = pushed.saturating_add(1);
         if plain.len() > SIZE as usize {
             let _oldest = plain.pop_front();
         }
@@ -52,13 +75,11 @@ fn a_trend_keeps_the_last_samples(rt: HostRuntime) -> Result<(), Fail> {
         };
         assert_eq!(rt; get(&mut trend, i as u32), wanted);
         assert_eq!(rt; trend.len() as usize, plain.len());
-        let mut alarms = 0u32;
-        for sample in &plain {
-            if sample.alarm {
-                alarms = alarms.saturating_add(1);
-            }
-        }
+        assert_eq!(rt; trend.pushed(), pushed);
+        let which = (draw(&mut state) % 6) as u32;
+        let (alarms, number) = alarms_of(&plain, pushed, which);
         assert_eq!(rt; trend.alarms(), alarms);
+        assert_eq!(rt; alarm(&mut trend, which), number);
     }
     Ok(())
 }

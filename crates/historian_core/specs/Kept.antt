@@ -36,7 +36,7 @@ counted_in xs = counted (alarms_in (last_of 40 xs)) (values_in (last_of 40 xs))
 abbrev pub IsGiven : Historian → ℕ → List Sample → Type 0
 IsGiven h most xs = IsTrend h.trend heap_config 40 most xs
 
--- there is room in the life of its heap for n more commands
+-- after at most so many commands, for these samples, the life of a heap has room for n more
 abbrev pub Fits : ℕ → List Sample → ℕ → Type 0
 Fits most xs n = (most + n ≤ 2 ^ 60) × (length xs ≤ life)
 

@@ -151,7 +151,7 @@ pub fn start(alloc: Global) -> Result<Historian, OpenFault>
     Ok(Historian { trend })
 }
 
-/// Adds a reading to fewer than `LIFE` others, and writes the line of the last 40 by one `put`.
+/// Adds a reading to fewer than `LIFE` others, and writes the line of the last 40.
 ///
 /// # Errors
 ///

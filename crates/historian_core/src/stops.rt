@@ -59,7 +59,7 @@ impl Stop {
         }
     }
 
-    /// The line that the program `historian` writes where it stops so, with its line feed.
+    /// The line of the stop, with its line feed.
     pub fn line(self) -> LineBuffer
         ensures { result ≡ stop_line self }
     {
@@ -115,9 +115,9 @@ fn say_end<K: Sink>(end: Result<(), Stop>, sink: &mut K) -> u8
     }
 }
 
-/// Writes the line of a stop by one `put` and returns the exit status: that of the stop, or 6 where
-/// the sink fails, which may leave a prefix of the line written. Nothing is written for
-/// `WriteFault`, where the sink has failed before.
+/// Writes the line of a stop and returns the exit status: that of the stop, or 6 where the sink
+/// fails, which may leave a prefix of the line written. Nothing is written for `WriteFault`, where
+/// the sink has failed before.
 pub fn say_stop<K: Sink>(stop: Stop, sink: &mut K) -> u8
     ensures { IsSaid stop (K.held sink.old) (K.held sink.new) (K.faults sink.old)
         (K.faults sink.new) result }

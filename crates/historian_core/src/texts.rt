@@ -50,8 +50,8 @@ fn first_of(line: &[u8]) -> Result<Limits, Why>
     }
 }
 
-/// Reads a text of limits and readings, and after each reading writes the line of the last 40 by
-/// one `put`. The heap keeps no reading yet.
+/// Reads a text of limits and readings, and after each reading writes the line of the last 40. The
+/// heap keeps no reading yet.
 ///
 /// # Errors
 ///
