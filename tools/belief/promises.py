@@ -41,7 +41,7 @@ the job's limit. If no cycle did, no entry is `full`.""",
             ["rtheap_core::rtheap.done", "rtheap_core::rtheap.never_full"],
             {**PRINTED, "HasHistory": "is_run", "IsRun": "legal traces_whole licensed"}),
     Promise("bound", "Bound of a lone thread", """
-If nobody is inside the heap, the gate is open and from then on one thread alone has turns, its
+If nobody is inside, the gate is open and from then on one thread, at rest, alone has turns, its
 command ends within `command_bound` and `command_near`, and no turn waits.""",
             ["heap_system::a_lone_thread_ends_its_command",
              "heap_system::a_lone_command_ends_near_its_bound"]),
@@ -64,7 +64,8 @@ refused one changes nothing. All requests have one legal history with exact work
              "control_heap::ControlHeap::request", "control_heap::laws"]),
     Promise("saved", "Heaps saved, loaded and renewed", """
 A heap renewed, or loaded from what was saved, shows the graph of its source up to names,
-also where the source went on and each of its commands was noted. Other bytes are refused.""",
+also where the source went on and each of its commands was noted. Bytes without a picture
+are refused.""",
             ["saved_heap::Reading::finish", "saved_heap::Renewal::follow",
              "saved_heap::Renewal::finish", "saved_heap::renew",
              "saved_heap::save", "saved_heap::load"]),
@@ -99,9 +100,9 @@ thread's ring.""",
              "live_rings::LiveRings::learn", "live_rings::LiveRings::close",
              "live_rings::laws"]),
     Promise("from_c", "Calls from C", """
-Each command is answered as by `ControlHeap::ask`, with a number for each status and reply; a call
+Each command is answered as by `ControlHeap::ask`, with a number for each status and reply; one
 whose status is not 0 changes neither heap nor reply. What C owes is in the type of the handle:
-one that begins with the mark owns the heap that its pointer leads to.""",
+one that begins with the mark owns what its pointer leads to.""",
             ["control_heap_c::exports", "control_heap_c::laws"]),
     Promise("tags", "Tags of a script", """
 The answers are those of a plain table on which the operations are done in one order, which keeps
