@@ -6,11 +6,15 @@ use std::alloc::Global;
 use std::sync::Wait;
 use std::sync::atomic::{AtomicU64, Ordering};
 use std::time::{Clock, CpuClock, Duration};
+use time_histograms::Times;
 
 /// The most threads of a job, and the most commands of a thread.
 const THREADS: usize = 16;
 
 const COMMANDS: usize = 131_072;
+
+/// How often the clock is read to tell the time of one reading.
+const READINGS: usize = 1_001;
 
 /// A pace that reads the clocks before each command, and stores what it read in two words of that
 /// command's own. All words are there before the run, so it takes no memory, no lock, and two
@@ -90,7 +94,7 @@ fn place(thread: u32, command: u64) -> Option<usize> {
 }
 
 /// What the clock reads; 0 where it cannot be read.
-pub fn nanoseconds<C: Clock>(clock: &C) -> u64 {
+fn nanoseconds<C: Clock>(clock: &C) -> u64 {
     match clock.monotonic() {
         Ok(time) => nanoseconds_in(time),
         Err(_) => 0,
@@ -98,7 +102,7 @@ pub fn nanoseconds<C: Clock>(clock: &C) -> u64 {
 }
 
 /// What the clock of this thread's processor time reads; 0 where it cannot be read.
-pub fn processor_nanoseconds<C: CpuClock>(clock: &C) -> u64 {
+fn processor_nanoseconds<C: CpuClock>(clock: &C) -> u64 {
     match clock.thread_cpu_time() {
         Ok(time) => nanoseconds_in(time),
         Err(_) => 0,
@@ -108,4 +112,17 @@ pub fn processor_nanoseconds<C: CpuClock>(clock: &C) -> u64 {
 fn nanoseconds_in(time: Duration) -> u64 {
     let seconds = time.as_secs().saturating_mul(1_000_000_000);
     seconds.saturating_add(u64::from(time.subsec_nanos()))
+}
+
+/// The median of the times between two readings of both clocks, one directly after the other.
+pub fn reading_time<C: Clock + CpuClock>(alloc: Global, clock: &C) -> Result<u64, OutOfMemory> {
+    let mut times = Vec::with_capacity(alloc, READINGS)?;
+    let mut before = nanoseconds(clock);
+    for _reading in 0..READINGS {
+        let _used = processor_nanoseconds(clock);
+        let now = nanoseconds(clock);
+        times.push(now.saturating_sub(before))?;
+        before = now;
+    }
+    Ok(Times::new(times).percentile(500).unwrap_or(0))
 }

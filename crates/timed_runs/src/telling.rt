@@ -8,7 +8,7 @@ use crate::kinds::{KINDS, Kind};
 use crate::samples::{
     Sample, TimedCommand, Which, count_commands, line_of, sample_of, timed_commands,
 };
-use crate::stamps::{Stamps, nanoseconds, processor_nanoseconds};
+use crate::stamps::Stamps;
 use atom_board::Closed;
 use block_store::OutOfMemory;
 use never_heap::Logs;
@@ -16,10 +16,7 @@ use rate_plan::plan;
 use std::alloc::Global;
 use std::fmt;
 use std::time::{Clock, CpuClock};
-use time_histograms::{CLASSES, Times, bucket_of, fullest, power};
-
-/// How often the clock is read to tell the time of one reading.
-const READINGS: usize = 1_001;
+use time_histograms::{CLASSES, bucket_of, fullest, power};
 
 /// What is told of processor time.
 const PROCESSOR: &str =
@@ -41,19 +38,6 @@ pub struct Told<'a> {
     pub commands: &'a [TimedCommand],
     pub rate: Option<u64>,
     pub form: Form,
-}
-
-/// The median of the times between two readings of both clocks, one directly behind the other.
-pub fn reading_time<C: Clock + CpuClock>(alloc: Global, clock: &C) -> Result<u64, OutOfMemory> {
-    let mut times = Vec::with_capacity(alloc, READINGS)?;
-    let mut before = nanoseconds(clock);
-    for _reading in 0..READINGS {
-        let _used = processor_nanoseconds(clock);
-        let now = nanoseconds(clock);
-        times.push(now.saturating_sub(before))?;
-        before = now;
-    }
-    Ok(Times::new(times).percentile(500).unwrap_or(0))
 }
 
 /// The report of what was measured of a run: of all threads, and where there are several of each.

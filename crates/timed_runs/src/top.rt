@@ -9,8 +9,8 @@ ghost use Rattle.timed_runs.specs.Calls.{form_asked, run_words, words_for};
 ghost use Rattle.timed_runs.specs.Calls.{silent, IsReported, IsTimed};
 
 use crate::counted::Counted;
-use crate::stamps::Stamps;
-use crate::telling::{Form, reading_time, report_of};
+use crate::stamps::{Stamps, reading_time};
+use crate::telling::{Form, report_of};
 use block_store::OutOfMemory;
 use exit_statuses::{Refusal, refused};
 use rtheap_core::{Exit, RunEnd, rtheap};
