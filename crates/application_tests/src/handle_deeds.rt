@@ -1,5 +1,5 @@
-//! Scripts of handles that are drawn, run by drawn turns, and judged by a plain list of slots in the
-//! order in which their deciding commands were answered.
+//! Scripts of handles that are drawn, run by drawn turns, and judged by a plain list of slots in
+//! the order in which their deciding commands were answered.
 
 ghost use Rattle.std.specs.Prelude.{◌≡◌, ◌≤◌, true};
 ghost use Rattle.handle_table.specs.Handles.{size_of, sizes_of};

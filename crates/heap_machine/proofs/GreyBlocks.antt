@@ -1,4 +1,5 @@
--- What keeps the rule of the grey blocks: an event that writes no word of it, one that writes a list word, one that writes a colour; and what the rule says of a block.
+-- What keeps the rule of the grey blocks: an event that writes no word of it, one that writes a
+-- list word, one that writes a colour; and what the rule says of a block.
 use Rattle.std.proofs.Common.{◌≡◌, ℕ, ◌≤◌, ◌<◌, ◌+◌, ◌-◌, true, false, cond, eqb, refl, arith, subst, sym, ap, ◌∙◌, List, [], ◌∷◌, inl, inr, eq-eqb, ne_eqb, Option, Some, None}
 use Rattle.std.proofs.lemmas.Bool.{cases_eq, cases_Bool}
 use Rattle.block_store.specs.Places.{Place, Phase, Cursor, FreeCount, GreyList, FreeList, ColourOf, OwnerOf, ShapeOf, PayloadOf}
@@ -35,7 +36,8 @@ module _ (n : ℕ) (h : Heap) (hs : ℕ → GreyHolding) (k : GreyKept n h hs) (
     emptied = λ u l. changed_both (λ s (v : GreyHolding). v.emptied ≡ true → h (GreyList s) ≡ 0) hs t w u (λ e. subst (λ s. w.emptied ≡ true → h (GreyList s) ≡ 0) e empty) (λ ne. k.emptied u l);
   }
 
-  -- an event that writes a into the list of u: no block is lost between that list and what t holds, and another thread's list is emptied
+  -- an event that writes a into the list of u: no block is lost between that list and what t holds,
+  -- and another thread's list is emptied
   pub kept_list : (u a : ℕ) (w : GreyHolding) (L H : List ℕ) → u < n → Chain (colours h) a L → Stands (colours h) w.scan w.hand H
       → ((x : ℕ) → times x L + times x H ≡ times x (k.lists u) + times x (k.hands t))
       → (w.emptied ≡ true → put_at h (GreyList u) a (GreyList t) ≡ 0)

@@ -1,4 +1,5 @@
--- The events on grey blocks keep the rule: a list is taken or put, a block goes from the hand under scan, a block becomes grey or black.
+-- The events on grey blocks keep the rule: a list is taken or put, a block goes from the hand under
+-- scan, a block becomes grey or black.
 use Rattle.std.proofs.Common.{◌≡◌, ℕ, ◌<◌, ◌+◌, true, false, cond, eqb, refl, arith, subst, sym, ap, ◌∙◌, List, [], ◌∷◌, inl, inr, eq-eqb, ne_eqb, Option, Some, None}
 use Rattle.std.proofs.lemmas.Bool.{cases_eq}
 use Rattle.block_store.specs.Places.{GreyList, ColourOf}

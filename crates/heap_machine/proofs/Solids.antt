@@ -1,4 +1,5 @@
--- What keeps that no block that is not Free refers to a Free one, and that the root blocks are marked.
+-- What keeps that no block that is not Free refers to a Free one, and that the root blocks are
+-- marked.
 use Rattle.std.proofs.Common.{◌≡◌, ℕ, ◌<◌, ◌+◌, ◌-◌, ◌&&◌, true, false, cond, eqb, refl, subst, sym, ap, ◌∙◌, inl, inr, eq-eqb, ne_eqb, eqb-true}
 use Rattle.std.proofs.lemmas.Bool.{cases_eq, cases_Bool, and_parts}
 use Rattle.block_store.specs.Colours.{is_free}

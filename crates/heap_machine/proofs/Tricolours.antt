@@ -1,4 +1,5 @@
--- What keeps the tricolour rule: a write of another place, a colour that is not white, a payload that refers to no white block, and a thread that goes on.
+-- What keeps the tricolour rule: a write of another place, a colour that is not white, a payload
+-- that refers to no white block, and a thread that goes on.
 use Rattle.std.proofs.Common.{◌≡◌, ◌≢◌, ℕ, ◌<◌, ◌+◌, ◌-◌, ◌⊎◌, ◌&&◌, true, false, cond, eqb, refl, arith, subst, sym, ◌∙◌, inl, inr, ⊎_elim, eq-eqb, ne_eqb}
 use Rattle.std.proofs.lemmas.Bool.{cases_eq, cases_Bool}
 use Rattle.block_store.specs.Colours.{white_word, black_word}

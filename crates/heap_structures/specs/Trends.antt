@@ -84,9 +84,9 @@ pub record IsLaid (c : Config) (n : ℕ) (g : Graph) (r : Records) (a : AlarmLis
   pub readings : IsRecords g r ys
   pub alarms : IsAlarms g a ls
 
--- The heap of a trend has this configuration, which suffices. It has met no `Full`, has done at most
--- so many commands, and has made the two arrays and so many objects of one block: these values and
--- alarms are there.
+-- The heap of a trend has this configuration, which suffices. It has met no `Full`, has done at
+-- most so many commands, and has made the two arrays and so many objects of one block: these values
+-- and alarms are there.
 pub record Lays (t : Trend) (c : Config) (n most made : ℕ) (ys : List ℕ) (ls : List Alarm)
     : Type 0 where
   pub graph : Graph
@@ -109,9 +109,9 @@ pub record State (t : Trend) : Type 0 where
   pub ls : List Alarm
   pub lays : Lays t config size most made ys ls
 
--- A trend of at most n samples, on a heap of this configuration, to which these samples were pushed:
--- it shows the last n of them and their alarms. The heap has met no `Full`, has done at most so many
--- commands, and has made the two arrays and one object for each sample.
+-- A trend of at most n samples, on a heap of this configuration, to which these samples were
+-- pushed: it shows the last n of them and their alarms. The heap has met no `Full`, has done at
+-- most so many commands, and has made the two arrays and one object for each sample.
 pub record IsTrend (t : Trend) (c : Config) (n most : ℕ) (xs : List Sample) : Type 0 where
   pub lays : Lays t c n most (length xs) (values_in (last_of n xs))
       (alarms_from (length xs - n) (last_of n xs))

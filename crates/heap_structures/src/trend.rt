@@ -76,12 +76,13 @@ impl Trend {
         array <= config.object && opening + 2 * object + size < config.live
     }
 
-    /// Opens a trend of at most `size` samples, none pushed yet, on a new heap, by two commands. The
-    /// configuration must be one that `fits` accepts.
+    /// Opens a trend of at most `size` samples, none pushed yet, on a new heap, by two commands.
+    /// The configuration must be one that `fits` accepts.
     ///
     /// # Errors
     ///
-    /// `NoMemory`, at any time: the configuration rules out the other causes of `ControlHeap::open`.
+    /// `NoMemory`, at any time: the configuration rules out the other causes of
+    /// `ControlHeap::open`.
     pub fn open(alloc: Global, config: Config, size: u32) -> Result<Trend, OpenFault>
         requires { HoldsTrend config size }
         ensures trend { IfOk result (λ t. IsTrend t config size 2 []) }

@@ -1,5 +1,5 @@
--- What the code meets that makes a system: the threads at rest, one by one, and the state that no turn
--- has changed yet. And the sum of the works of all logs.
+-- What the code meets that makes a system: the threads at rest, one by one, and the state that no
+-- turn has changed yet. And the sum of the works of all logs.
 use Rattle.std.proofs.Common.{◌≡◌, ℕ, zero, suc, ◌+◌, ◌<◌, ◌≤◌, List, [], ◌∷◌, ◌++◌, length, length-append, append_assoc, get_or, map, take, refl, sym, ap, ◌∙◌, subst, arith, inl, inr}
 use Rattle.std.proofs.lemmas.Bool.{cases_lt}
 use Rattle.std.proofs.lemmas.List.{map-append, length-map}

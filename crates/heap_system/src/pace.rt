@@ -1,8 +1,8 @@
-//! What running threads tell before each command.
+//! A call before each command of a running thread.
 
 use std::sync::Wait;
 
-/// Is told of each command before its first event, outside the gate. By it a test makes threads
+/// Is called before the first event of each command, outside the gate. With it a test makes threads
 /// meet.
 pub trait Pace: Sync {
     /// Before the command of this number, from 0, of a thread.

@@ -32,8 +32,8 @@ use trace_text::{Failed, LineBuffer, Sink};
 pub const KEPT: u32 = 40;
 
 /// How many readings a heap keeps in its life: 7,036,874,417,754. The life has 2^45 units, and each
-/// block takes 5: one block a reading, and 12 blocks for the trend's two arrays. At 1,000 readings a
-/// second these are 223 years.
+/// block takes 5: one block a reading, and 12 blocks for the trend's two arrays. At 1,000 readings
+/// a second these are 223 years.
 pub const LIFE: u64 = (1 << 45) / 5 - 12;
 
 /// The heap. At most 64 of its 512 blocks are ever live.

@@ -30,8 +30,8 @@ figures_text given f =
     ++ number_line (codes "reached ") f.reached)
     ++ number_line (codes "enough ") f.enough
 
--- what is told of a heap, as a line: its blocks, its rate, the bytes of its words, the most turns of
--- an allocation of one block and of one of its largest object, and the years of its life
+-- what is told of a heap, as a line: its blocks, its rate, the bytes of its words, the most turns
+-- of an allocation of one block and of one of its largest object, and the years of its life
 abbrev pub heap_line : Config → ℕ → List ℕ
 heap_line c rate =
     ended (codes "blocks " ++ decimal c.blocks

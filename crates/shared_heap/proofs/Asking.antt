@@ -161,7 +161,8 @@ module _ (me : table.Me Command View) (id : TableId) (l : LocalState) (n o : ℕ
       pub begin_objects : l.made + objects_of k ≤ most_objects
       begin_objects = omega (arith, begun_fits.made, sum_last objects_of whole.trace k (length (whole.log ++ [])) long)
 
-      -- its part of the history when the command was announced: its log, since the command had no entry
+      -- its part of the history when the command was announced: its log, since the command had no
+      -- entry
       part_at_start : part whole.thread (history_of gift.now) ≡ whole.log
       part_at_start = part_begun l.config past begun_now told_begun rests
           (ap (λ (x : LocalState). x.thread) kept.history) (append-nil whole.log)
