@@ -1,0 +1,132 @@
+//! A heap that is read, planned and copied in pieces, while it goes on.
+
+use block_store::{Config, OutOfMemory};
+use control_heap::ControlHeap;
+use heap_pictures::Planning;
+use never_heap::{Command, Reply};
+use saved_heap::{Reading, Renewal};
+use std::alloc::Global;
+use std::fmt::Write;
+
+/// What is read or planned of a heap, and its commands since then.
+#[derive(Drop)]
+pub struct Pieces {
+    reading: Option<Reading>,
+    planning: Option<Planning>,
+    kept: Vec<(Command, Reply)>,
+}
+
+impl Pieces {
+    pub fn none(alloc: Global) -> Pieces {
+        Pieces {
+            reading: None,
+            planning: None,
+            kept: Vec::new(alloc),
+        }
+    }
+
+    /// Begins to read a heap.
+    pub fn begin(
+        &mut self,
+        alloc: Global,
+        heap: &ControlHeap,
+        out: &mut String,
+    ) -> Result<(), OutOfMemory> {
+        self.reading = Some(Reading::of(alloc, heap)?);
+        self.planning = None;
+        self.kept.clear();
+        Ok(out.push_str("ok")?)
+    }
+
+    /// Keeps a command of the heap for the copy, where one is under way.
+    pub fn keep(&mut self, command: Command, reply: Option<Reply>) -> Result<(), OutOfMemory> {
+        let is_going = self.reading.is_some() || self.planning.is_some();
+        if let (true, Some(reply)) = (is_going, reply) {
+            self.kept.push((command, reply))?;
+        }
+        Ok(())
+    }
+
+    /// Reads so many objects.
+    pub fn read(&mut self, alloc: Global, n: &[u64], out: &mut String) -> Result<(), OutOfMemory> {
+        let ([most], Some(reading)) = (n, &mut self.reading) else {
+            return Ok(out.push_str("nothing is read")?);
+        };
+        let is_done = reading.step(alloc, *most as usize)?;
+        let (read, rest) = (
+            reading.read(),
+            if is_done { "and that is all" } else { "so far" },
+        );
+        write!(out, "read {read} {rest}")?;
+        Ok(())
+    }
+
+    /// Plans so many turns of the copy of what was read.
+    pub fn plan(&mut self, alloc: Global, n: &[u64], out: &mut String) -> Result<(), OutOfMemory> {
+        if let Some(reading) = self.reading.take() {
+            self.turn_to_planning(alloc, reading);
+        }
+        let ([most], Some(planning)) = (n, &mut self.planning) else {
+            return Ok(out.push_str("not all is read")?);
+        };
+        let left = planning.step(*most as usize)?;
+        write!(out, "left {left}")?;
+        Ok(())
+    }
+
+    fn turn_to_planning(&mut self, alloc: Global, reading: Reading) {
+        match reading.finish() {
+            Ok(picture) => {
+                if picture.objects.len() <= 65_534 {
+                    self.planning = Some(Planning::of(alloc, picture));
+                }
+            }
+            Err(reading) => self.reading = Some(reading),
+        }
+    }
+
+    /// The renewal that does what was planned on a heap of its own, with room for the commands that
+    /// were kept and for so many more.
+    pub fn onto(
+        &mut self,
+        alloc: Global,
+        config: Config,
+        room: usize,
+        out: &mut String,
+    ) -> Result<Option<Renewal>, OutOfMemory> {
+        let Some(commands) = self.planned() else {
+            out.push_str("not all is planned")?;
+            return Ok(None);
+        };
+        let Ok(spare) = ControlHeap::open(alloc, config) else {
+            out.push_str("refused")?;
+            return Ok(None);
+        };
+        let Ok(mut renewal) = Renewal::on(spare, commands) else {
+            out.push_str("refused")?;
+            return Ok(None);
+        };
+        renewal.make_room(self.kept.len().saturating_add(room))?;
+        for (command, reply) in self.kept.iter() {
+            follow(&mut renewal, *command, *reply);
+        }
+        self.kept.clear();
+        let left = renewal.left();
+        write!(out, "left {left}")?;
+        Ok(Some(renewal))
+    }
+
+    fn planned(&mut self) -> Option<Vec<Command>> {
+        match self.planning.take()?.finish() {
+            Ok(commands) => Some(commands),
+            Err(planning) => {
+                self.planning = Some(planning);
+                None
+            }
+        }
+    }
+}
+
+fn follow(renewal: &mut Renewal, command: Command, reply: Reply) {
+    let _followed = renewal.follow(command, reply);
+}
