@@ -14,7 +14,9 @@ mod tests;
 mod worker;
 
 pub use faults::{OpenFault, Refused};
-pub use laws::{deeds_stand_behind_what_was_seen, what_was_answered_is_the_slots};
+pub use laws::{
+    deeds_keep_real_time, deeds_stand_behind_what_was_seen, what_was_answered_is_the_slots,
+};
 pub use note::HandleNote;
 pub use slots::LiveHandles;
 pub use worker::HandleWorker;

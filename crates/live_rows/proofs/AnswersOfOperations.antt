@@ -1,8 +1,7 @@
 -- The answers of operations, one after the other.
-use Rattle.std.proofs.Common.{◌≡◌, ℕ, ◌+◌, refl, arith, sym, ap, ◌∙◌, List, [], ◌∷◌, ◌++◌, length, map, take, drop}
+use Rattle.std.proofs.Common.{◌≡◌, refl, arith, sym, ap, ◌∙◌, List, [], ◌∷◌, ◌++◌, length, map, take, drop}
 use Rattle.std.specs.Prelude.{flat_map}
 use Rattle.std.proofs.lemmas.List.{append_assoc, append-nil, length-append, length-take, length-drop, map-append, take-append-drop}
-use Rattle.never_heap.specs.declared.Command.{Command}
 use Rattle.never_heap.specs.declared.Reply.{Reply}
 use Rattle.operations.specs.Linearizations.{answers_told, seen_next, told_next}
 use Rattle.live_rows.specs.Rows.{Rows, answers_of, commands_of}

@@ -12,7 +12,9 @@ use Rattle.never_heap.specs.declared.Entry.{Entry}
 use Rattle.never_heap.specs.declared.Reply.{Reply}
 use Rattle.never_heap.specs.declared.Reply.TheVariants as answers
 use Rattle.shared_heap.specs.Workers.{WorkerState, HasRoom, HasAnswered, HasMade, IsSame}
+use Rattle.shared_heap.specs.declared.rules.Moment.TheVariants as moments
 use Rattle.shared_heap.proofs.Crews.{same_here, same_on}
+use Rattle.shared_heap.proofs.Views.{starts_on}
 use Rattle.live_rows.specs.Life.{Executes, HasBegun, HasRoomFor, HasRun, last_three}
 use Rattle.live_rows.proofs.Rooms.{room_one, room_rest}
 
@@ -89,6 +91,14 @@ begun_first old new k a same is =
       own = append_cancel_right (part t is.start) old.thread.log (is.entry ∷ []) whole;
       on = (is.items, is.seen);
       notes = is.notes;
+      past = is.past;
+      command = k;
+      began = is.began;
+      started = is.started;
+      invoked = (
+        is.later,
+        is.timeline ∙ sym (append_assoc is.past (moments.Invoked t k ∷ []) is.later),
+      );
       sound = is.sound;
     }
 
@@ -107,6 +117,14 @@ begun_more first old new k a b is = record {
         ∙ append_assoc b.start b.on.0 (is.before.0 ++ is.items),
   );
   notes = is.notes;
+  past = b.past;
+  command = b.command;
+  began = b.began;
+  started = b.started;
+  invoked = starts_on (b.past ++ moments.Invoked first.thread.thread b.command ∷ []) old.timeline
+      new.timeline b.invoked
+      (starts_on old.timeline is.past new.timeline is.began
+      (moments.Invoked old.thread.thread k ∷ is.later, is.timeline));
   sound = is.sound;
 }
 

@@ -15,15 +15,21 @@ use Rattle.never_heap.specs.Runs.{IsRun}
 use Rattle.never_heap.proofs.HistoryGrowth.{part_append}
 use Rattle.operations.specs.Linearizations.{Call, IsLinearization, traces_of}
 use Rattle.never_heap.proofs.PartLogs.{logged, parts_count}
-use Rattle.shared_heap.specs.Shared.{IsStartOf}
+use Rattle.shared_heap.specs.declared.rules.Moment.{Moment}
+use Rattle.shared_heap.specs.declared.rules.Moment.TheVariants as moments
+use Rattle.shared_heap.specs.Shared.{IsStartOf, history_of}
 use Rattle.shared_heap.specs.Workers.{WorkerState, HaveOneHistory, HasPart, IsOfMachine}
 use Rattle.shared_heap.proofs.Orders.{nobody}
+use Rattle.shared_heap.proofs.Stamps.{stamps_in_order}
+use Rattle.shared_heap.proofs.Timelines.{before_or_after, history_start}
+use Rattle.shared_heap.proofs.Views.{starts_on}
 use Rattle.atom_board.proofs.Crews.{get_or_map}
-use Rattle.live_rows.specs.Orders.{HasScript, HaveOneOrder, StandBehindWhatWasSeen}
+use Rattle.live_rows.specs.Orders.{HasScript, HaveOneOrder, OperationsAreInOrder, OperationsComeBehind, OperationsComeBehindStamps, StandBehindWhatWasSeen}
 use Rattle.live_rows.specs.Rows.{Rows, IsRowHeap, answers_of, commands_in, commands_of, replies}
 use Rattle.live_rows.specs.Workers.{IsRowWorker, RowWorkerState, heap_worker, row_worker, thread_of}
 use Rattle.live_rows.proofs.Cuts.{stands}
 use Rattle.live_rows.proofs.Lawful.{Lawful}
+use Rattle.live_rows.proofs.RealTime.{keeps_real_time}
 
 -- the scripts of some threads, by their parts
 abbrev pub scripts_from : {Op : Type 0} → (ℕ → List Command → List Op) → ℕ → List (List Entry)
@@ -85,7 +91,7 @@ module _ {Op Row Answer S : Type 0} (a : Rows Op Row Answer S) (law : Lawful a)
   whole_part t low =
       let j = one.parts t low in
       let w = get_or ws j.0 nobody in
-      let p : HasPart one.order t w = j.2 nobody in
+      let p : HasPart one.timeline one.order t w = j.2 nobody in
       subst (λ (ks : List Command). ks ≡ commands_of a (a.operations_of t ks)) (sym p.asked)
       (subst (λ (u : ℕ). w.thread.trace ≡ commands_of a (a.operations_of u w.thread.trace)) p.thread
       (all j.0 nobody j.1).0.asked)
@@ -94,7 +100,7 @@ module _ {Op Row Answer S : Type 0} (a : Rows Op Row Answer S) (law : Lawful a)
   inside_part t low =
       let j = one.parts t low in
       let w = get_or ws j.0 nobody in
-      let p : HasPart one.order t w = j.2 nobody in
+      let p : HasPart one.timeline one.order t w = j.2 nobody in
       let its = all j.0 nobody j.1 in
       subst (λ (ks : List Command). a.AreDone c.shared t (a.operations_of t ks)) (sym p.asked)
       (subst (λ (u : ℕ). a.AreDone c.shared u (a.operations_of u w.thread.trace)) p.thread
@@ -142,8 +148,8 @@ module _ {Op Row Answer S : Type 0} (a : Rows Op Row Answer S) (law : Lawful a)
       × NoFulls one.order
   orders = law.ordered c.threads c.shared c.blocks rate_of.0 scripts one.order count inside there
 
-  script_had : (t : ℕ) → t < c.threads → (w : WorkerState) → HasPart one.order t w
-      → HasScript scripts one.order orders.0 t (row_worker a w)
+  script_had : (t : ℕ) → t < c.threads → (w : WorkerState) → HasPart one.timeline one.order t w
+      → HasScript scripts one.timeline one.order orders.0 t (row_worker a w)
   script_had t low w p =
       let w_asked = sym p.asked in
       let its : a.operations_of w.thread.thread w.thread.trace ≡ get_or scripts t [] =
@@ -152,12 +158,15 @@ module _ {Op Row Answer S : Type 0} (a : Rows Op Row Answer S) (law : Lawful a)
         thread = p.thread;
         script = its;
         answers = (λ i. answers_of a (its i) (replies (p.told i))) ∙ sym (orders.1.told t);
+        invoked = p.invoked;
+        lined = p.lined;
         seen = p.seen;
       }
 
   pub order_kept : HaveOneOrder a c (map (row_worker a) ws) cycles
   order_kept = record {
     scripts = scripts;
+    timeline = one.timeline;
     history = one.order;
     order = orders.0;
     count = count;
@@ -171,10 +180,14 @@ module _ {Op Row Answer S : Type 0} (a : Rows Op Row Answer S) (law : Lawful a)
         let j = one.parts t low in (
           j.0,
           omega (arith, j.1, length-map ws (row_worker a)),
-          λ d. subst (λ (w : RowWorkerState Op Answer). HasScript scripts one.order orders.0 t w)
+          λ d. subst (λ (w : RowWorkerState Op Answer). HasScript scripts one.timeline one.order orders.0 t w)
               (sym (get_or_map (row_worker a) ws j.0 d nobody j.1))
               (script_had t low (get_or ws j.0 nobody) (j.2 nobody)),
         ));
+    ordered = one.ordered;
+    follow = one.follow;
+    real_time = keeps_real_time a law scripts one.order orders.0 orders.1.deciding one.timeline
+        one.ordered one.follow;
     starts = one.starts;
     least_units = one.least_units;
     most_units = one.most_units;
@@ -197,3 +210,48 @@ stands_behind a law c ws cycles is old new other op answer did all seen more =
     old.worker.thread.log all.read did.was.read
     (ap (part u) seen.1 ∙ part_append u other.worker.seen seen.0 ∙ ap (λ l. l ++ part u seen.0) all.its)
     all.rows did.own did.was.rows
+
+-- An operation comes behind what was seen before it began.
+pub come_behind : {Op Row Answer S : Type 0} (a : Rows Op Row Answer S) (law : Lawful a)
+    → OperationsComeBehind a
+come_behind a law c ws cycles is v x y op answer did sound all lined line =
+    let begun : IsStartOf v.worker.seen did.start =
+    subst (λ h. IsStartOf h did.start) (sym sound.ordered)
+    (subst (λ h. IsStartOf (history_of v.worker.timeline) h) (sym did.started)
+    (history_start v.worker.timeline did.past line)) in
+    let seen : IsStartOf y.worker.seen is.history =
+    subst (λ h. IsStartOf h is.history) (sym did.sound.ordered)
+    (subst (λ h. IsStartOf (history_of y.worker.timeline) h) (sym is.ordered)
+    (history_start y.worker.timeline is.timeline lined)) in
+    stands_behind a law c ws cycles is x y v op answer did all begun seen
+
+-- Two operations are in the order of their invocations, or the second began before the first
+-- returned.
+pub are_in_order : {Op Row Answer S : Type 0} (a : Rows Op Row Answer S) → OperationsAreInOrder a
+are_in_order a c ws cycles is u v x y op next answer told first second lined then_lined =
+    let call : Moment = moments.Invoked (thread_of x) second.command in
+    let whole : second.past ++ call ∷ (second.invoked.0 ++ then_lined.0)
+    ≡ v.worker.timeline ++ lined.0 =
+    sym (append_assoc second.past (call ∷ second.invoked.0) then_lined.0)
+    ∙ ap (λ l. l ++ then_lined.0)
+    (sym (append_assoc second.past (call ∷ []) second.invoked.0) ∙ sym second.invoked.1)
+    ∙ sym then_lined.1 ∙ lined.1 in
+    before_or_after v.worker.timeline lined.0 second.past call (second.invoked.0 ++ then_lined.0)
+    whole
+
+-- An operation comes behind what its worker's stamp tells.
+pub come_behind_stamps : {Op Row Answer S : Type 0} (a : Rows Op Row Answer S) (law : Lawful a)
+    → OperationsComeBehindStamps a
+come_behind_stamps a law c ws cycles is u v x y z n m op answer first all second low did lined then_lined =
+    let on : IsStartOf y.worker.timeline z.worker.timeline =
+    starts_on y.worker.timeline did.past z.worker.timeline did.began (
+      moments.Invoked (thread_of y) did.command ∷ did.invoked.0,
+      did.invoked.1 ∙ append_assoc did.past (moments.Invoked (thread_of y) did.command ∷ [])
+          did.invoked.0,
+    ) in
+    elim (stamps_in_order is.timeline u.worker v.worker x.worker y.worker n m first.drawn
+    second.drawn low lined (starts_on y.worker.timeline z.worker.timeline is.timeline on then_lined)) [
+      | inl line ↦ inl (come_behind a law c ws cycles is v y z op answer did first.drawn.sound all
+          then_lined (starts_on v.worker.timeline y.worker.timeline did.past line did.began))
+      | inr many ↦ inr many
+    ]

@@ -19,13 +19,13 @@ use Rattle.live_rows.proofs.AnswersOfOperations.{rows_more}
 -- ---- lists
 
 -- a list whose image is two appended lists is two appended lists
-record IsSplit {A B : Type 0} (f : A → B) (xs : List A) (front back : List B) : Type 0 where
-  first : List A
-  later : List A
-  split : xs ≡ first ++ later
-  is_first : map f first ≡ front
+pub record IsSplit {A B : Type 0} (f : A → B) (xs : List A) (front back : List B) : Type 0 where
+  pub first : List A
+  pub later : List A
+  pub split : xs ≡ first ++ later
+  pub is_first : map f first ≡ front
 
-split_map : {A B : Type 0} (f : A → B) (xs : List A) (front back : List B) → map f xs ≡ front ++ back
+pub split_map : {A B : Type 0} (f : A → B) (xs : List A) (front back : List B) → map f xs ≡ front ++ back
     → IsSplit f xs front back
 split_map f xs [] back e = record { first = []; later = xs; split = refl; is_first = refl }
 split_map f [] (a ∷ front) back e = absurd (let z : 0 ≡ length (a ∷ front ++ back) = ap length e in omega (arith, z))
@@ -117,7 +117,7 @@ module _ {Op Row Answer S : Type 0} (a : Rows Op Row Answer S) where
     abbrev left : List HistoryItem → ℕ → List Row
     left past u = rows_left a.rows_of scripts past u
 
-    split_behind : (past xs ys : List HistoryItem)
+    pub split_behind : (past xs ys : List HistoryItem)
         → behind past (xs ++ ys) ≡ behind past xs ++ behind (past ++ xs) ys
     split_behind past [] ys = ap (λ p. behind p ys) (sym (append-nil past))
     split_behind past (i ∷ xs) ys =
@@ -152,7 +152,7 @@ module _ {Op Row Answer S : Type 0} (a : Rows Op Row Answer S) where
         ∙ append-nil (part u past))
 
     -- the operations of thread u that are decided in these items
-    ops_behind : (u : ℕ) (past xs : List HistoryItem)
+    pub ops_behind : (u : ℕ) (past xs : List HistoryItem)
         → ops_of u (behind past xs) ≡ ops_in a.decides (take (length (part u xs)) (left past u))
     ops_behind u past [] = refl
     ops_behind u past (Started ∷ xs) =
@@ -191,7 +191,7 @@ module _ {Op Row Answer S : Type 0} (a : Rows Op Row Answer S) where
   -- ---- the operations of whole rows
 
   module _ (law : Lawful a) where
-    whole_ops : (ops : List Op) (rows : List Row)
+    pub whole_ops : (ops : List Op) (rows : List Row)
         → ops_in a.decides (flat_map a.rows_of ops ++ rows) ≡ ops ++ ops_in a.decides rows
     whole_ops [] rows = refl
     whole_ops (op ∷ ops) rows =

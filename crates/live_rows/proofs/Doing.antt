@@ -5,12 +5,37 @@ use Rattle.std.proofs.lemmas.List.{append-nil, length-map, length-append, map-ap
 use Rattle.block_store.specs.declared.Config.{Config}
 use Rattle.never_heap.specs.declared.Entry.{Entry}
 use Rattle.never_heap.specs.declared.Reply.{Reply}
+use Rattle.heap_system.specs.Locals.{LocalState}
+use Rattle.shared_heap.specs.Stamps as stamps
 use Rattle.shared_heap.specs.Workers.{HasSeenIts, WorkerState}
 use Rattle.live_rows.specs.Life.{HasBegun, HasRun}
 use Rattle.live_rows.specs.Rows.{Rows, IsRowHeap, answers_of, commands_of, replies}
-use Rattle.live_rows.specs.Workers.{HasDone, HasSeenAll, IsNext, IsRowWorker, row_worker}
+use Rattle.live_rows.specs.Workers.{HasDone, HasDrawn, HasSeenAll, IsNext, IsRowWorker, row_worker}
 use Rattle.live_rows.proofs.Lawful.{Lawful}
 use Rattle.live_rows.proofs.AnswersOfOperations.{answers_more, commands_more}
+
+-- a worker that drew a stamp
+pub row_drawn : {Op Row Answer S : Type 0} (a : Rows Op Row Answer S) (old new : WorkerState)
+    (n : ℕ) → stamps.HasDrawn old n new → HasDrawn (row_worker a old) n (row_worker a new)
+row_drawn a old new n is = record {
+  drawn = is;
+  done = ap (λ (l : LocalState). a.operations_of l.thread l.trace) is.thread;
+  answers = ap (λ (l : LocalState). answers_of a (a.operations_of l.thread l.trace) (replies l.log))
+      is.thread;
+}
+
+pub row_kept : {Op Row Answer S : Type 0} (a : Rows Op Row Answer S) (old new : WorkerState)
+    (n : ℕ) → stamps.HasDrawn old n new → IsRowWorker a old → IsRowWorker a new
+row_kept a old new n is kept =
+    let same : old.thread ≡ new.thread = sym is.thread in
+    record {
+      heap = subst (λ (l : LocalState). IsRowHeap a l.config) same kept.heap;
+      asked = subst (λ (l : LocalState).
+          l.trace ≡ commands_of a (a.operations_of l.thread l.trace)) same kept.asked;
+      inside = subst (λ (l : LocalState). a.AreDone l.config.shared l.thread
+          (a.operations_of l.thread l.trace)) same kept.inside;
+      long = subst (λ (l : LocalState). length l.log ≡ length l.trace) same kept.long;
+    }
 
 -- what a worker has seen
 pub all_seen : {Op Row Answer S : Type 0} (a : Rows Op Row Answer S) (law : Lawful a)
@@ -104,6 +129,12 @@ module _ {Op Row Answer S : Type 0} (a : Rows Op Row Answer S) (law : Lawful a)
     own = begun.own;
     on = begun.on;
     notes = begun.notes;
+    past = begun.past;
+    command = begun.command;
+    began = begun.began;
+    started = begun.started;
+    invoked = begun.invoked;
+    sound = begun.sound;
     executes = run.executes;
     first = record { between = is; same = refl };
     last = record { between = still; same = refl };

@@ -7,6 +7,7 @@ pub mod Doing
 pub mod Crews
 pub mod Opening
 pub mod Cuts
+pub mod RealTime
 pub mod Closing
 pub mod SoFar
 pub mod Within

@@ -1,15 +1,12 @@
 -- The workers of a new table have done no operation.
-use Rattle.std.proofs.Common.{◌≡◌, ℕ, zero, suc, ◌<◌, refl, arith, subst, sym, ap, ◌∙◌, List, [], ◌∷◌, ◌++◌, length, map, get_or}
+use Rattle.std.proofs.Common.{◌≡◌, ℕ, suc, ◌<◌, arith, subst, sym, ap, ◌∙◌, List, [], ◌∷◌, ◌++◌, length, map, get_or}
 use Rattle.std.specs.List.{AllByRecursion}
 use Rattle.std.proofs.lemmas.List.{length-map}
 use Rattle.block_store.specs.declared.Config.{Config}
-use Rattle.never_heap.specs.declared.Command.{Command}
-use Rattle.never_heap.specs.declared.Reply.{Reply}
 use Rattle.shared_heap.specs.Workers as heaps
 use Rattle.shared_heap.specs.Workers.{HeapState, IsFresh, WorkerState}
 use Rattle.atom_board.proofs.Crews.{get_or_map}
 use Rattle.live_rows.specs.Rows.{Rows, IsRowHeap, answers_of, commands_of, replies}
-use Rattle.live_rows.specs.Workers as workers
 use Rattle.live_rows.specs.Workers.{AreFresh, AreInOrder, IsRowWorker, RowWorkerState, row_worker}
 use Rattle.live_rows.proofs.Lawful.{Lawful}
 

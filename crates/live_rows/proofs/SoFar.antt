@@ -1,29 +1,23 @@
 -- Between any two steps, what was answered so far is a plain table's.
-use Rattle.std.proofs.Common.{◌≡◌, ℕ, zero, suc, ◌+◌, ◌<◌, ◌≤◌, eqb, eqb-true, Option, Some, None, inl, inr, refl, arith, subst, sym, ap, ◌∙◌, List, [], ◌∷◌, ◌++◌, length, map, take, drop, get_or, slice_index_or}
+use Rattle.std.proofs.Common.{◌≡◌, ℕ, zero, suc, ◌<◌, ◌≤◌, eqb, eqb-true, inl, inr, refl, arith, subst, sym, ap, ◌∙◌, List, [], ◌∷◌, ◌++◌, length, map, get_or, slice_index_or}
 use Rattle.std.specs.Prelude.{flat_map}
 use Rattle.std.proofs.lemmas.Bool.{cases_Bool, cases_lt}
-use Rattle.std.proofs.lemmas.List.{append_assoc, append-nil, length-append, length-map, map-append, get_or_past, take-append-drop}
+use Rattle.std.proofs.lemmas.List.{append_assoc, append-nil, length-append, length-map, get_or_past}
 use Rattle.std.proofs.Math.ListN.{get_or-map}
 use mathlib.Core.Option.{some}
 use lib.ListN.{get_elem?}
 use Rattle.atomic_table.specs.Table as table
 use Rattle.block_store.specs.declared.Config.{Config}
-use Rattle.block_store.specs.Heaps.{Heap}
 use Rattle.block_store.specs.Phases.{bit}
-use Rattle.heap_machine.specs.declared.pass.Pass.{Pass}
-use Rattle.name_invariant.specs.Pictures.{Names}
 use Rattle.never_heap.specs.declared.Command.{Command}
-use Rattle.never_heap.specs.declared.Command.TheVariants as commands
 use Rattle.never_heap.specs.declared.Entry.{Entry}
 use Rattle.never_heap.specs.declared.Reply.{Reply}
-use Rattle.never_heap.specs.Graphs.{Graph}
 use Rattle.never_heap.specs.Histories.{HistoryItem, part, parts, replay}
 use Rattle.never_heap.specs.Licensed.{Licensed, NoFulls}
 use Rattle.never_heap.specs.RightWork.{RightWork}
-use Rattle.heap_system.specs.Locals.{LocalState, PartFits, command_of, entries_of}
+use Rattle.heap_system.specs.Locals.{LocalState}
 use Rattle.heap_system.specs.Machines.{heap_in, local_in, no_local}
-use Rattle.heap_system.specs.Parts.{Part, Serve}
-use Rattle.heap_system.specs.Pictures.{entries_waiting, waiting}
+use Rattle.heap_system.specs.Pictures.{entries_waiting}
 use Rattle.heap_system.specs.Systems.{Whole}
 use Rattle.heap_system.proofs.Kept.{Kept, LocalKept}
 use Rattle.heap_system.proofs.RunLaws.{kept_of}
@@ -33,65 +27,20 @@ use Rattle.never_heap.proofs.PartLogs.{logged, parts_count}
 use Rattle.shared_heap.specs.declared.rules.Held.{Held}
 use Rattle.shared_heap.specs.declared.rules.View.{View}
 use Rattle.shared_heap.specs.Prefixes.{FitsOneHistory}
-use Rattle.shared_heap.specs.Shared.{AllFit, AllNotedIn, AllSeenIn, Fits, SharedKept, seats_of, threads_of}
+use Rattle.shared_heap.specs.Shared.{AllFit, Fits, SharedKept, seats_of, threads_of}
 use Rattle.shared_heap.specs.Workers.{WorkerState}
+use Rattle.shared_heap.proofs.FirstCommands.{first_commands}
 use Rattle.shared_heap.proofs.Grown.{here}
 use Rattle.shared_heap.proofs.Prefixes.{fits_one, fits_order}
 use Rattle.atom_board.proofs.Crews.{get_or_map}
 use Rattle.live_rows.specs.Behind.{answers_in, operations_in}
 use Rattle.live_rows.specs.Rows.{Rows, IsRowHeap, answers_of, commands_in, commands_of, replies}
 use Rattle.live_rows.specs.Workers.{IsRowWorker, row_worker}
-use Rattle.live_rows.specs.SoFar.{AllThreads, AllSeats, IsAt, IsBetween, IsWithin, IsWorking, Execute, HasCalls, AllHaveCalls, FitsOneOrder}
+use Rattle.live_rows.specs.SoFar.{AllThreads, AllSeats, IsAt, IsBetween, IsWithin, IsWorking, Execute, HasCalls, HaveInvoked, AllHaveCalls, FitsOneOrder}
 use Rattle.live_rows.proofs.Cuts.{begins_so, decided_so_far, ops_of, ops_of_calls}
 use Rattle.live_rows.proofs.Lawful.{Lawful}
+use Rattle.live_rows.proofs.RealTime.{keeps_real_time}
 use Rattle.live_rows.proofs.AnswersOfOperations.{as_many_answers, commands_more, rows_more, told_within}
-
--- ---- a thread's entries in the history are of its first commands
-
--- the next command of a trace comes after the first ones
-split_next : (n : ℕ) (xs : List Command) → n < length xs
-    → take n xs ++ get_or xs n (commands.Nil 0) ∷ drop (suc n) xs ≡ xs
-split_next n [] low = absurd (omega arith)
-split_next zero (x ∷ xs) low = refl
-split_next (suc n) (x ∷ xs) low = ap (λ l. x ∷ l) (split_next n xs (omega arith))
-
--- an entry waits only where a command is left
-waits_low : (c : Config) (n m : ℕ) (q : Pass) (g : Graph) (p : Part) (r : Reply)
-    → PartFits c n m q p → waiting g p ≡ Some r → n < m
-waits_low c n m q g (Serve f) r fits e = fits.1
-waits_low c n m q g _ r fits e = absurd cc
-
-first_by : (l : LocalState) (o : Option Reply)
-    → ((r : Reply) → o ≡ Some r → length l.log < length l.trace)
-    → commands_in l.log ≡ take (length l.log) l.trace
-    → (rest : List Command)
-    × (l.trace ≡ commands_in (l.log ++ entries_of l.thread (command_of l) l.spent o) ++ rest)
-first_by l None low said = (
-  drop (length l.log) l.trace,
-  sym ((λ i. commands_in (append-nil l.log i) ++ drop (length l.log) l.trace)
-      ∙ ap (λ ks. ks ++ drop (length l.log) l.trace) said
-      ∙ take-append-drop (length l.log) l.trace),
-)
-first_by l (Some r) low said =
-    let n : ℕ = length l.log in
-    let later : List Command = drop (suc n) l.trace in (
-      later,
-      sym (ap (λ ks. ks ++ later)
-          (map-append (λ (e : Entry). e.command) l.log
-          (entries_of l.thread (command_of l) l.spent (Some r)))
-          ∙ append_assoc (commands_in l.log) (command_of l ∷ []) later
-          ∙ ap (λ ks. ks ++ command_of l ∷ later) said
-          ∙ split_next n l.trace (low r refl)),
-    )
-
-first_commands : (c : Config) (given : List Command) (g : Graph) (order : List HistoryItem)
-    (h : Heap) (ns : Names) (t : ℕ) (l : LocalState) → LocalKept c given g order h ns t l
-    → (rest : List Command) × (l.trace ≡ commands_in (part t order) ++ rest)
-first_commands c given g order h ns t l own =
-    subst (λ es. (rest : List Command) × (l.trace ≡ commands_in es ++ rest)) (sym own.told)
-    (first_by l (waiting g l.part)
-    (λ r e. waits_low l.config (length l.log) (length l.trace) l.pass g l.part r own.fits.part e)
-    own.said)
 
 none_left : {X : Type 0} (xs ys zs : List X) → zs ≡ xs ++ ys → length zs ≡ length xs → zs ≡ xs
 none_left xs [] zs e same = e ∙ append-nil xs
@@ -223,8 +172,8 @@ module _ {Op Row Answer S : Type 0} (a : Rows Op Row Answer S) (law : Lawful a) 
 
     first_of : (t : ℕ) → t < c.threads → (rest : List Command)
         × ((local_in c kept.run t).trace ≡ commands_in (part t history) ++ rest)
-    first_of t tl = first_commands c (get_or kept.by.after.traces t []) (replay c history) history
-        (heap_in c kept.run.state) kept.run.names t (local_in c kept.run t) (own t tl)
+    first_of t tl = first_commands (replay c history) (local_in c kept.run t) (part t history)
+        (own t tl).told (own t tl).fits (own t tl).said
 
     others : (u : ℕ) → c.threads ≤ u → part u history ≡ []
     others u high = all.foreign u high
@@ -409,20 +358,34 @@ module _ {Op Row Answer S : Type 0} (a : Rows Op Row Answer S) (law : Lawful a) 
     all_have_calls (h ∷ hs) fit at =
         (λ w its between. has_calls h fit.0 at.0 w its between, all_have_calls hs fit.1 at.1)
 
+    all_invoked : (hs : List Held) → AllFit c kept.run hs
+        → AllThreads (HaveInvoked kept.timeline) hs
+    all_invoked [] fit = tt
+    all_invoked (h ∷ hs) fit = (
+      kept.lined.invoked h.local.thread fit.0.0
+          ∙ sym (ap (λ (l : LocalState). l.trace) (own_of h fit.0)),
+      all_invoked hs fit.1,
+    )
+
     pub fits_order_of : FitsOneOrder a c s scripts history
     fits_order_of = record {
+      timeline = kept.timeline;
       order = orders.0;
       rate = rate;
       planned = kept.by.after.by_turns.opening.planned;
       run = run;
       linear = orders.1;
       none_full = orders.2;
-      each = λ id v at.
-          (let f = fits.parts id v at in (
-            all_have_calls v.threads (kept.each id v at).0 (execute.each id v at),
-            subst (λ o. AllSeenIn o v.threads) same f.1,
-            subst (λ o. AllNotedIn o v.notes) same f.2,
-          ));
+      each = λ id v at. (
+        all_have_calls v.threads (kept.each id v at).0 (execute.each id v at),
+        (kept.each id v at).3,
+        (kept.each id v at).1,
+        all_invoked v.threads (kept.each id v at).0,
+      );
+      ordered = kept.lined.ordered;
+      follow = kept.lined.follow;
+      real_time = keeps_real_time a law scripts history orders.0 orders.1.deciding kept.timeline
+          kept.lined.ordered kept.lined.follow;
     }
 
   -- ---- a moment at which all workers are between two operations

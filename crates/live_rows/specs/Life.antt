@@ -10,7 +10,9 @@ use Rattle.never_heap.specs.RightWork.{units_owed}
 use Rattle.heap_system.specs.Lives.{sum_after, objects_of, most_commands, most_objects, most_units}
 use Rattle.heap_system.specs.Locals.{LocalState, works}
 use Rattle.never_heap.specs.Histories.{HistoryItem, part}
-use Rattle.shared_heap.specs.Shared.{IsStartOf}
+use Rattle.shared_heap.specs.declared.rules.Moment.{Moment}
+use Rattle.shared_heap.specs.declared.rules.Moment.TheVariants as moments
+use Rattle.shared_heap.specs.Shared.{IsStartOf, history_of}
 use Rattle.shared_heap.specs.Workers.{AllStart, HasMade, HasSeenIts, IsSame, WorkerState}
 
 -- the lifetime of a thread allows all of these commands
@@ -45,7 +47,9 @@ pub record HasRun (old : WorkerState) (ks : List Command) (p : Reply × Reply ×
   pub last : p ≡ last_three replies.Null replies.Null replies.Null (map (λ (e : Entry). e.reply) entries)
 
 -- What the worker had seen before these commands, and each note that it had learned, is a prefix
--- of a history `start`, in which it did nothing more. That is a prefix of what it has seen now.
+-- of a history `start`, in which it did nothing more. That is a prefix of what it has seen now. In
+-- the timeline that it has seen now, the invocation of the first command stands right behind `past`,
+-- whose history is `start` and of which the timeline that it had seen is a prefix.
 pub record HasBegun (old new : WorkerState) : Type 0 where
   pub start : List HistoryItem
   pub before : IsStartOf old.seen start
@@ -53,6 +57,11 @@ pub record HasBegun (old new : WorkerState) : Type 0 where
   pub own : part old.thread.thread start ≡ old.thread.log
   pub on : IsStartOf start new.seen
   pub notes : new.notes ≡ []
+  pub past : List Moment
+  pub command : Command
+  pub began : IsStartOf old.timeline past
+  pub started : start ≡ history_of past
+  pub invoked : IsStartOf (past ++ moments.Invoked old.thread.thread command ∷ []) new.timeline
   pub sound : HasSeenIts new
 
 -- So many of these commands make an object of one block, and no other command owes any work.

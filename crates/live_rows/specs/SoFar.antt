@@ -14,17 +14,23 @@ use Rattle.operations.specs.Linearizations.{Call, traces_of}
 use Rattle.operations.specs.SoFar.{IsRunSoFar, IsLinearizationSoFar}
 use Rattle.shared_heap.specs.declared.rules.Held.{Held}
 use Rattle.shared_heap.specs.declared.rules.View.{View}
-use Rattle.shared_heap.specs.Shared.{AllSeenIn, AllNotedIn}
+use Rattle.shared_heap.specs.declared.rules.Moment.{Moment}
+use Rattle.shared_heap.specs.Shared.{AllSeenIn, AllNotedIn, EntriesFollow, history_of, invoked_in}
 use Rattle.shared_heap.specs.Turns.{MadeTurns}
 use Rattle.shared_heap.specs.Workers.{WorkerState}
 use Rattle.live_rows.specs.Life.{Executes}
 use Rattle.live_rows.specs.Behind.{answers_in, operations_in}
+use Rattle.live_rows.specs.RealTime.{KeepsRealTime}
 use Rattle.live_rows.specs.Rows.{Rows, commands_of}
 use Rattle.live_rows.specs.Workers.{HasDone, IsNext, IsRowWorker, RowWorkerState, row_worker, thread_of}
 
 abbrev pub AllThreads : (LocalState → Type 0) → List Held → Type 0
 AllThreads P [] = Unit {0}
 AllThreads P (h ∷ hs) = P h.local × AllThreads P hs
+
+-- the timeline has the invocations of a thread's commands
+abbrev pub HaveInvoked : List Moment → LocalState → Type 0
+HaveInvoked timeline l = invoked_in l.thread timeline ≡ l.trace
 
 -- the threads of all seats
 abbrev pub AllSeats : (LocalState → Type 0) → table.State Command View → Type 0
@@ -100,10 +106,13 @@ module _ {Op Row Answer S : Type 0} (a : Rows Op Row Answer S) where
 
   -- The history is a run of the first commands of the scripts, with no allocation answered full. Its
   -- operations so far have one order, in which each was answered as by a plain table. The calls of
-  -- each worker between two operations are those that it did, with the answers that it got. What the
-  -- threads have seen, and every note, is a prefix of the history.
+  -- each worker between two operations are those that it did, with the answers that it got. It is the
+  -- history of a timeline, of which what the threads have seen, and every note, is a prefix. The
+  -- timeline has the invocations of all commands, each before its entry, and the order keeps its
+  -- real-time order.
   pub record FitsOneOrder (c : Config) (s : table.State Command View) (scripts : List (List Op))
       (history : List HistoryItem) : Type 0 where
+    pub timeline : List Moment
     pub order : List (Call Op Answer)
     pub rate : ℕ
     pub planned : IsRate c rate
@@ -112,5 +121,8 @@ module _ {Op Row Answer S : Type 0} (a : Rows Op Row Answer S) where
         scripts history order
     pub none_full : NoFulls history
     pub each : (id : ℕ) (v : View) → get_elem? s.views id ≡ some v
-        → AllHaveCalls order v.threads × AllSeenIn history v.threads
-        × AllNotedIn history v.notes
+        → AllHaveCalls order v.threads × AllSeenIn timeline v.threads
+        × AllNotedIn timeline v.notes × AllThreads (HaveInvoked timeline) v.threads
+    pub ordered : history ≡ history_of timeline
+    pub follow : EntriesFollow timeline
+    pub real_time : KeepsRealTime a scripts timeline order

@@ -1,11 +1,14 @@
 -- The workers of a table that running threads share, as contracts see them.
 use Rattle.std.specs.Prelude.{ℕ, ◌<◌, ◌≡◌, ◌++◌, List, [], ◌∷◌, length, map, slice_index_or}
-use Rattle.block_store.specs.declared.Config.{Config}
+use Rattle.never_heap.specs.declared.Command.{Command}
 use Rattle.never_heap.specs.declared.Entry.{Entry}
 use Rattle.never_heap.specs.Histories.{HistoryItem, part}
-use Rattle.shared_heap.specs.Shared.{IsStartOf}
+use Rattle.shared_heap.specs.declared.rules.Moment.{Moment}
+use Rattle.shared_heap.specs.declared.rules.Moment.TheVariants as moments
+use Rattle.shared_heap.specs.Shared.{IsStartOf, history_of}
+use Rattle.shared_heap.specs.Stamps as stamps
 use Rattle.shared_heap.specs.Workers as heaps
-use Rattle.shared_heap.specs.Workers.{AllStart, HeapState, IsSame, WorkerState}
+use Rattle.shared_heap.specs.Workers.{AllStart, HasSeenIts, HeapState, IsSame, WorkerState}
 use Rattle.live_rows.specs.Life.{Executes, HasRoomFor}
 use Rattle.live_rows.specs.Rows.{Rows, IsRowHeap, answers_of, commands_of, replies}
 
@@ -68,6 +71,13 @@ module _ {Op Answer : Type 0} where
   abbrev pub AreFresh : List (RowWorkerState Op Answer) → Type 0
   AreFresh ws = (i : ℕ) (d : RowWorkerState Op Answer) → i < length ws → IsFresh (slice_index_or ws i d)
 
+  -- The worker drew a stamp with this number, and did nothing else.
+  pub record HasDrawn (old : RowWorkerState Op Answer) (n : ℕ) (new : RowWorkerState Op Answer) :
+      Type 0 where
+    pub drawn : stamps.HasDrawn old.worker n new.worker
+    pub done : new.done ≡ old.done
+    pub answers : new.answers ≡ old.answers
+
   -- the same worker of the same table
   abbrev pub IsSameWorker : RowWorkerState Op Answer → RowWorkerState Op Answer → Type 0
   IsSameWorker old new = IsSame old.worker new.worker
@@ -115,7 +125,10 @@ module _ {Op Row Answer S : Type 0} (a : Rows Op Row Answer S) where
 
   -- The worker has done one more operation, with this answer. What it had seen, and each note that
   -- it had learned, is a prefix of a history `start`, in which it did nothing more. That is a prefix
-  -- of what it has seen now. It executed the commands of the operation, and did nothing else.
+  -- of what it has seen now. It executed the commands of the operation, and did nothing else. What it
+  -- has seen now is a history of the heap that never frees, with licensed fulls. In the timeline that
+  -- it has seen now, the invocation of the operation's first command stands right behind `past`,
+  -- whose history is `start` and of which the timeline that it had seen is a prefix.
   pub record HasDone (old : RowWorkerState Op Answer) (op : Op) (answer : Answer)
       (new : RowWorkerState Op Answer) : Type 0 where
     pub done : new.done ≡ old.done ++ op ∷ []
@@ -126,6 +139,13 @@ module _ {Op Row Answer S : Type 0} (a : Rows Op Row Answer S) where
     pub own : part (thread_of old) start ≡ old.worker.thread.log
     pub on : IsStartOf start new.worker.seen
     pub notes : new.worker.notes ≡ []
+    pub past : List Moment
+    pub command : Command
+    pub began : IsStartOf old.worker.timeline past
+    pub started : start ≡ history_of past
+    pub invoked : IsStartOf (past ++ moments.Invoked (thread_of old) command ∷ [])
+        new.worker.timeline
+    pub sound : HasSeenIts new.worker
     pub executes : Executes old.worker (commands_of a (op ∷ [])) new.worker
     pub first : IsAtRest old
     pub last : IsAtRest new

@@ -6,6 +6,7 @@ ghost use Rattle.block_store.specs.Configs.{IsInBounds};
 ghost use Rattle.never_heap.specs.Bounds.{IsCommandInBounds};
 ghost use Rattle.shared_heap.specs.Workers as heaps;
 ghost use Rattle.shared_heap.specs.Workers.{CanOpen, HasSeenIts, HaveOneHistory, WorkerState};
+ghost use Rattle.shared_heap.specs.Stamps.{HasDrawn};
 ghost use Rattle.live_rows.specs.Life.{HasBegun, HasRoomFor, HasRun, MakeObjects};
 
 use crate::crew::{Room, RowThread, room_of, unwrapped};
@@ -131,6 +132,14 @@ impl RowHeap {
         ensures { who.new ≡ record who.old { notes = who.old.notes ++ note.seen ∷ [] } }
     {
         self.heap.learn(who, note);
+    }
+
+    /// Draws a stamp for a worker, as `SharedHeap::stamp` does.
+    pub fn stamp(&self, who: &mut Worker) -> u64
+        requires { who.old.heap ≡ self.now.id }
+        ensures { HasDrawn who.old result who.new }
+    {
+        self.heap.stamp(who)
     }
 
     /// Closes the heap. It takes all of its workers, each once, in any order. One history has all

@@ -4,6 +4,7 @@ use Rattle.block_store.specs.declared.Config.{Config}
 use Rattle.never_heap.specs.declared.Command.{Command}
 use Rattle.never_heap.specs.Histories.{HistoryItem}
 use Rattle.operations.specs.Linearizations.{Call}
+use Rattle.shared_heap.specs.declared.rules.Moment.{Moment}
 use Rattle.shared_heap.specs.Workers.{CanOpen, HeapState, WorkerState}
 use Rattle.tag_table.specs.declared.operation.Operation.{Operation}
 use Rattle.tag_table.specs.declared.operation.Operation.TheVariants.{Write}
@@ -120,6 +121,10 @@ HasSeenAll w = workers.HasSeenAll tags w
 abbrev pub HasDone : TagWorkerState → Operation → Tag → TagWorkerState → Type 0
 HasDone old op tag new = workers.HasDone tags old op tag new
 
+-- the worker drew a stamp with this number, and did nothing else
+abbrev pub HasDrawn : TagWorkerState → ℕ → TagWorkerState → Type 0
+HasDrawn old n new = workers.HasDrawn old n new
+
 -- the same worker of the same table
 abbrev pub IsSameWorker : TagWorkerState → TagWorkerState → Type 0
 IsSameWorker old new = workers.IsSameWorker old new
@@ -142,9 +147,10 @@ IsOpenFault tags threads faults.NoMemory =
 
 -- This is the worker of thread t. It did the operations of the thread's script, and its answers are
 -- those of the thread's calls in the order. What it has seen is a prefix of the history.
-abbrev pub HasScript : List (List Operation) → List HistoryItem → List (Call Operation Tag) → ℕ
-    → TagWorkerState → Type 0
-HasScript scripts history order t w = orders.HasScript scripts history order t w
+abbrev pub HasScript : List (List Operation) → List Moment → List HistoryItem
+    → List (Call Operation Tag) → ℕ → TagWorkerState → Type 0
+HasScript scripts timeline history order t w =
+    orders.HasScript scripts timeline history order t w
 
 -- There is a history of the job of some scripts, with a linearization and with no allocation that
 -- was answered full. Each worker did the operations of one script, in its order. Its answers are

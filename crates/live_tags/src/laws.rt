@@ -10,6 +10,7 @@ ghost use Rattle.shared_heap.specs.declared.rules.View.{View};
 ghost use Rattle.shared_heap.specs.Shared.{IsStartOf, SharedKept};
 ghost use Rattle.tag_table.specs.declared.operation.Operation.{Operation};
 ghost use Rattle.tag_table.specs.Tables.{Tag};
+ghost use Rattle.live_rows.specs.Orders.{OperationsAreInOrder, OperationsComeBehind, OperationsComeBehindStamps};
 ghost use Rattle.live_rows.specs.SoFar.{WorkAllAlong};
 ghost use Rattle.live_tags.specs.Behind.{StandsBehind};
 ghost use Rattle.live_tags.specs.Live.{HasDone, HasSeenAll, HaveOneTable, IsTagHeap, TagWorkerState, tags, thread_of};
@@ -25,6 +26,23 @@ pub fn operations_stand_behind_what_was_seen()
         (did : HasDone old op tag new) → HasSeenAll a → IsStartOf a.worker.seen did.start
         → IsStartOf new.worker.seen is.history
         → StandsBehind is.order (thread_of a) a.done (thread_of old) old.done }
+{}
+
+/// Real-time order, of operations that are closed. One that began after all that some worker had seen
+/// comes, in the order, behind all that that worker had done (`behind`). Of two, either the second
+/// began after all that the worker of the first had seen when the first returned, or the invocation
+/// of its first command stands among what that worker had seen then, so that it began before the
+/// first returned (`either`).
+pub fn operations_keep_real_time()
+    ensures behind { OperationsComeBehind tags }
+    ensures either { OperationsAreInOrder tags }
+{}
+
+/// In the order of a closed table, an operation of a worker whose stamp is no less than another's
+/// comes behind all operations that that one had done when it drew its own. Or 2^64 stamps were
+/// drawn.
+pub fn operations_come_behind_stamps()
+    ensures { OperationsComeBehindStamps tags }
 {}
 
 /// Suppose that the rule of the heap's table holds, as it does between any two steps of any

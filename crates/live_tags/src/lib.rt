@@ -10,7 +10,10 @@ mod table;
 mod tests;
 mod worker;
 
-pub use laws::{operations_stand_behind_what_was_seen, what_was_answered_is_a_tables};
+pub use laws::{
+    operations_come_behind_stamps, operations_keep_real_time,
+    operations_stand_behind_what_was_seen, what_was_answered_is_a_tables,
+};
 pub use note::TagNote;
 pub use table::{LiveTags, OpenFault, Refused};
 pub use worker::TagWorker;

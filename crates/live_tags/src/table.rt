@@ -3,7 +3,7 @@
 ghost use Rattle.std.specs.Prelude.{◌≡◌, ◌∷◌, [], IfOk, IfErr, OnOk, OnErr, IfSome};
 ghost use Rattle.shared_heap.specs.Workers as heaps;
 ghost use Rattle.shared_heap.specs.Workers.{CanOpen};
-ghost use Rattle.live_tags.specs.Live.{AreInOrder, AreFresh, AreEachOnce, CanDo, HasDone, HasSeenAll, HaveOneTable, IsOf, IsOpenFault, IsRefused, IsSameWorker, IsTableInRange, commands_of, has_learned, opened_config};
+ghost use Rattle.live_tags.specs.Live.{AreInOrder, AreFresh, AreEachOnce, CanDo, HasDone, HasDrawn, HasSeenAll, HaveOneTable, IsOf, IsOpenFault, IsRefused, IsSameWorker, IsTableInRange, commands_of, has_learned, opened_config};
 
 use crate::commands::{clear_commands, in_range, objects_in, pair, read_commands, write_commands};
 use crate::note::TagNote;
@@ -262,6 +262,18 @@ impl LiveTags {
     {
         let TagNote { note } = note;
         self.rows.learn(&mut who.worker, note);
+    }
+
+    /// Draws a stamp for a worker of this table, as `shared_heap::SharedHeap::stamp` does: a plain
+    /// number, which passes through any channel. The operations that a worker does after a stamp
+    /// that is no less come behind all operations that this one had done
+    /// (`operations_come_behind_stamps`).
+    pub fn stamp(&self, who: &mut TagWorker) -> u64
+        requires { IsOf self.now who.old }
+        ensures drawn { HasDrawn who.old result who.new }
+        ensures all { HasSeenAll who.new }
+    {
+        self.rows.stamp(&mut who.worker)
     }
 
     /// Closes the table. It takes all of its workers, each once, in any order. All operations that

@@ -208,13 +208,13 @@ module _ (a b c d : TagWorkerState) (l : Logs) (cycles : ℕ)
     (p : IsPlantOf a b c d l cycles) where
   worker_at : (t : ℕ) (w : TagWorkerState) → t < 4
       → w ≡ slice_index_or (a ∷ b ∷ c ∷ d ∷ []) t a
-      → HasScript p.table.scripts p.table.history p.table.order t w
+      → HasScript p.table.scripts p.table.timeline p.table.history p.table.order t w
   worker_at t w low is =
       let e = p.table.each t low in
-      let s : HasScript p.table.scripts p.table.history p.table.order t
+      let s : HasScript p.table.scripts p.table.timeline p.table.history p.table.order t
       (slice_index_or (a ∷ b ∷ c ∷ d ∷ []) e.0 a) = e.2 a in
       let j : e.0 ≡ t = at e.0 e.1 s.thread in
-      subst (HasScript p.table.scripts p.table.history p.table.order t)
+      subst (HasScript p.table.scripts p.table.timeline p.table.history p.table.order t)
       (ap (λ (k : ℕ). slice_index_or (a ∷ b ∷ c ∷ d ∷ []) k a) j ∙ sym is) s
     where
       at : (j : ℕ) → j < 4 → thread_of (slice_index_or (a ∷ b ∷ c ∷ d ∷ []) j a) ≡ t → j ≡ t
@@ -228,7 +228,7 @@ module _ (a b c d : TagWorkerState) (l : Logs) (cycles : ℕ)
       → w ≡ slice_index_or (a ∷ b ∷ c ∷ d ∷ []) t a → IsLog w log
       → calls_of t p.table.order ≡ map (call_by t) log
   calls_are t w log low is logged =
-      let s : HasScript p.table.scripts p.table.history p.table.order t w = worker_at t w low is in
+      let s : HasScript p.table.scripts p.table.timeline p.table.history p.table.order t w = worker_at t w low is in
       paired t (calls_of t p.table.order) log (by_them t p.table.order)
       (p.table.linear.each t ∙ sym s.script ∙ logged.0) (sym s.answers ∙ logged.1)
 

@@ -1,5 +1,5 @@
 -- A worker that makes the events of its command, and the end of it.
-use Rattle.std.proofs.Common.{◌≡◌, ℕ, ◌+◌, ◌≤◌, true, false, List, [], ◌∷◌, ◌++◌, length, length-append, get_or, map, refl, sym, ap, ◌∙◌, subst, arith}
+use Rattle.std.proofs.Common.{◌≡◌, ℕ, ◌+◌, ◌≤◌, true, false, List, [], ◌∷◌, ◌++◌, append_assoc, length, length-append, get_or, map, refl, sym, ap, ◌∙◌, subst, arith}
 use Rattle.std.proofs.lemmas.List.{append_cancel_left, map-append}
 use Rattle.atomic_table.specs.Table as table
 use Rattle.atomic_table.specs.Seated.{TableId}
@@ -16,6 +16,8 @@ use Rattle.heap_system.proofs.TurnFacts.{as_long}
 use Rattle.control_heap.proofs.Behind.{behind_done, history_of as history_of_thread}
 use Rattle.shared_heap.specs.declared.port.Port.{Port}
 use Rattle.shared_heap.specs.declared.rules.Held.{Held}
+use Rattle.shared_heap.specs.declared.rules.Moment.{Moment}
+use Rattle.shared_heap.specs.declared.rules.Moment.TheVariants as moments
 use Rattle.shared_heap.specs.declared.rules.Past.{Past}
 use Rattle.shared_heap.specs.declared.rules.View.{View}
 use Rattle.shared_heap.specs.Shared.{IsOfRun, behind, held, held_of, history_of, later_past}
@@ -27,6 +29,7 @@ use Rattle.shared_heap.specs.Workers.{HasAnswered, HasMade, IsKept, IsSame, Keep
 use Rattle.shared_heap.proofs.Asking.{held_is, is_kept, is_pending, notes_are, sound_of}
 use Rattle.shared_heap.proofs.Rests.{its_part, its_said}
 use Rattle.shared_heap.proofs.Runs.{far_behind}
+use Rattle.shared_heap.proofs.Timelines.{history_append, history_start}
 use Rattle.shared_heap.proofs.Views.{starts_on}
 
 -- a pending command: what its seat knows, and what is in memory
@@ -92,7 +95,7 @@ module _ (me : table.Me Command View) (id : TableId) (l : LocalState) (n o : ℕ
       thread = on.thread ∙ is.thread;
       before = is.before;
       noted = is.noted;
-      more = starts_on (history_of past.call.start) (history_of past.seen) (history_of seen_more.now) is.more seen_more.more;
+      more = starts_on (past.call.start ++ moments.Invoked past.call.local.thread past.call.command ∷ []) past.seen seen_more.now is.more seen_more.more;
       part = is.part;
       said = is.said;
       count = is.count;
@@ -195,14 +198,24 @@ module _ (me : table.Me Command View) (id : TableId) (l : LocalState) (n o : ℕ
         ap (λ xs. xs ++ (answer d).command ∷ []) (sym is.said) ∙ sym (map-append (λ (e : Entry). e.command) es (answer d ∷ [])) ∙ ap (λ xs. map (λ (e : Entry). e.command) (es ++ xs)) (sym (log_is d)) ∙ said ∙ ap (λ cs. ks ++ cs) is.trace in
         ap (λ (xs : List Command). get_or xs 0 k) (append_cancel_left ks ((answer d).command ∷ []) (k ∷ []) all)
 
-    own_items : (d : Entry) → part past.call.local.thread is.more.0 ≡ answer d ∷ []
+    -- what the timeline has behind the command's invocation
+    abbrev later : List Moment
+    later = is.more.0
+
+    timeline_is : past.seen ≡ past.call.start ++ moments.Invoked past.call.local.thread past.call.command ∷ later
+    timeline_is = is.more.1 ∙ append_assoc past.call.start (moments.Invoked past.call.local.thread past.call.command ∷ []) later
+
+    seen_is : history_of past.seen ≡ history_of past.call.start ++ history_of later
+    seen_is = ap history_of timeline_is ∙ history_append past.call.start (moments.Invoked past.call.local.thread past.call.command ∷ later)
+
+    own_items : (d : Entry) → part past.call.local.thread (history_of later) ≡ answer d ∷ []
     own_items d =
         let t : ℕ = past.call.local.thread in
         let then_part : part whole.thread (history_of past.seen) ≡ es ++ l.log = its_part l.config past whole is.told done_whole in
         let named : part t (history_of past.seen) ≡ es ++ l.log = ap (λ u. part u (history_of past.seen)) (sym is.thread) ∙ then_part in
-        let cut : part t (history_of past.seen) ≡ part t (history_of past.call.start) ++ part t is.more.0 = ap (part t) is.more.1 ∙ part_append t (history_of past.call.start) is.more.0 in
-        append_cancel_left es (part t is.more.0) (answer d ∷ [])
-        (ap (λ xs. xs ++ part t is.more.0) (sym is.part) ∙ sym cut ∙ named ∙ ap (λ xs. es ++ xs) (log_is d))
+        let cut : part t (history_of past.seen) ≡ part t (history_of past.call.start) ++ part t (history_of later) = ap (part t) seen_is ∙ part_append t (history_of past.call.start) (history_of later) in
+        append_cancel_left es (part t (history_of later)) (answer d ∷ [])
+        (ap (λ xs. xs ++ part t (history_of later)) (sym is.part) ∙ sym cut ∙ named ∙ ap (λ xs. es ++ xs) (log_is d))
 
     -- the worker, with the reply
     abbrev now_worker : WorkerState
@@ -216,12 +229,17 @@ module _ (me : table.Me Command View) (id : TableId) (l : LocalState) (n o : ℕ
       command = command_is d;
       reply = refl;
       start = history_of past.call.start;
-      before = is.before;
+      before = history_start past.call.seen past.call.start is.before;
       noted = is.noted;
-      items = is.more.0;
-      seen = is.more.1;
+      items = history_of later;
+      seen = seen_is;
       own = own_items d;
       notes = refl;
+      past = past.call.start;
+      later = later;
+      timeline = timeline_is;
+      began = is.before;
+      started = refl;
       sound = sound_of id here [] is.told done_whole;
     }
 

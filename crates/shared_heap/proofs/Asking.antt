@@ -1,5 +1,5 @@
 -- A worker that executes a command.
-use Rattle.std.proofs.Common.{◌≡◌, ℕ, ◌+◌, ◌<◌, ◌≤◌, true, IsTrue, List, [], ◌++◌, length, append-nil, map, refl, sym, ap, ◌∙◌, subst, arith}
+use Rattle.std.proofs.Common.{◌≡◌, ℕ, ◌+◌, ◌<◌, ◌≤◌, true, IsTrue, List, [], ◌∷◌, ◌++◌, length, append-nil, map, refl, sym, ap, ◌∙◌, subst, arith}
 use Rattle.std.proofs.Math.Dec.{leb}
 use Rattle.std.proofs.lemmas.Bool.{leb-true, le-leb}
 use mathlib.Core.Option.{some}
@@ -21,13 +21,15 @@ use Rattle.control_heap.proofs.Behind.{given_behind}
 use Rattle.control_heap.proofs.GrownJobs.{HasRoomFor}
 use Rattle.shared_heap.specs.declared.rules.Held.{Held}
 use Rattle.shared_heap.specs.declared.rules.Moment.{Moment}
+use Rattle.shared_heap.specs.declared.rules.Moment.TheVariants as moments
 use Rattle.shared_heap.specs.declared.rules.Past.{Past}
 use Rattle.shared_heap.specs.declared.rules.View.{View}
 use Rattle.shared_heap.specs.Shared.{AllOfRuns, AllSeenIn, Gives, IsOfRun, IsStartOf, behind, first_held, given_of, given_past, gives_on, held, held_of, history_of, one_view}
 use Rattle.shared_heap.specs.Pending.{Awaits, HasAnnounced, IsPending, MayAnnounce, PendingState, pending_of, start_pending}
 use Rattle.shared_heap.specs.Workers.{AllStart, HasLeft, HasRoom, HasSeenIts, IsDealt, IsKept, Keeps, WorkerState, worker_of}
 use Rattle.shared_heap.proofs.Rests.{its_fits, its_legal, its_licensed, its_part, its_rate, its_right, its_said, its_spent, part_begun, room_for}
-use Rattle.shared_heap.proofs.Views.{noted_start, starts_itself}
+use Rattle.shared_heap.proofs.Timelines.{invoked_history, noted_start}
+use Rattle.shared_heap.proofs.Views.{starts_itself}
 
 -- what the seat knows is one thread with these notes
 pub held_is : (me : table.Me Command View) (l : LocalState) (h : Held) (ns : List (List Moment)) → me ≡ (one_view h ns, []) → held_of l me.0.threads ≡ h
@@ -68,6 +70,9 @@ sound_of id h ns told done = record {
   right = λ rate planned. its_right h.local.config h.past h.local told rate planned;
   its = its_part h.local.config h.past h.local told done;
   asked = its_said h.local.config h.past h.local told done;
+  ordered = refl;
+  invoked = told.lined.invoked h.local.thread told.there ∙ sym (ap (λ (l : LocalState). l.trace) told.local);
+  follow = told.lined.follow;
 }
 
 -- a worker: what its seat knows, and what it has in memory
@@ -146,11 +151,11 @@ module _ (me : table.Me Command View) (id : TableId) (l : LocalState) (n o : ℕ
       begun_fits : IsLocal begun_now
       begun_fits = its_fits l.config past begun_now told_begun
 
-      seen_then : IsStartOf (history_of one.past.seen) (history_of gift.now)
-      seen_then = (subst (λ (m : table.Me Command View). AllSeenIn (history_of gift.now) m.0.threads) kept.knows gift.seen).0
+      seen_then : IsStartOf one.past.seen gift.now
+      seen_then = (subst (λ (m : table.Me Command View). AllSeenIn gift.now m.0.threads) kept.knows gift.seen).0
 
       noted_then : AllStart (map history_of me.0.notes) (history_of gift.now)
-      noted_then = noted_start (history_of gift.now) me.0.notes gift.noted
+      noted_then = noted_start gift.now me.0.notes gift.noted
 
       long : length (whole.log ++ []) ≡ length whole.trace
       long = ap length (append-nil whole.log) ∙ as_long whole kept.done
@@ -164,7 +169,8 @@ module _ (me : table.Me Command View) (id : TableId) (l : LocalState) (n o : ℕ
       -- its part of the history when the command was announced: its log, since the command had no
       -- entry
       part_at_start : part whole.thread (history_of gift.now) ≡ whole.log
-      part_at_start = part_begun l.config past begun_now told_begun rests
+      part_at_start = ap (part whole.thread) (sym (invoked_history gift.now whole.thread k))
+          ∙ part_begun l.config past begun_now told_begun rests
           (ap (λ (x : LocalState). x.thread) kept.history) (append-nil whole.log)
 
       module _ (own : TableId) (same_table : own ≡ id) where
@@ -179,7 +185,7 @@ module _ (me : table.Me Command View) (id : TableId) (l : LocalState) (n o : ℕ
           thread = own_thread;
           before = seen_then;
           noted = noted_then;
-          more = starts_itself (history_of gift.now);
+          more = starts_itself (gift.now ++ moments.Invoked whole.thread k ∷ []);
           part = part_at_start;
           said = its_said whole.config one.past whole kept.told kept.done;
           count = ap (λ x. x + 1) kept.count;

@@ -38,8 +38,12 @@ stands first start items h e is whole a = record {
   behind = (is.0 ++ a.before, ap (λ s. s ++ a.before) is.1 ∙ append_assoc first is.0 a.before);
 }
 
+-- the entry of a command comes after each prefix of the history at which the command began
+pub stands_after : (first : List HistoryItem) (old new : WorkerState) (k : Command) (a : Reply) (is : HasAnswered old k a new) → IsStartOf first is.start → StandsBehind first is.entry new.seen
+stands_after first old new k a is begun = stands first is.start is.items new.seen is.entry begun is.seen (among old.thread.thread is.entry is.items is.own)
+
 pub stands_behind : (old new : WorkerState) (k : Command) (a : Reply) (is : HasAnswered old k a new) → StandsBehind old.seen is.entry new.seen
-stands_behind old new k a is = stands old.seen is.start is.items new.seen is.entry is.before is.seen (among old.thread.thread is.entry is.items is.own)
+stands_behind old new k a is = stands_after old.seen old new k a is is.before
 
 all_stand : (ns : List (List HistoryItem)) (start items h : List HistoryItem) (e : Entry) → AllStart ns start → h ≡ start ++ items → IsAmong e items → StandsBehindAll ns e h
 all_stand [] start items h e all whole a = tt

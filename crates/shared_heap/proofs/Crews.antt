@@ -14,7 +14,7 @@ use Rattle.shared_heap.specs.declared.rules.Held.{Held}
 use Rattle.shared_heap.specs.declared.rules.Moment.{Moment}
 use Rattle.shared_heap.specs.declared.rules.View.{View}
 use Rattle.shared_heap.specs.Shared.{joined, one_view}
-use Rattle.shared_heap.specs.Workers.{AreOnes, HeapState, WorkerState, AreInOrder, AreFresh, AreOfWorkers, IsOfWorker, IsSame, KnowsAll, start_worker, worker_of}
+use Rattle.shared_heap.specs.Workers.{AreOnes, HeapState, WorkerState, AreInOrder, AreFresh, AreOfWorkers, AreSome, IsOfWorker, IsSame, KnowsAll, start_worker, worker_of}
 use Rattle.shared_heap.proofs.InitialHeaps.{config_at, thread_at}
 
 -- the first is removed
@@ -23,10 +23,10 @@ taken_first [] ys x low is are = absurd (omega arith)
 taken_first (z ∷ xs) ys x low is are = ap (λ u. u ∷ ys) is ∙ ap (λ us. z ∷ us) are
 
 -- what is known of each of several workers
-pub own_of : (h : HeapState) (who ws : List WorkerState) (id : TableId) → ws ≡ who → h.id ≡ id → AreInOrder h who → (i : ℕ) (d : WorkerState) → i < length ws → (get_or ws i d).heap ≡ id
-own_of h who ws id same named order i d low =
+pub own_of : (h : HeapState) (who ws : List WorkerState) (id : TableId) → ws ≡ who → h.id ≡ id → AreSome h who → (i : ℕ) (d : WorkerState) → i < length ws → (get_or ws i d).heap ≡ id
+own_of h who ws id same named are i d low =
     let il : i < length who = omega (arith, low, ap length same) in
-    ap (λ (xs : List WorkerState). (get_or xs i d).heap) same ∙ (order.each i d il).0 ∙ named
+    ap (λ (xs : List WorkerState). (get_or xs i d).heap) same ∙ are.1 i d il ∙ named
 
 -- the threads of workers, and one more
 pub of_more : (ws : List WorkerState) (hs : List Held) (w : WorkerState) (h : Held) → AreOfWorkers ws hs → IsOfWorker w h → AreOfWorkers (ws ++ w ∷ []) (hs ++ h ∷ [])
@@ -65,13 +65,14 @@ module _ (c : Config) (traces : List (List Command)) (job : IsJob c traces) (s :
         config = ap (λ (w : WorkerState). w.thread.config) e ∙ config_at c traces job s start ones t (no_local c) tl;
         asked = ap (λ (w : WorkerState). w.thread.trace) e;
         told = ap (λ (w : WorkerState). w.thread.log) e;
+        timeline = ap (λ (w : WorkerState). w.timeline) e;
         seen = ap (λ (w : WorkerState). w.seen) e;
         notes = ap (λ (w : WorkerState). w.notes) e;
       }))
 
 -- a worker's thread is that of its value
 pub of_worker : (id : TableId) (h : Held) (ns : List (List Moment)) (w : WorkerState) → worker_of id h ns ≡ w → is_done h.local ≡ true → IsOfWorker w h
-of_worker id h ns w seen done = (sym (ap (λ (x : WorkerState). x.thread) seen), sym (ap (λ (x : WorkerState). x.seen) seen), done)
+of_worker id h ns w seen done = (sym (ap (λ (x : WorkerState). x.thread) seen), sym (ap (λ (x : WorkerState). x.seen) seen), done, sym (ap (λ (x : WorkerState). x.timeline) seen))
 
 pub one_knows : (me : table.Me Command View) (id : TableId) (h : Held) (ns : List (List Moment)) (w : WorkerState) → me ≡ (one_view h ns, []) → worker_of id h ns ≡ w → is_done h.local ≡ true → KnowsAll me (w ∷ [])
 one_knows me id h ns w knows seen done = record { threads = h ∷ []; notes = ns; knows = knows; all = (of_worker id h ns w seen done, tt) }

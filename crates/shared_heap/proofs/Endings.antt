@@ -21,17 +21,25 @@ use Rattle.heap_system.proofs.RunLaws.{kept_of}
 use Rattle.atom_board.proofs.Endings.{first_word}
 use Rattle.shared_heap.specs.declared.rules.Held.{Held}
 use Rattle.shared_heap.specs.declared.rules.View.{View}
-use Rattle.shared_heap.specs.Shared.{Fits, AllFit, SharedKept, IsStartOf, first_past, held}
-use Rattle.shared_heap.specs.Workers.{HeapState, WorkerState, AreInOrder, AreOfWorkers, IsOfWorker, KnowsAll, HasPart, HaveOneHistory, IsOfMachine}
+use Rattle.shared_heap.specs.declared.rules.Moment.{Moment}
+use Rattle.shared_heap.specs.Shared.{Fits, AllFit, AllSeenIn, SharedKept, IsStartOf, first_past, held, history_of}
+use Rattle.shared_heap.specs.Workers.{HeapState, WorkerState, AreInOrder, AreOfWorkers, AreSome, IsOfWorker, KnowsAll, HasPart, HaveOneHistory, IsOfMachine, WasClosedWith}
 use Rattle.shared_heap.proofs.Crews.{of_at, of_long}
+use Rattle.shared_heap.proofs.Gifts.{phase_is}
 use Rattle.shared_heap.proofs.Grown.{here}
 use Rattle.shared_heap.proofs.Orders.{nobody}
 use Rattle.shared_heap.proofs.Rests.{said_when_done, told_at_rest}
+use Rattle.shared_heap.proofs.Timelines.{history_start, keeps_real_time}
 
 pub fit_at : (c : Config) (r : Run) (hs : List Held) (i : ℕ) (d : Held) → AllFit c r hs → i < length hs → Fits c r (get_or hs i d)
 fit_at c r [] i d fit low = absurd (omega arith)
 fit_at c r (h ∷ hs) zero d fit low = fit.0
 fit_at c r (h ∷ hs) (suc i) d fit low = fit_at c r hs i d fit.1 (omega arith)
+
+pub seen_at : (timeline : List Moment) (hs : List Held) (i : ℕ) (d : Held) → AllSeenIn timeline hs → i < length hs → IsStartOf (get_or hs i d).past.seen timeline
+seen_at timeline [] i d seen low = absurd (omega arith)
+seen_at timeline (h ∷ hs) zero d seen low = seen.0
+seen_at timeline (h ∷ hs) (suc i) d seen low = seen_at timeline hs i d seen.1 (omega arith)
 
 module _ (k : Whole) (s : table.State Command View) (kept : SharedKept k s) (id : ℕ) (v : View) (at : get_elem? s.views id ≡ some v) (h : HeapState) (ws : List WorkerState) (named : h.config ≡ k.config) (order : AreInOrder h ws) (mine : AreOfWorkers ws v.threads) where
   abbrev c : Config
@@ -81,12 +89,17 @@ module _ (k : Whole) (s : table.State Command View) (kept : SharedKept k s) (id 
     log : part t r.order ≡ (local_in c r t).log
     log = told_at_rest c t tl r kept.by.after (at_rest (local_in c r t) over)
 
-    pub its_part : HasPart r.order t w
+    its_seen : IsStartOf own.past.seen kept.timeline
+    its_seen = seen_at kept.timeline v.threads t e (kept.each id v at).3 there
+
+    pub its_part : HasPart kept.timeline r.order t w
     its_part = record {
       thread = ap (λ (l : LocalState). l.thread) its.0 ∙ number;
       told = ap (λ (l : LocalState). l.log) its.0 ∙ ap (λ (l : LocalState). l.log) is ∙ sym log;
       asked = ap (map (λ (e : Entry). e.command)) log ∙ said_when_done c t tl r kept.by.after over ∙ sym (ap (λ (l : LocalState). l.trace) is) ∙ sym (ap (λ (l : LocalState). l.trace) its.0);
-      seen = subst (λ x. IsStartOf x r.order) (sym its.1) fit.2;
+      invoked = kept.lined.invoked t tl ∙ sym (ap (λ (l : LocalState). l.trace) is) ∙ sym (ap (λ (l : LocalState). l.trace) its.0);
+      lined = subst (λ x. IsStartOf x kept.timeline) (sym its.3) its_seen;
+      seen = subst (λ x. IsStartOf x r.order) (sym its.1) (subst (λ o. IsStartOf (history_of own.past.seen) o) (sym kept.lined.ordered) (history_start own.past.seen kept.timeline its_seen));
     }
 
     pub its_thread : w.thread ≡ local_in c r t
@@ -123,8 +136,9 @@ module _ (k : Whole) (s : table.State Command View) (kept : SharedKept k s) (id 
 
   pub one_history : (cycles : ℕ) → cycles ≡ cycle_of (get_or s.words 0 0) → HaveOneHistory h.config ws cycles
   one_history cycles read =
-      let started : cycles ≡ starts_in r.order = read ∙ ap (λ ws. cycle_of (get_or ws 0 0)) kept.words ∙ sym all.names.ordered.started in
+      let started : cycles ≡ starts_in r.order = read ∙ ap cycle_of (phase_is k s kept) ∙ sym all.names.ordered.started in
       subst (λ x. HaveOneHistory x ws cycles) (sym named) (record {
+        timeline = kept.timeline;
         order = r.order;
         legal = all.names.ordered.legal;
         licensed = licensed c after.traces (laws_of c) (tallies_of c) after.job after.turns r after.by_turns after.by_turns.opening.rate after.by_turns.opening.planned;
@@ -132,6 +146,10 @@ module _ (k : Whole) (s : table.State Command View) (kept : SharedKept k s) (id 
         right = λ rate planned. right_work c after.traces r all rate planned;
         parts = λ t tl. (t, omega (arith, tl, count), λ d. its_part t tl d);
         others = all.foreign;
+        ordered = kept.lined.ordered;
+        uninvoked = kept.lined.others;
+        follow = kept.lined.follow;
+        real_time = keeps_real_time kept.timeline r.order kept.lined.ordered kept.lined.follow;
         starts = started;
         least_units = few cycles started;
         most_units = many cycles started;
@@ -141,9 +159,24 @@ module _ (k : Whole) (s : table.State Command View) (kept : SharedKept k s) (id 
 pub cycle_is : (s : table.State Command View) (ws : List ℕ) (w : ℕ) → s.words ≡ ws → get_elem? ws 0 ≡ some w → cycle_of (get_or s.words 0 0) ≡ cycle_of w
 cycle_is s ws w same at = ap (λ x. cycle_of (get_or x 0 0)) same ∙ ap cycle_of (first_word ws w at)
 
--- the same, whatever the seat is called
-pub closes : (h : HeapState) (k : Whole) (s : table.State Command View) (id : ℕ) (me : table.Me Command View) (who ws : List WorkerState) (cycles : ℕ) → SharedKept k s → get_elem? s.views id ≡ some me.0 → KnowsAll me ws → ws ≡ who → h.config ≡ k.config
-    → AreInOrder h who → cycles ≡ cycle_of (get_or s.words 0 0) → HaveOneHistory h.config who cycles
-closes h k s id me who ws cycles kept at knows same named order read =
-    let seen : get_elem? s.views id ≡ some (record { threads = knows.threads; notes = knows.notes }) = at ∙ ap (λ (m : table.Me Command View). some m.0) knows.knows in
-    one_history k s kept id (record { threads = knows.threads; notes = knows.notes }) seen h who named order (subst (λ xs. AreOfWorkers xs knows.threads) same knows.all) cycles read
+-- what is known of a table that was closed with the seat of these workers
+pub was_closed : (c : Config) (k : Whole) (s : table.State Command View) (id : ℕ) (me : table.Me Command View) (who ws : List WorkerState) (cycles : ℕ) → SharedKept k s → get_elem? s.views id ≡ some me.0 → KnowsAll me ws → ws ≡ who → c ≡ k.config → cycles ≡ cycle_of (get_or s.words 0 0) → WasClosedWith c who cycles
+was_closed c k s id me who ws cycles kept at knows same named read = record {
+  whole = k;
+  last = s;
+  kept = kept;
+  config = named;
+  id = id;
+  view = record { threads = knows.threads; notes = knows.notes };
+  seat = at ∙ ap (λ (m : table.Me Command View). some m.0) knows.knows;
+  own = subst (λ xs. AreOfWorkers xs knows.threads) same knows.all;
+  read = read;
+}
+
+-- with all workers in order
+pub closes : (h : HeapState) (who : List WorkerState) (cycles : ℕ) → WasClosedWith h.config who cycles → AreInOrder h who → HaveOneHistory h.config who cycles
+closes h who cycles was order = one_history was.whole was.last was.kept was.id was.view was.seat h who was.config order was.own cycles was.read
+
+-- all workers in order, as some of them
+pub some_in_order : (h : HeapState) (who : List WorkerState) → 0 < length who → AreInOrder h who → AreSome h who
+some_in_order h who any order = (any, λ i d low. (order.each i d low).0)

@@ -1,5 +1,5 @@
 -- A step that changes no word may append a command to the trace of the seat's thread.
-use Rattle.std.proofs.Common.{◌≡◌, ℕ, true, cond, eqb, eqb-true, refl, arith, subst, sym, ap, ◌∙◌, List, [], get_or, length, set, inl, inr, ⊎_elim, eq-eqb}
+use Rattle.std.proofs.Common.{◌≡◌, ℕ, true, cond, eqb, eqb-true, refl, arith, subst, sym, ap, ◌∙◌, List, [], ◌∷◌, ◌++◌, get_or, length, set, inl, inr, ⊎_elim, eq-eqb}
 use Rattle.std.proofs.lemmas.List.{set-get_or}
 use Rattle.std.proofs.lemmas.Bool.{cases_Bool}
 use mathlib.Core.Option.{some, some-injective}
@@ -21,11 +21,14 @@ use Rattle.control_heap.specs.Growth.{given, run_grown}
 use Rattle.control_heap.proofs.GrownJobs.{HasRoomFor}
 use Rattle.shared_heap.specs.declared.rules.Held.{Held}
 use Rattle.shared_heap.specs.declared.rules.Moment.{Moment}
+use Rattle.shared_heap.specs.declared.rules.Moment.TheVariants as moments
 use Rattle.shared_heap.specs.declared.rules.Past.{Past}
 use Rattle.shared_heap.specs.declared.rules.View.{View}
-use Rattle.shared_heap.specs.Shared.{Fits, AllFit, AllNotedIn, AllTimed, SharedKept, Gives, IsOfRun, IsStartOf, held, history_of, one_view, given_past, gives_on}
-use Rattle.shared_heap.proofs.Views.{seat_parts, seats_set, grown_at, others_same, history_is, moments_of, starts_itself}
+use Rattle.shared_heap.specs.Shared.{Fits, AllFit, AllNotedIn, AllSeenIn, AllTimed, SharedKept, Gives, IsOfRun, IsStartOf, IsTimelineOf, held, one_view, given_past, gives_on}
+use Rattle.shared_heap.proofs.Views.{seat_parts, seats_set, grown_at, noted_more, others_same, seen_more, starts_itself}
 use Rattle.shared_heap.proofs.Timed.{timed_given, timed_grown}
+use Rattle.shared_heap.proofs.Words.{get_front}
+use Rattle.shared_heap.proofs.Timelines.{counts_same, timeline_grown}
 use Rattle.shared_heap.proofs.Grown.{events_grown, events_grown_long, given_here, here}
 
 -- a compare-exchange of 0 with 0 changes no word
@@ -34,6 +37,10 @@ same_word w = elim (cases_Bool (eqb w 0)) [
   | inl is ↦ rw is (sym (eqb-true w 0 is))
   | inr is ↦ rw is refl
 ]
+
+-- the phase word is the run's
+pub phase_is : (k : Whole) (s : table.State Command View) (kept : SharedKept k s) → get_or s.words 0 0 ≡ get_or kept.run.state.words 0 0
+phase_is k s kept = ap (λ ws. get_or ws 0 0) kept.words ∙ get_front kept.run.state.words (kept.drawn ∷ []) 0 0 (omega (arith, (kept_of k.config kept.run kept.by.after).long))
 
 module _ (k : Whole) (s : table.State Command View) (kept : SharedKept k s) (id : ℕ) (h : Held) (ns : List (List Moment)) (at : get_elem? s.views id ≡ some (one_view h ns)) (m : Command) (bounds : IsCommandInBounds h.local.config m) (room : HasRoomFor h.local.config h.local.thread m h.local.trace) (done : is_done h.local ≡ true) where
   abbrev c : Config
@@ -51,8 +58,11 @@ module _ (k : Whole) (s : table.State Command View) (kept : SharedKept k s) (id 
   pub f : Fits c r h
   f = (kept.each id (one_view h ns) at).0.0
 
-  noted : AllNotedIn r.order ns
+  noted : AllNotedIn kept.timeline ns
   noted = (kept.each id (one_view h ns) at).1
+
+  seen : IsStartOf h.past.seen kept.timeline
+  seen = (kept.each id (one_view h ns) at).3.0
 
   pub is : l ≡ local_in c r t
   is = here c t f.0 r kept.by.after l f.1
@@ -78,12 +88,15 @@ module _ (k : Whole) (s : table.State Command View) (kept : SharedKept k s) (id 
   same_long : length grown_by.after.turns ≡ length kept.by.after.turns
   same_long = events_grown_long c t f.0 r kept.by m fits has_room
 
-  -- what the seat has seen then
+  -- the timeline before the command is invoked, and with its invocation
   abbrev now : List Moment
-  now = moments_of r.order
+  now = kept.timeline
 
-  now_is : history_of now ≡ r.order
-  now_is = history_is r.order
+  abbrev then_line : List Moment
+  then_line = now ++ moments.Invoked t m ∷ []
+
+  lined : IsTimelineOf c (run_grown t m r) then_line
+  lined = timeline_grown c t f.0 r kept.by.after now kept.lined m
 
   -- what the seat knows then, where the step found this phase word
   abbrev pub past : ℕ → Past
@@ -93,7 +106,6 @@ module _ (k : Whole) (s : table.State Command View) (kept : SharedKept k s) (id 
   fit phase = (
     f.0,
     grown_at t m r.state.locals t l (given m l) (sym (ap (λ b. cond b (given m l) l) (eq-eqb t t refl))) f.1,
-    subst (λ o. IsStartOf o r.order) (sym now_is) (starts_itself r.order),
   )
 
   of_run : (phase : ℕ) → IsOfRun l.config (past phase) (given m l)
@@ -102,7 +114,7 @@ module _ (k : Whole) (s : table.State Command View) (kept : SharedKept k s) (id 
     after = grown_by.after;
     there = f.0;
     local = given_here c t f.0 r m l is refl;
-    ordered = sym now_is;
+    lined = lined;
     counted = refl;
   })
 
@@ -113,14 +125,18 @@ module _ (k : Whole) (s : table.State Command View) (kept : SharedKept k s) (id 
   gift_keeps phase read = record {
     run = run_grown t m r;
     by = grown_by;
+    drawn = kept.drawn;
     words = kept.words;
+    timeline = then_line;
+    counts = counts_same kept.drawn now (moments.Invoked t m ∷ []) refl kept.counts;
+    lined = lined;
     each = λ j u e. ⊎_elim
-        (λ p. subst (λ (x : View). AllFit c (run_grown t m r) x.threads × AllNotedIn r.order x.notes × AllTimed c (run_grown t m r) (length grown_by.after.turns) x.threads) p.1 ((fit phase, tt), tt, (timed_given c t f.0 r kept.by.after m l is refl done grown_by h refl phase (read ∙ ap (λ ws. get_or ws 0 0) kept.words) now (length grown_by.after.turns) ns, tt)))
+        (λ p. subst (λ (x : View). AllFit c (run_grown t m r) x.threads × AllNotedIn then_line x.notes × AllTimed c (run_grown t m r) (length grown_by.after.turns) x.threads × AllSeenIn then_line x.threads) p.1 ((fit phase, tt), tt, (timed_given c t f.0 r kept.by.after m l is refl done grown_by h refl phase (read ∙ phase_is k s kept) now (length grown_by.after.turns) ns, tt), (starts_itself then_line, tt)))
         (λ p.
         let both = seat_parts t s.views id j (one_view h ns) u at p.1 (λ q. p.0 (sym q)) in
         let one = kept.once t f.0 in
         let is_one : bit (eqb t t) ≡ 1 = rw (eq-eqb t t refl) refl in
-        (others_same t m c r u.threads (omega (arith, both, one, is_one)) (kept.each j u p.1).0, (kept.each j u p.1).1, subst (λ n. AllTimed c (run_grown t m r) n u.threads) (sym same_long) (timed_grown c t m f.0 kept.by.after.traces kept.by.after.job r kept.by.after all (length kept.by.after.turns) u.threads (kept.each j u p.1).0 (omega (arith, both, one, is_one)) (kept.each j u p.1).2)))
+        (others_same t m c r u.threads (omega (arith, both, one, is_one)) (kept.each j u p.1).0, noted_more now (moments.Invoked t m ∷ []) u.notes (kept.each j u p.1).1, subst (λ n. AllTimed c (run_grown t m r) n u.threads) (sym same_long) (timed_grown c t m f.0 kept.by.after.traces kept.by.after.job r kept.by.after all (length kept.by.after.turns) u.threads (kept.each j u p.1).0 (omega (arith, both, one, is_one)) (kept.each j u p.1).2), seen_more now (moments.Invoked t m ∷ []) u.threads (kept.each j u p.1).3))
         (at_set s.views id j (then_view phase) u e);
     once = λ u ul. omega (arith, seats_set u s.views id (one_view h ns) (then_view phase) at, kept.once u ul);
   }
@@ -133,8 +149,8 @@ module _ (k : Whole) (s : table.State Command View) (kept : SharedKept k s) (id 
         turns = length grown_by.after.turns;
         moved = refl;
         told = (of_run phase, tt);
-        seen = (subst (λ o. IsStartOf (history_of h.past.seen) o) (sym now_is) f.2, tt);
-        noted = subst (λ o. AllNotedIn o ns) (sym now_is) noted;
+        seen = (seen, tt);
+        noted = noted;
       })
 
 -- in every state of the table a step at the phase word may announce a command for the seat's thread

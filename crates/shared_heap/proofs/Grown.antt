@@ -36,6 +36,10 @@ module _ (c : Config) (t : ℕ) (tl : t < c.threads) (r : Run) where
   unfolding events_more
   events_more_long is e = length-append is.after.turns (t ∷ [])
 
+  pub events_more_traces : (is : IsByEvents c r) (e : has_event c t r.state ≡ true) → (events_more is e).after.traces ≡ is.after.traces
+  unfolding events_more
+  events_more_traces is e = refl
+
   -- and one command more
   pub events_grown : (is : IsByEvents c r) (k : Command) → IsCommandInBounds c k → HasRoomFor c t k (get_or is.after.traces t []) → IsByEvents c (run_grown t k r)
   events_grown is k fits room =

@@ -10,7 +10,6 @@ use Rattle.block_store.specs.Phases.{bit}
 use Rattle.never_heap.specs.declared.Command.{Command}
 use Rattle.never_heap.specs.declared.Command.TheVariants as commands
 use Rattle.never_heap.specs.Bounds.{IsCommandInBounds}
-use Rattle.never_heap.specs.Histories.{Started}
 use Rattle.heap_system.specs.Lives.{IsLife}
 use Rattle.heap_system.specs.Locals.{LocalState, at_start}
 use Rattle.heap_system.specs.Machines.{Run, State, starts_from, opened, IsJob, IsOpening, local_in}
@@ -19,9 +18,11 @@ use Rattle.heap_system.proofs.Always.{here, start_count, start_at}
 use Rattle.control_heap.specs.Controls.{IsByEvents}
 use Rattle.atom_board.proofs.InitialHeaps.{at_length}
 use Rattle.shared_heap.specs.declared.rules.Held.{Held}
+use Rattle.shared_heap.specs.declared.rules.Moment.TheVariants as moments
 use Rattle.shared_heap.specs.declared.rules.View.{View}
-use Rattle.shared_heap.specs.Shared.{AllFit, AllNotedIn, AllTimed, SharedKept, IsOfRun, IsStartOf, threads_of, first_held, first_past, first_view, held, unasked}
+use Rattle.shared_heap.specs.Shared.{AllFit, AllNotedIn, AllSeenIn, AllTimed, SharedKept, IsOfRun, IsTimelineOf, threads_of, first_held, first_past, first_view, held, unasked}
 use Rattle.shared_heap.specs.Workers.{AreOnes, CanOpen, IsDealt}
+use Rattle.shared_heap.proofs.Timelines.{part_start}
 use Rattle.shared_heap.proofs.Views.{starts_itself}
 
 -- nothing for each of these
@@ -32,6 +33,11 @@ nothings (x ∷ xs) = [] ∷ nothings xs
 pub nothings_long : (xs : List (List Command)) → length (nothings xs) ≡ length xs
 nothings_long [] = refl
 nothings_long (x ∷ xs) = ap suc (nothings_long xs)
+
+pub nothing_at : (xs : List (List Command)) (i : ℕ) → get_or (nothings xs) i [] ≡ []
+nothing_at [] i = refl
+nothing_at (x ∷ xs) zero = refl
+nothing_at (x ∷ xs) (suc i) = nothing_at xs i
 
 no_life : (c : Config) (rate : ℕ) → IsLife c []
 no_life c rate = record { asked = record { few = omega arith; commands = tt }; units = λ p is. omega arith; objects = omega arith }
@@ -63,16 +69,21 @@ firsts_are [] = refl
 firsts_are (l ∷ ls) = ap (λ hs. first_held l ∷ hs) (firsts_are ls)
 
 -- the threads after the first t of them
-starts_fit : (c : Config) (rate : ℕ) (space : ℕ → ℕ) (r : Run) → r.order ≡ Started ∷ [] → (t : ℕ) (before : List LocalState) (traces : List (List Command)) → r.state.locals ≡ before ++ starts_from c rate space t traces → length before ≡ t → t + length traces ≤ c.threads
+starts_fit : (c : Config) (rate : ℕ) (space : ℕ → ℕ) (r : Run) (t : ℕ) (before : List LocalState) (traces : List (List Command)) → r.state.locals ≡ before ++ starts_from c rate space t traces → length before ≡ t → t + length traces ≤ c.threads
     → AllFit c r (map opening_held (starts_from c rate space t traces))
-starts_fit c rate space r order t before [] are at low = tt
-starts_fit c rate space r order t before (trace ∷ traces) are at low =
+starts_fit c rate space r t before [] are at low = tt
+starts_fit c rate space r t before (trace ∷ traces) are at low =
     let l : LocalState = at_start c rate (space t) t trace in
     let here : l ≡ get_or (before ++ l ∷ starts_from c rate space (t + 1) traces) t l = subst (λ n. l ≡ get_or (before ++ l ∷ starts_from c rate space (t + 1) traces) n l) at (at_length before (starts_from c rate space (t + 1) traces) l l) in
     let longer : length (before ++ l ∷ []) ≡ t + 1 = length-append before (l ∷ []) ∙ omega (arith, at) in (
-      (omega (arith, low), here ∙ ap (λ ls. get_or ls t l) (sym are), subst (λ o. IsStartOf (Started ∷ []) o) (sym order) (starts_itself (Started ∷ []))),
-      starts_fit c rate space r order (t + 1) (before ++ l ∷ []) traces (are ∙ sym (append_assoc before (l ∷ []) (starts_from c rate space (t + 1) traces))) longer (omega (arith, low)),
+      (omega (arith, low), here ∙ ap (λ ls. get_or ls t l) (sym are)),
+      starts_fit c rate space r (t + 1) (before ++ l ∷ []) traces (are ∙ sym (append_assoc before (l ∷ []) (starts_from c rate space (t + 1) traces))) longer (omega (arith, low)),
     )
+
+-- each has seen the start of cycle 1
+firsts_seen : (ls : List LocalState) → AllSeenIn (moments.Began ∷ []) (map first_held ls)
+firsts_seen [] = tt
+firsts_seen (l ∷ ls) = (starts_itself (moments.Began ∷ []), firsts_seen ls)
 
 -- none has had a turn
 starts_timed : (c : Config) (rate : ℕ) (space : ℕ → ℕ) (r : Run) (t : ℕ) (traces : List (List Command)) → AllTimed c r 0 (map opening_held (starts_from c rate space t (nothings traces)))
@@ -135,7 +146,7 @@ module _ (c : Config) (traces : List (List Command)) (job : IsJob c traces) (s :
   held_are = firsts_are s.locals ∙ ap (map opening_held) idle_opening.locals
 
   pub all_fit : AllFit c (opened c idle) (map first_held s.locals)
-  all_fit = subst (λ xs. AllFit c (opened c idle) xs) (sym held_are) (starts_fit c start.rate start.space (opened c idle) refl 0 [] (nothings traces) idle_opening.locals refl (omega (arith, (idle_job c traces job).bounds.threads)))
+  all_fit = subst (λ xs. AllFit c (opened c idle) xs) (sym held_are) (starts_fit c start.rate start.space (opened c idle) 0 [] (nothings traces) idle_opening.locals refl (omega (arith, (idle_job c traces job).bounds.threads)))
 
   pub all_timed : AllTimed c (opened c idle) 0 (map first_held s.locals)
   all_timed = subst (λ xs. AllTimed c (opened c idle) 0 xs) (sym held_are) (starts_timed c start.rate start.space (opened c idle) 0 traces)
@@ -143,30 +154,38 @@ module _ (c : Config) (traces : List (List Command)) (job : IsJob c traces) (s :
   pub each_once : (t : ℕ) → t < c.threads → threads_of t (map first_held s.locals) ≡ 1
   each_once t tl = ap (threads_of t) held_are ∙ one_within c start.rate start.space 0 t (nothings traces) (omega arith) (omega (arith, tl, (idle_job c traces job).bounds.threads))
 
-  pub idle_at : (i : ℕ) → i < c.threads → local_in c (opened c idle) i ≡ at_start c start.rate (start.space i) i (get_or (nothings traces) i [])
-  idle_at i low = here c (nothings traces) (idle_job c traces job) idle idle_opening i low
+  pub idle_at : (i : ℕ) → i < c.threads → local_in c (opened c idle) i ≡ at_start c start.rate (start.space i) i []
+  idle_at i low = here c (nothings traces) (idle_job c traces job) idle idle_opening i low ∙ ap (at_start c start.rate (start.space i) i) (nothing_at traces i)
 
-pub nothing_at : (xs : List (List Command)) (i : ℕ) → get_or (nothings xs) i [] ≡ []
-nothing_at [] i = refl
-nothing_at (x ∷ xs) zero = refl
-nothing_at (x ∷ xs) (suc i) = nothing_at xs i
+  -- nothing has been invoked
+  pub idle_timeline : IsTimelineOf c (opened c idle) (moments.Began ∷ [])
+  idle_timeline = record {
+    ordered = refl;
+    invoked = λ t tl. sym (ap (λ (l : LocalState). l.trace) (idle_at t tl));
+    others = λ u high. refl;
+    follow = λ p is t. omega (arith, part_start t p (moments.Began ∷ []) is);
+  }
 
-pub opens : (k : Whole) (traces : List (List Command)) → IsJob k.config traces → IsOpening k.config traces k.state → SharedKept k (table.opening k.state.words [] (first_view k))
+pub opens : (k : Whole) (traces : List (List Command)) → IsJob k.config traces → IsOpening k.config traces k.state → SharedKept k (table.opening (k.state.words ++ 0 ∷ []) [] (first_view k))
 opens k traces job start =
     let c = k.config in
     record {
       run = opened c (idle c traces job k.state start);
       by = idle_run c traces job k.state start;
+      drawn = 0;
       words = refl;
+      timeline = moments.Began ∷ [];
+      counts = inl refl;
+      lined = idle_timeline c traces job k.state start;
       each = each (opened c (idle c traces job k.state start)) (all_fit c traces job k.state start) (all_timed c traces job k.state start);
       once = λ t tl. omega (arith, each_once c traces job k.state start t tl);
     }
   where
-    each : (r : Run) → AllFit k.config r (map first_held k.state.locals) → AllTimed k.config r 0 (map first_held k.state.locals) → (id : ℕ) (v : View) → get_elem? (first_view k ∷ []) id ≡ some v → AllFit k.config r v.threads × AllNotedIn r.order v.notes × AllTimed k.config r 0 v.threads
-    each r fit timed zero v e = subst (λ (x : View). AllFit k.config r x.threads × AllNotedIn r.order x.notes × AllTimed k.config r 0 x.threads) (some-injective (first_view k) v e) (fit, tt, timed)
+    each : (r : Run) → AllFit k.config r (map first_held k.state.locals) → AllTimed k.config r 0 (map first_held k.state.locals) → (id : ℕ) (v : View) → get_elem? (first_view k ∷ []) id ≡ some v → AllFit k.config r v.threads × AllNotedIn (moments.Began ∷ []) v.notes × AllTimed k.config r 0 v.threads × AllSeenIn (moments.Began ∷ []) v.threads
+    each r fit timed zero v e = subst (λ (x : View). AllFit k.config r x.threads × AllNotedIn (moments.Began ∷ []) x.notes × AllTimed k.config r 0 x.threads × AllSeenIn (moments.Began ∷ []) x.threads) (some-injective (first_view k) v e) (fit, tt, timed, firsts_seen k.state.locals)
     each r fit timed (suc id) v e = absurd (some-ne-none v (sym e))
 
-pub opens_of : (k : Whole) (c : Config) (traces : List (List Command)) (ws : List ℕ) → k.config ≡ c → IsJob c traces → IsOpening c traces k.state → ws ≡ k.state.words → SharedKept k (table.opening ws [] (first_view k))
+pub opens_of : (k : Whole) (c : Config) (traces : List (List Command)) (ws : List ℕ) → k.config ≡ c → IsJob c traces → IsOpening c traces k.state → ws ≡ k.state.words ++ 0 ∷ [] → SharedKept k (table.opening ws [] (first_view k))
 opens_of k c traces ws same job start is =
     subst (λ x. SharedKept k (table.opening x [] (first_view k))) (sym is) (opens k traces (subst (λ x. IsJob x traces) (sym same) job) (subst (λ x. IsOpening x traces k.state) (sym same) start))
 
@@ -206,12 +225,12 @@ module _ (c : Config) (traces : List (List Command)) (job : IsJob c traces) (s :
     run = opened c (idle c traces job s start);
     after = (idle_run c traces job s start).after;
     there = low;
-    ordered = refl;
+    lined = idle_timeline c traces job s start;
     counted = refl;
-    local = sym (idle_at c traces job s start i low ∙ ap (at_start c start.rate (start.space i) i) (nothing_at traces i));
+    local = sym (idle_at c traces job s start i low);
   }
 
-  pub dealt_at : (ws : ℕ) → ws ≡ length s.words → (i : ℕ) (d : LocalState) → i < length s.locals → IsDealt ws (get_or s.locals i d)
+  pub dealt_at : (ws : ℕ) → ws ≡ length (s.words ++ 0 ∷ []) → (i : ℕ) (d : LocalState) → i < length s.locals → IsDealt ws (get_or s.locals i d)
   dealt_at ws count i d low =
       let il : i < c.threads = omega (arith, start_count c traces job s start, low) in
       subst (λ l. IsDealt ws l) (sym (start_at c traces job s start i d low)) (record {
@@ -220,7 +239,7 @@ module _ (c : Config) (traces : List (List Command)) (job : IsJob c traces) (s :
         before = refl;
         log = refl;
         one = one_at traces i ones (omega (arith, job.bounds.threads, il));
-        words = count ∙ start.count;
+        words = omega (arith, count, length-append s.words (0 ∷ []), start.count);
       })
 
   pub config_at : (i : ℕ) (d : LocalState) → i < length s.locals → (get_or s.locals i d).config ≡ c

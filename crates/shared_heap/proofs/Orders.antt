@@ -13,6 +13,7 @@ abbrev pub nobody : WorkerState
 nobody = record {
   heap = record { words = 0; slots = 0; views_name = 0; atom = 0; block = 0; offset = 0; slot_names = [] };
   thread = no_local (record { width = Four; threads = 0; blocks = 0; live = 0; object = 0; shared = 0 });
+  timeline = [];
   seen = [];
   notes = [];
   span = no_span;
@@ -95,6 +96,7 @@ ordered_machine c hs ys order among is = record {
 
 pub ordered_history : (c : Config) (hs ys : List WorkerState) (cycles : ℕ) → AreAmong ys hs → HaveOneHistory c ys cycles → HaveOneHistory c hs cycles
 ordered_history c hs ys cycles among is = record {
+  timeline = is.timeline;
   order = is.order;
   legal = is.legal;
   licensed = is.licensed;
@@ -103,8 +105,12 @@ ordered_history c hs ys cycles among is = record {
   parts = λ t tl.
       (let i = is.parts t tl in
       let j = among i.0 i.1 in
-      (j.0, j.1, λ d. subst (HasPart is.order t) (j.2 d) (i.2 d)));
+      (j.0, j.1, λ d. subst (HasPart is.timeline is.order t) (j.2 d) (i.2 d)));
   others = is.others;
+  ordered = is.ordered;
+  uninvoked = is.uninvoked;
+  follow = is.follow;
+  real_time = is.real_time;
   starts = is.starts;
   least_units = is.least_units;
   most_units = is.most_units;

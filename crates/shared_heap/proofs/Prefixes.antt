@@ -39,7 +39,7 @@ use Rattle.shared_heap.specs.declared.rules.View.{View}
 use Rattle.shared_heap.specs.Shared.{Fits, AllFit, SharedKept, IsOfRun, later_past, one_view, seats_of, threads_of}
 use Rattle.shared_heap.specs.Workers.{HasRoom}
 use Rattle.shared_heap.specs.Prefixes.{AllDone, HasPartOf, AllHaveParts, FitsOneHistory, AllAreDone, EndsInTime}
-use Rattle.shared_heap.proofs.Views.{history_is, moments_of, seen_fits}
+use Rattle.shared_heap.proofs.Timelines.{keeps_real_time}
 use Rattle.shared_heap.proofs.Grown.{events_grown, given_here, here}
 use Rattle.shared_heap.proofs.Rests.{room_for}
 
@@ -61,7 +61,7 @@ module _ (k : Whole) (s : table.State Command View) (kept : SharedKept k s) wher
   all : Kept c kept.by.after.traces r
   all = kept_of c r kept.by.after
 
-  part_of : (h : Held) → Fits c r h → HasPartOf r.order h.local
+  part_of : (h : Held) → Fits c r h → HasPartOf kept.timeline r.order h.local
   part_of h f =
       let l : LocalState = h.local in
       let is : l ≡ local_in c r l.thread = here c l.thread f.0 r kept.by.after l f.1 in
@@ -74,26 +74,36 @@ module _ (k : Whole) (s : table.State Command View) (kept : SharedKept k s) wher
         rest = λ done. ap (λ p. entries_of l.thread (command_of l) l.spent (waiting (replay c r.order) p)) (rest_is l.part (at_rest l done));
         asked = subst (λ (x : LocalState). map (λ (e : Entry). e.command) x.log ≡ take (length x.log) x.trace) (sym is) own.said;
         hand = hand_of l.thread (command_of l) l.spent (waiting (replay c r.order) l.part);
+        invoked = kept.lined.invoked l.thread f.0 ∙ sym (ap (λ (x : LocalState). x.trace) is);
       }
 
-  parts_of : (hs : List Held) → AllFit c r hs → AllHaveParts r.order hs
+  parts_of : (hs : List Held) → AllFit c r hs → AllHaveParts kept.timeline r.order hs
   parts_of [] fit = tt
   parts_of (h ∷ hs) fit = (part_of h fit.0, parts_of hs fit.1)
 
   pub fits_one : FitsOneHistory c s
   fits_one = record {
+    timeline = kept.timeline;
     order = r.order;
     legal = all.names.ordered.legal;
     licensed = licensed c kept.by.after.traces (laws_of c) (tallies_of c) kept.by.after.job kept.by.after.turns r kept.by.after.by_turns kept.by.after.by_turns.opening.rate kept.by.after.by_turns.opening.planned;
     right = λ rate planned. right_work c kept.by.after.traces r all rate planned;
-    parts = λ id v at. (parts_of v.threads (kept.each id v at).0, seen_fits c r v.threads (kept.each id v at).0, (kept.each id v at).1);
+    parts = λ id v at. (parts_of v.threads (kept.each id v at).0, (kept.each id v at).3, (kept.each id v at).1);
     once = kept.once;
     others = all.foreign;
+    ordered = kept.lined.ordered;
+    uninvoked = kept.lined.others;
+    follow = kept.lined.follow;
+    real_time = keeps_real_time kept.timeline r.order kept.lined.ordered kept.lined.follow;
   }
 
   pub fits_order : fits_one.order ≡ r.order
   unfolding fits_one
   fits_order = refl
+
+  pub fits_timeline : fits_one.timeline ≡ kept.timeline
+  unfolding fits_one
+  fits_timeline = refl
 
   -- each thread is in some view
   in_view : (t : ℕ) → t < c.threads → (hs : List Held) → 0 < threads_of t hs → AllFit c r hs → AllDone hs → is_done (local_in c r t) ≡ true
@@ -151,10 +161,10 @@ module _ (k : Whole) (s : table.State Command View) (kept : SharedKept k s) wher
 
       -- a seat that knows the run
       abbrev past : Past
-      past = later_past (moments_of r.order) (length kept.by.after.turns) 0 h.past
+      past = later_past kept.timeline (length kept.by.after.turns) 0 h.past
 
       of_run : IsOfRun c past l
-      of_run = record { run = r; after = kept.by.after; there = fit.0; local = is; ordered = sym (history_is r.order); counted = refl }
+      of_run = record { run = r; after = kept.by.after; there = fit.0; local = is; lined = kept.lined; counted = refl }
 
       trace : l.trace ≡ get_or kept.by.after.traces t []
       trace = ap (λ (x : LocalState). x.trace) is ∙ (all.locals t fit.0).trace

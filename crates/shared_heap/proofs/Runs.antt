@@ -11,7 +11,7 @@ use Rattle.heap_system.specs.Locals.{LocalState, local_got, op_wanted}
 use Rattle.control_heap.proofs.Behind.{behind_done, behind_got}
 use Rattle.shared_heap.specs.declared.rules.Past.{Past}
 use Rattle.shared_heap.specs.declared.rules.View.{View}
-use Rattle.shared_heap.specs.Shared.{AllRead, AllSeenIn, behind, got_of, held, history_of, later_past, one_view, stepped_past}
+use Rattle.shared_heap.specs.Shared.{AllRead, AllSeenIn, behind, got_of, held, later_past, one_view, stepped_past}
 use Rattle.shared_heap.specs.Ports.{HasTurned, HasGoneOn}
 use Rattle.shared_heap.specs.Turns.{GoesFar, LastWaited, MadeTurns}
 use Rattle.shared_heap.proofs.Views.{starts_itself, starts_on}
@@ -22,7 +22,7 @@ gone_nowhere me l = record {
     now = p.seen;
     turns = p.span.last;
     knows = knows ∙ ap (λ o. (one_view (held (behind ks es l) (later_past p.seen p.span.last o p)) [], [])) (let e : p.span.own ≡ p.span.own + 0 = omega arith in e);
-    more = starts_itself (history_of p.seen);
+    more = starts_itself p.seen;
     made = refl;
   };
   trace = refl;
@@ -45,7 +45,7 @@ module _ {M S : Type 0} (acts : Acts M S) (me : M → table.Me Command View) (ow
             (let step = by.2 in
             let p1 : Past = stepped_past step.now step.turns p in
             let next = step.moved ∙ ap (λ x. got_of w step.now step.turns x) knows ∙ ap (λ y. (one_view (held y p1) [], [])) (behind_got ks es long l w) in
-            let first = (subst (λ (x : table.Me Command View). AllSeenIn (history_of step.now) x.0.threads) knows step.seen).0 in
+            let first = (subst (λ (x : table.Me Command View). AllSeenIn step.now x.0.threads) knows step.seen).0 in
             let reads = (subst (λ (x : table.Me Command View). AllRead x.0.threads w) knows step.reads).0 in
             let two = rest.front ks es p1 long next in
             let sum : p.span.own + 1 + length ws ≡ p.span.own + length (w ∷ ws) = omega arith in
@@ -53,7 +53,7 @@ module _ {M S : Type 0} (acts : Acts M S) (me : M → table.Me Command View) (ow
               now = two.now;
               turns = two.turns;
               knows = two.knows ∙ ap (λ o. (one_view (held (behind ks es k) (later_past two.now two.turns o p)) [], [])) sum;
-              more = starts_on (history_of p.seen) (history_of step.now) (history_of two.now) first two.more;
+              more = starts_on p.seen step.now two.now first two.more;
               made = (behind_done ks es long l ∙ ran.4.0, reads, subst (λ x. MadeTurns x ws (behind ks es k)) (sym (behind_got ks es long l w)) two.made);
             });
         trace = rest.trace;

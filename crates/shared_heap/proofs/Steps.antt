@@ -8,11 +8,10 @@ use Rattle.atom_board.specs.Boards.{written}
 use Rattle.atom_board.proofs.Steps.{one_write}
 use Rattle.block_store.specs.declared.Config.{Config}
 use Rattle.block_store.specs.Phases.{bit}
-use Rattle.block_store.specs.Places.{extent}
+use Rattle.block_store.specs.Places.{extent, words_count}
 use Rattle.heap_machine.specs.declared.op.Op.{Op}
 use Rattle.heap_machine.specs.Operations.{op_at, op_place, words_after, SumFits}
 use Rattle.never_heap.specs.declared.Command.{Command}
-use Rattle.never_heap.specs.Histories.{HistoryItem}
 use Rattle.heap_system.specs.Locals.{LocalState, LocalReads, is_done, local_got, op_wanted, part_want}
 use Rattle.heap_system.specs.Machines.{State, Run, decided, event_done, has_event, local_in, next, no_local, turned, word_read}
 use Rattle.heap_system.specs.Systems.{Whole}
@@ -26,11 +25,13 @@ use Rattle.shared_heap.specs.declared.rules.Held.{Held}
 use Rattle.shared_heap.specs.declared.rules.Moment.{Moment}
 use Rattle.shared_heap.specs.declared.rules.Past.{Past}
 use Rattle.shared_heap.specs.declared.rules.View.{View}
-use Rattle.shared_heap.specs.Shared.{Fits, AllFit, AllNotedIn, AllTimed, SharedKept, StepsOn, IsOfRun, IsStartOf, threads_of, held, history_of, no_view, one_view, first_of, rest_of, joined, noted_of, same_view, found_by, stepped_past}
+use Rattle.shared_heap.specs.Shared.{Fits, AllFit, AllNotedIn, AllSeenIn, AllTimed, SharedKept, StepsOn, IsOfRun, IsStartOf, IsTimelineOf, threads_of, held, no_view, one_view, first_of, rest_of, joined, noted_of, same_view, found_by, stepped_past}
 use Rattle.shared_heap.specs.Spans.{IsTimed}
 use Rattle.shared_heap.proofs.Timed.{in_time, timed_append, timed_next, timed_others}
-use Rattle.shared_heap.proofs.Views.{first_timed, rest_timed, seat_parts, seats_set, seats_append, threads_append, cut_sum, fit_append, first_fit, rest_fit, others_fit, history_is, moments_of, noted_append, noted_more, seen_noted, starts_itself, starts_more}
-use Rattle.shared_heap.proofs.Grown.{events_more, events_more_long, goes, here}
+use Rattle.shared_heap.proofs.Views.{first_timed, rest_timed, seat_parts, seats_set, seats_append, threads_append, cut_sum, fit_append, first_fit, rest_fit, others_fit, moments_of, none_stamped, noted_append, noted_more, first_seen, rest_seen, seen_append, seen_more, seen_noted, starts_itself, starts_more}
+use Rattle.shared_heap.proofs.Timelines.{counts_same, timeline_next}
+use Rattle.shared_heap.proofs.Words.{get_front, set_front}
+use Rattle.shared_heap.proofs.Grown.{events_more, events_more_long, events_more_traces, goes, here}
 
 -- what one event of thread t is, of this run
 module _ (c : Config) (t : ℕ) (tl : t < c.threads) (r : Run) (by : IsByEvents c r) (l : LocalState) (at : l ≡ local_in c r t) (going : is_done l ≡ false) where
@@ -78,7 +79,7 @@ module _ (c : Config) (t : ℕ) (tl : t < c.threads) (r : Run) (by : IsByEvents 
   moved = sym (get_or-set_same r.state.locals t (local_got l w) (no_local c) long) ∙ ap (λ ls. get_or ls t (no_local c)) (sym locals_are)
 
 -- an event of a seat's thread
-module _ (k : Whole) (s : table.State Command View) (kept : SharedKept k s) (id : ℕ) (h : Held) (ns : List (List Moment)) (at : get_elem? s.views id ≡ some (one_view h ns)) (going : is_done h.local ≡ false) (low : found_by h.local s < 2 ^ 64) where
+module _ (k : Whole) (s : table.State Command View) (kept : SharedKept k s) (id : ℕ) (h : Held) (ns : List (List Moment)) (at : get_elem? s.views id ≡ some (one_view h ns)) (going : is_done h.local ≡ false) (within : op_place (op_wanted h.local) < words_count (extent h.local.config)) (low : found_by h.local s < 2 ^ 64) where
   abbrev c : Config
   c = k.config
 
@@ -94,8 +95,11 @@ module _ (k : Whole) (s : table.State Command View) (kept : SharedKept k s) (id 
   pub f : Fits c r h
   f = (kept.each id (one_view h ns) at).0.0
 
-  noted : AllNotedIn r.order ns
+  noted : AllNotedIn kept.timeline ns
   noted = (kept.each id (one_view h ns) at).1
+
+  seen : IsStartOf h.past.seen kept.timeline
+  seen = (kept.each id (one_view h ns) at).3.0
 
   timed : IsTimed c r (length kept.by.after.turns) h
   timed = (kept.each id (one_view h ns) at).2.0
@@ -106,19 +110,18 @@ module _ (k : Whole) (s : table.State Command View) (kept : SharedKept k s) (id 
   abbrev new : LocalState
   new = local_got l (found_by l s)
 
+  abbrev place : ℕ
+  place = op_place (op_wanted l)
+
+  inside : place < length r.state.words
+  inside = omega (arith, within, ap (λ (x : Config). words_count (extent x)) (config c t f.0 r kept.by l is going), (kept_of c r kept.by.after).long)
+
   -- the word that is read is the run's
   same : found_by l s ≡ get_or r.state.words (op_place (op_wanted l)) 0
-  same = ap (λ ws. get_or ws (op_place (op_wanted l)) 0) kept.words
+  same = ap (λ ws. get_or ws place 0) kept.words ∙ get_front r.state.words (kept.drawn ∷ []) place 0 inside
 
   abbrev later : Run
   later = next c t r
-
-  -- what the seat has seen then
-  abbrev pub now : List Moment
-  now = moments_of later.order
-
-  now_is : history_of now ≡ later.order
-  now_is = history_is later.order
 
   locals : later.state.locals ≡ set r.state.locals t new
   locals = locals_are c t f.0 r kept.by l is going ∙ ap (λ x. set r.state.locals t (local_got l x)) (sym same)
@@ -126,19 +129,28 @@ module _ (k : Whole) (s : table.State Command View) (kept : SharedKept k s) (id 
   there : t < length r.state.locals
   there = long c t f.0 r kept.by l is going
 
-  words : set s.words (op_place (op_wanted l)) (written (op_wanted l) (found_by l s)) ≡ later.state.words
+  words : set s.words (op_place (op_wanted l)) (written (op_wanted l) (found_by l s)) ≡ later.state.words ++ kept.drawn ∷ []
   words =
-      let sum : SumFits (op_wanted l) (found_by l s) = subst (λ x. SumFits (op_wanted l) x) (sym same) (fits c t f.0 r kept.by l is going) in
-      sym (one_write (op_wanted l) s.words sum low) ∙ ap (words_after (op_wanted l)) kept.words ∙ sym (words_are c t f.0 r kept.by l is going)
-
-  abbrev items : List HistoryItem
-  items = decided c t r.state r.order
+      ap (λ ws. set ws place (written (op_wanted l) (found_by l s))) kept.words
+      ∙ set_front r.state.words (kept.drawn ∷ []) place (written (op_wanted l) (found_by l s)) inside
+      ∙ ap (λ x. set r.state.words place (written (op_wanted l) x) ++ kept.drawn ∷ []) same
+      ∙ ap (λ ws. ws ++ kept.drawn ∷ []) (sym (one_write (op_wanted l) r.state.words (fits c t f.0 r kept.by l is going) (subst (λ x. x < 2 ^ 64) same low)) ∙ sym (words_are c t f.0 r kept.by l is going))
 
   abbrev pub of_events : IsByEvents c later
   of_events = events_more c t f.0 r kept.by (goes c t f.0 r l is going)
 
   one_more : length of_events.after.turns ≡ length kept.by.after.turns + 1
   one_more = events_more_long c t f.0 r kept.by (goes c t f.0 r l is going)
+
+  abbrev items : List Moment
+  items = moments_of (decided c t r.state r.order)
+
+  -- the timeline then, all of which the seat has seen
+  abbrev pub now : List Moment
+  now = kept.timeline ++ items
+
+  lined : IsTimelineOf c later now
+  lined = timeline_next c t f.0 r kept.by.after kept.timeline kept.lined of_events.after (events_more_traces c t f.0 r kept.by (goes c t f.0 r l is going))
 
   -- what the seat knows then
   abbrev pub past : Past
@@ -148,7 +160,6 @@ module _ (k : Whole) (s : table.State Command View) (kept : SharedKept k s) (id 
   fit = (
     f.0,
     subst (λ ls. new ≡ get_or ls t new) (sym locals) (sym (get_or-set_same r.state.locals t new new there)),
-    subst (λ o. IsStartOf o later.order) (sym now_is) (starts_itself later.order),
   )
 
   of_run : IsOfRun l.config past new
@@ -157,7 +168,7 @@ module _ (k : Whole) (s : table.State Command View) (kept : SharedKept k s) (id 
     after = of_events.after;
     there = f.0;
     local = ap (local_got l) same ∙ moved c t f.0 r kept.by l is going;
-    ordered = sym now_is;
+    lined = lined;
     counted = refl;
   })
 
@@ -168,14 +179,18 @@ module _ (k : Whole) (s : table.State Command View) (kept : SharedKept k s) (id 
   turn_keeps = record {
     run = later;
     by = of_events;
+    drawn = kept.drawn;
     words = words;
+    timeline = now;
+    counts = counts_same kept.drawn kept.timeline items (none_stamped (decided c t r.state r.order)) kept.counts;
+    lined = lined;
     each = λ j u e. ⊎_elim
-        (λ p. subst (λ (x : View). AllFit c later x.threads × AllNotedIn later.order x.notes × AllTimed c later (length of_events.after.turns) x.threads) p.1 ((fit, tt), noted_more r.order items ns noted, (timed_next c r (length kept.by.after.turns) (length of_events.after.turns) h (found_by l s) now timed is going one_more, tt)))
+        (λ p. subst (λ (x : View). AllFit c later x.threads × AllNotedIn now x.notes × AllTimed c later (length of_events.after.turns) x.threads × AllSeenIn now x.threads) p.1 ((fit, tt), noted_more kept.timeline items ns noted, (timed_next c r (length kept.by.after.turns) (length of_events.after.turns) h (found_by l s) now timed is going one_more, tt), (starts_itself now, tt)))
         (λ p.
         let both = seat_parts t s.views id j (one_view h ns) u at p.1 (λ q. p.0 (sym q)) in
         let one = kept.once t f.0 in
         let is_one : bit (eqb t t) ≡ 1 = rw (eq-eqb t t refl) refl in
-        (others_fit c r later t new items locals refl u.threads (omega (arith, both, one, is_one)) (kept.each j u p.1).0, noted_more r.order items u.notes (kept.each j u p.1).1, timed_others c r later (length kept.by.after.turns) (length of_events.after.turns) u.threads (omega (arith, one_more)) (kept.each j u p.1).2))
+        (others_fit c r later t new locals u.threads (omega (arith, both, one, is_one)) (kept.each j u p.1).0, noted_more kept.timeline items u.notes (kept.each j u p.1).1, timed_others c r later (length kept.by.after.turns) (length of_events.after.turns) u.threads (omega (arith, one_more)) (kept.each j u p.1).2, seen_more kept.timeline items u.threads (kept.each j u p.1).3))
         (at_set s.views id j then_view u e);
     once = λ u ul. omega (arith, seats_set u s.views id (one_view h ns) then_view at, kept.once u ul);
   }
@@ -188,37 +203,41 @@ module _ (k : Whole) (s : table.State Command View) (kept : SharedKept k s) (id 
     reads = (subst (λ x. LocalReads l.config l x) (sym same) (reads c t f.0 r kept.by l is going), tt);
     told = (of_run, tt);
     few = (in_time c r (length kept.by.after.turns) (length of_events.after.turns) h (found_by l s) now timed is going one_more (config c t f.0 r kept.by l is going), tt);
-    seen = (subst (λ o. IsStartOf (history_of h.past.seen) o) (sym now_is) (starts_more (history_of h.past.seen) r.order items f.2), tt);
+    seen = (starts_more h.past.seen kept.timeline items seen, tt);
   }
 
 -- in every state of the table a seat with one thread makes its event
-pub allowed : (k : Whole) (id : ℕ) (h : Held) (ns : List (List Moment)) → is_done h.local ≡ false → table.Allows (SharedKept k) 0 id (one_view h ns, []) (op_place (op_wanted h.local)) (written (op_wanted h.local)) (StepsOn (one_view h ns, []))
-allowed k id h ns going s kept homes at low = (
-  then_view k s kept id h ns at going low,
+pub allowed : (k : Whole) (id : ℕ) (h : Held) (ns : List (List Moment)) → is_done h.local ≡ false → op_place (op_wanted h.local) < words_count (extent h.local.config) → table.Allows (SharedKept k) 0 id (one_view h ns, []) (op_place (op_wanted h.local)) (written (op_wanted h.local)) (StepsOn (one_view h ns, []))
+allowed k id h ns going within s kept homes at low = (
+  then_view k s kept id h ns at going within low,
   table.keeps,
   tt,
-  turn_keeps k s kept id h ns at going low,
-  turn_tells k s kept id h ns at going low,
+  turn_keeps k s kept id h ns at going within low,
+  turn_tells k s kept id h ns at going within low,
 )
 
 -- the same, for the operation that the thread wants
-pub op_allowed : (k : Whole) (slots id : ℕ) (h : Held) (ns : List (List Moment)) (me : table.Me Command View) (op : Op) → is_done h.local ≡ false → slots ≡ 0 → me ≡ (one_view h ns, []) → op ≡ op_wanted h.local → table.Allows (SharedKept k) slots id me (op_place op) (written op) (StepsOn me)
-op_allowed k slots id h ns me op going none knows wants =
+pub op_allowed : (k : Whole) (slots id : ℕ) (h : Held) (ns : List (List Moment)) (me : table.Me Command View) (op : Op) → is_done h.local ≡ false → slots ≡ 0 → me ≡ (one_view h ns, []) → op ≡ op_wanted h.local → op_place op < words_count (extent h.local.config) → table.Allows (SharedKept k) slots id me (op_place op) (written op) (StepsOn me)
+op_allowed k slots id h ns me op going none knows wants within =
     subst (λ x. table.Allows (SharedKept k) x id me (op_place op) (written op) (StepsOn me)) (sym none)
     (subst (λ x. table.Allows (SharedKept k) 0 id x (op_place op) (written op) (StepsOn x)) (sym knows)
-    (subst (λ x. table.Allows (SharedKept k) 0 id (one_view h ns, []) (op_place x) (written x) (StepsOn (one_view h ns, []))) (sym wants) (allowed k id h ns going)))
+    (subst (λ x. table.Allows (SharedKept k) 0 id (one_view h ns, []) (op_place x) (written x) (StepsOn (one_view h ns, []))) (sym wants) (allowed k id h ns going (subst (λ o. op_place o < words_count (extent h.local.config)) wants within))))
 
 -- a seat keeps some threads and notes of its view, and a new one gets some
 module _ (k : Whole) (s : table.State Command View) (kept : SharedKept k s) (id : ℕ) (v left right : View) (at : get_elem? s.views id ≡ some v) where
   abbrev Fine : View → Type 0
-  Fine x = AllFit k.config kept.run x.threads × AllNotedIn kept.run.order x.notes × AllTimed k.config kept.run (length kept.by.after.turns) x.threads
+  Fine x = AllFit k.config kept.run x.threads × AllNotedIn kept.timeline x.notes × AllTimed k.config kept.run (length kept.by.after.turns) x.threads × AllSeenIn kept.timeline x.threads
 
   pub parts_keep : Fine left → Fine right → ((t : ℕ) → threads_of t left.threads + threads_of t right.threads ≡ threads_of t v.threads)
       → SharedKept k (record { words = s.words; homes = s.homes; views = set s.views id left ++ right ∷ [] })
   parts_keep one other sum = record {
     run = kept.run;
     by = kept.by;
+    drawn = kept.drawn;
     words = kept.words;
+    timeline = kept.timeline;
+    counts = kept.counts;
+    lined = kept.lined;
     each = λ j u e. ⊎_elim
         (λ old. ⊎_elim
         (λ p. subst Fine p.1 one)
@@ -233,13 +252,13 @@ module _ (k : Whole) (s : table.State Command View) (kept : SharedKept k s) (id 
 pub splits : (k : Whole) (id : ℕ) (v : View) → table.Splits (SharedKept k) id v (rest_of v) (first_of v)
 splits k id v s kept at =
     let all = kept.each id v at in
-    parts_keep k s kept id v (rest_of v) (first_of v) at (rest_fit k.config kept.run v.threads all.0, all.1, rest_timed k.config kept.run (length kept.by.after.turns) v.threads all.2) (first_fit k.config kept.run v.threads all.0, tt, first_timed k.config kept.run (length kept.by.after.turns) v.threads all.2) (λ t. cut_sum t v.threads)
+    parts_keep k s kept id v (rest_of v) (first_of v) at (rest_fit k.config kept.run v.threads all.0, all.1, rest_timed k.config kept.run (length kept.by.after.turns) v.threads all.2, rest_seen kept.timeline v.threads all.3) (first_fit k.config kept.run v.threads all.0, tt, first_timed k.config kept.run (length kept.by.after.turns) v.threads all.2, first_seen kept.timeline v.threads all.3) (λ t. cut_sum t v.threads)
 
 -- a new seat notes what the threads have seen
 pub notes : (k : Whole) (id : ℕ) (v : View) → table.Splits (SharedKept k) id v (same_view v) (noted_of v)
 notes k id v s kept at =
     let all = kept.each id v at in
-    parts_keep k s kept id v v (noted_of v) at all (tt, seen_noted k.config kept.run v.threads all.0, tt) (λ t. omega arith)
+    parts_keep k s kept id v v (noted_of v) at all (tt, seen_noted kept.timeline v.threads all.3, tt, tt) (λ t. omega arith)
 
 -- a seat takes over the threads and the notes of another
 pub joins : (k : Whole) (id : ℕ) (v : View) (other : ℕ) (w : View) → table.Joins (SharedKept k) id v other w (joined v w) no_view
@@ -250,11 +269,15 @@ joins k id v other w s kept at ne that =
     record {
       run = kept.run;
       by = kept.by;
+      drawn = kept.drawn;
       words = kept.words;
+      timeline = kept.timeline;
+      counts = kept.counts;
+      lined = kept.lined;
       each = λ j u e. ⊎_elim
-          (λ p. subst (λ (x : View). AllFit k.config kept.run x.threads × AllNotedIn kept.run.order x.notes × AllTimed k.config kept.run (length kept.by.after.turns) x.threads) p.1 (tt, tt, tt))
+          (λ p. subst (λ (x : View). AllFit k.config kept.run x.threads × AllNotedIn kept.timeline x.notes × AllTimed k.config kept.run (length kept.by.after.turns) x.threads × AllSeenIn kept.timeline x.threads) p.1 (tt, tt, tt, tt))
           (λ p. ⊎_elim
-          (λ q. subst (λ (x : View). AllFit k.config kept.run x.threads × AllNotedIn kept.run.order x.notes × AllTimed k.config kept.run (length kept.by.after.turns) x.threads) q.1 (fit_append k.config kept.run v.threads w.threads mine.0 theirs.0, noted_append kept.run.order v.notes w.notes mine.1 theirs.1, timed_append k.config kept.run (length kept.by.after.turns) v.threads w.threads mine.2 theirs.2))
+          (λ q. subst (λ (x : View). AllFit k.config kept.run x.threads × AllNotedIn kept.timeline x.notes × AllTimed k.config kept.run (length kept.by.after.turns) x.threads × AllSeenIn kept.timeline x.threads) q.1 (fit_append k.config kept.run v.threads w.threads mine.0 theirs.0, noted_append kept.timeline v.notes w.notes mine.1 theirs.1, timed_append k.config kept.run (length kept.by.after.turns) v.threads w.threads mine.2 theirs.2, seen_append kept.timeline v.threads w.threads mine.3 theirs.3))
           (λ q. kept.each j u q.1)
           (at_set s.views id j (joined v w) u p.1))
           (at_set (set s.views id (joined v w)) other j no_view u e);

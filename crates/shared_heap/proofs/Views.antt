@@ -15,8 +15,7 @@ use Rattle.shared_heap.specs.declared.rules.Held.{Held}
 use Rattle.shared_heap.specs.declared.rules.Moment.{Moment}
 use Rattle.shared_heap.specs.declared.rules.Moment.TheVariants as moments
 use Rattle.shared_heap.specs.declared.rules.View.{View}
-use Rattle.shared_heap.specs.Workers.{AllStart}
-use Rattle.shared_heap.specs.Shared.{AllNotedIn, AllSeenIn, IsStartOf, history_of, seen_by, AllFit, AllTimed, threads_of, seats_of, first_in, rest_in}
+use Rattle.shared_heap.specs.Shared.{AllNotedIn, AllSeenIn, IsStartOf, history_of, invoked_in, stamps_in, seen_by, AllFit, AllTimed, threads_of, seats_of, first_in, rest_in}
 
 -- a seat's threads t are at most all
 pub seat_part : (t : ℕ) (views : List View) (id : ℕ) (v : View) → get_elem? views id ≡ some v → threads_of t v.threads ≤ seats_of t views
@@ -70,15 +69,15 @@ pub rest_fit : (c : Config) (r : Run) (hs : List Held) → AllFit c r hs → All
 rest_fit c r [] f = tt
 rest_fit c r (h ∷ hs) f = f.1
 
--- ---- prefixes of histories
+-- ---- prefixes
 
-pub starts_itself : (x : List HistoryItem) → IsStartOf x x
+pub starts_itself : {A : Type 0} (x : List A) → IsStartOf x x
 starts_itself x = ([], sym (append-nil x))
 
-pub starts_more : (x order items : List HistoryItem) → IsStartOf x order → IsStartOf x (order ++ items)
+pub starts_more : {A : Type 0} (x order items : List A) → IsStartOf x order → IsStartOf x (order ++ items)
 starts_more x order items is = (is.0 ++ items, ap (λ o. o ++ items) is.1 ∙ append_assoc x is.0 items)
 
-pub starts_on : (x y z : List HistoryItem) → IsStartOf x y → IsStartOf y z → IsStartOf x z
+pub starts_on : {A : Type 0} (x y z : List A) → IsStartOf x y → IsStartOf y z → IsStartOf x z
 starts_on x y z f g = (f.0 ++ g.0, g.1 ∙ ap (λ o. o ++ g.0) f.1 ∙ append_assoc x f.0 g.0)
 
 -- each history is that of some moments
@@ -93,26 +92,46 @@ history_is [] = refl
 history_is (Started ∷ xs) = ap (λ o. Started ∷ o) (history_is xs)
 history_is (Did e ∷ xs) = ap (λ o. Did e ∷ o) (history_is xs)
 
-pub noted_more : (order items : List HistoryItem) (ns : List (List Moment)) → AllNotedIn order ns → AllNotedIn (order ++ items) ns
-noted_more order items [] all = tt
-noted_more order items (n ∷ ns) all = (starts_more (history_of n) order items all.0, noted_more order items ns all.1)
+-- the items of a history invoke nothing
+pub none_invoked : (t : ℕ) (xs : List HistoryItem) → invoked_in t (moments_of xs) ≡ []
+unfolding moments_of
+none_invoked t [] = refl
+none_invoked t (Started ∷ xs) = none_invoked t xs
+none_invoked t (Did e ∷ xs) = none_invoked t xs
 
-pub noted_append : (order : List HistoryItem) (ns ms : List (List Moment)) → AllNotedIn order ns → AllNotedIn order ms → AllNotedIn order (ns ++ ms)
-noted_append order [] ms all more = more
-noted_append order (n ∷ ns) ms all more = (all.0, noted_append order ns ms all.1 more)
+pub none_stamped : (xs : List HistoryItem) → stamps_in (moments_of xs) ≡ 0
+unfolding moments_of
+none_stamped [] = refl
+none_stamped (Started ∷ xs) = none_stamped xs
+none_stamped (Did e ∷ xs) = none_stamped xs
 
--- what the threads that fit have seen
-pub seen_fits : (c : Config) (r : Run) (hs : List Held) → AllFit c r hs → AllSeenIn r.order hs
-seen_fits c r [] all = tt
-seen_fits c r (h ∷ hs) all = (all.0.2, seen_fits c r hs all.1)
+pub noted_more : (timeline items : List Moment) (ns : List (List Moment)) → AllNotedIn timeline ns → AllNotedIn (timeline ++ items) ns
+noted_more timeline items [] all = tt
+noted_more timeline items (n ∷ ns) all = (starts_more n timeline items all.0, noted_more timeline items ns all.1)
 
-pub seen_noted : (c : Config) (r : Run) (hs : List Held) → AllFit c r hs → AllNotedIn r.order (map seen_by hs)
-seen_noted c r [] all = tt
-seen_noted c r (h ∷ hs) all = (all.0.2, seen_noted c r hs all.1)
+pub noted_append : (timeline : List Moment) (ns ms : List (List Moment)) → AllNotedIn timeline ns → AllNotedIn timeline ms → AllNotedIn timeline (ns ++ ms)
+noted_append timeline [] ms all more = more
+noted_append timeline (n ∷ ns) ms all more = (all.0, noted_append timeline ns ms all.1 more)
 
-pub noted_start : (order : List HistoryItem) (ns : List (List Moment)) → AllNotedIn order ns → AllStart (map history_of ns) order
-noted_start order [] all = tt
-noted_start order (n ∷ ns) all = (all.0, noted_start order ns all.1)
+pub seen_more : (timeline items : List Moment) (hs : List Held) → AllSeenIn timeline hs → AllSeenIn (timeline ++ items) hs
+seen_more timeline items [] all = tt
+seen_more timeline items (h ∷ hs) all = (starts_more h.past.seen timeline items all.0, seen_more timeline items hs all.1)
+
+pub seen_append : (timeline : List Moment) (hs gs : List Held) → AllSeenIn timeline hs → AllSeenIn timeline gs → AllSeenIn timeline (hs ++ gs)
+seen_append timeline [] gs f g = g
+seen_append timeline (h ∷ hs) gs f g = (f.0, seen_append timeline hs gs f.1 g)
+
+pub first_seen : (timeline : List Moment) (hs : List Held) → AllSeenIn timeline hs → AllSeenIn timeline (first_in hs)
+first_seen timeline [] f = tt
+first_seen timeline (h ∷ hs) f = (f.0, tt)
+
+pub rest_seen : (timeline : List Moment) (hs : List Held) → AllSeenIn timeline hs → AllSeenIn timeline (rest_in hs)
+rest_seen timeline [] f = tt
+rest_seen timeline (h ∷ hs) f = f.1
+
+pub seen_noted : (timeline : List Moment) (hs : List Held) → AllSeenIn timeline hs → AllNotedIn timeline (map seen_by hs)
+seen_noted timeline [] all = tt
+seen_noted timeline (h ∷ hs) all = (all.0, seen_noted timeline hs all.1)
 
 -- ---- what a step of another thread leaves unchanged
 
@@ -122,17 +141,16 @@ apart_of t h hs none e =
     let apart : eqb t h.local.thread ≡ false = elim (cases_Bool (eqb t h.local.thread)) [ inl is ↦ absurd (let b : bit (eqb t h.local.thread) ≡ 1 = ap bit is in omega (arith, none)) | inr is ↦ is ] in
     let b : true ≡ false = sym (eq-eqb t h.local.thread (sym e)) ∙ apart in cc
 
--- a turn of t leaves the other threads as they are, and its items come after what they have seen
-pub others_fit : (c : Config) (r z : Run) (t : ℕ) (l : LocalState) (items : List HistoryItem) → z.state.locals ≡ set r.state.locals t l → z.order ≡ r.order ++ items → (hs : List Held) → threads_of t hs ≡ 0 → AllFit c r hs → AllFit c z hs
-others_fit c r z t l items locals order [] none fit = tt
-others_fit c r z t l items locals order (h ∷ hs) none fit =
+-- a turn of t leaves the other threads as they are
+pub others_fit : (c : Config) (r z : Run) (t : ℕ) (l : LocalState) → z.state.locals ≡ set r.state.locals t l → (hs : List Held) → threads_of t hs ≡ 0 → AllFit c r hs → AllFit c z hs
+others_fit c r z t l locals [] none fit = tt
+others_fit c r z t l locals (h ∷ hs) none fit =
     let f = fit.0 in (
       (
         f.0,
         f.1 ∙ sym (get_or-set_other r.state.locals t h.local.thread l h.local (apart_of t h hs none)) ∙ ap (λ ls. get_or ls h.local.thread h.local) (sym locals),
-        subst (λ o. IsStartOf (history_of h.past.seen) o) (sym order) (starts_more (history_of h.past.seen) r.order items f.2),
       ),
-      others_fit c r z t l items locals order hs (omega (arith, none)) fit.1,
+      others_fit c r z t l locals hs (omega (arith, none)) fit.1,
     )
 
 -- so does a command of t
@@ -145,4 +163,4 @@ module _ (t : ℕ) (k : Command) where
   others_same c r (h ∷ hs) none fit =
       let f = fit.0 in
       let same : h.local ≡ grown t k h.local = sym (ap (λ b. cond b (given k h.local) h.local) (ne_eqb h.local.thread t (apart_of t h hs none))) in
-      ((f.0, grown_at r.state.locals h.local.thread h.local h.local same f.1, f.2), others_same c r hs (omega (arith, none)) fit.1)
+      ((f.0, grown_at r.state.locals h.local.thread h.local h.local same f.1), others_same c r hs (omega (arith, none)) fit.1)

@@ -1,4 +1,5 @@
 pub mod Shared
+pub mod RealTime
 pub mod Turns
 pub mod Spans
 pub mod Ports
@@ -8,4 +9,5 @@ pub mod Pending
 pub mod Refusals
 pub mod Prefixes
 pub mod Behind
+pub mod Stamps
 pub mod Calls

@@ -1,5 +1,5 @@
 -- A command that a worker has announced, whose events are made a few at a time.
-use Rattle.std.specs.Prelude.{ℕ, ◌+◌, ◌≤◌, ◌≡◌, false, List, [], ◌∷◌, length, map}
+use Rattle.std.specs.Prelude.{ℕ, ◌+◌, ◌≤◌, ◌≡◌, ◌++◌, false, List, [], ◌∷◌, length, map}
 use Rattle.atomic_table.specs.Table as table
 use Rattle.atomic_table.specs.Seated.{TableId}
 use Rattle.block_store.specs.Places.{extent, words_count}
@@ -11,6 +11,7 @@ use Rattle.heap_system.specs.Lives.{sum_after, objects_of}
 use Rattle.heap_system.specs.Locals.{LocalState, is_done, works}
 use Rattle.control_heap.specs.Growth.{given}
 use Rattle.shared_heap.specs.declared.rules.Held.{Held}
+use Rattle.shared_heap.specs.declared.rules.Moment.TheVariants as moments
 use Rattle.shared_heap.specs.declared.rules.Past.{Past}
 use Rattle.shared_heap.specs.declared.rules.View.{View}
 use Rattle.shared_heap.specs.Shared.{IsOfRun, IsStartOf, behind, held, held_of, history_of, one_view}
@@ -69,16 +70,17 @@ pub record Awaits (p : Past) (me : table.Me Command View) (id : TableId) (l : Lo
   pub trace : l.trace ≡ p.call.command ∷ []
   pub config : l.config ≡ p.call.local.config
   pub thread : l.thread ≡ p.call.local.thread
-  pub before : IsStartOf (history_of p.call.seen) (history_of p.call.start)
+  pub before : IsStartOf p.call.seen p.call.start
   pub noted : AllStart (map history_of p.call.notes) (history_of p.call.start)
-  pub more : IsStartOf (history_of p.call.start) (history_of p.seen)
+  pub more : IsStartOf
+      (p.call.start ++ moments.Invoked p.call.local.thread p.call.command ∷ []) p.seen
   pub part : part p.call.local.thread (history_of p.call.start) ≡ p.call.local.log
   pub said : map (λ (e : Entry). e.command) p.call.local.log ≡ p.call.local.trace
   pub count : length p.call.local.trace + 1 ≡ n
   pub objects : sum_after objects_of 0 p.call.local.trace + objects_of p.call.command ≡ o
   pub units : works p.call.local.log ≡ l.before
   pub slots : id.slots ≡ 0
-  pub words : id.words ≡ words_count (extent l.config)
+  pub words : id.words ≡ words_count (extent l.config) + 1
 
 abbrev pub IsPending : table.Me Command View → TableId → LocalState → ℕ → ℕ → Type 0
 IsPending me id l n o = Awaits (held_of l me.0.threads).past me id l n o
@@ -90,6 +92,7 @@ pending_of id h = record {
   worker = record {
     heap = id;
     thread = h.past.call.local;
+    timeline = h.past.call.seen;
     seen = history_of h.past.call.seen;
     notes = map history_of h.past.call.notes;
     span = h.past.call.span;

@@ -12,12 +12,12 @@ use Rattle.shared_heap.specs.declared.rules.Held.{Held}
 use Rattle.shared_heap.specs.declared.rules.Moment.{Moment}
 use Rattle.shared_heap.specs.declared.rules.Past.{Past}
 use Rattle.shared_heap.specs.declared.rules.View.{View}
-use Rattle.shared_heap.specs.Shared.{IsOfRun, IsStartOf, StepsOn, behind, held, history_of, later_past, one_view}
+use Rattle.shared_heap.specs.Shared.{IsOfRun, IsStartOf, StepsOn, behind, held, later_past, one_view}
 use Rattle.shared_heap.specs.Spans.{IsInTime}
 use Rattle.shared_heap.specs.Turns.{MadeTurns}
 
 -- The seat is of this table and has one thread, which is not done, and the operation is the one
--- that the thread wants, on a word of the table.
+-- that the thread wants, on a word of the heap.
 pub record MayTurn (me : table.Me Command View) (own shared : TableId) (op : Op) : Type 0 where
   pub one : Held
   pub notes : List (List Moment)
@@ -25,6 +25,7 @@ pub record MayTurn (me : table.Me Command View) (own shared : TableId) (op : Op)
   pub going : is_done one.local ≡ false
   pub wants : op ≡ op_wanted one.local
   pub place : op_place op < shared.words
+  pub within : op_place op < words_count (extent one.local.config)
   pub table : own ≡ shared
   pub slots : shared.slots ≡ 0
 
@@ -45,7 +46,7 @@ pub record HasThread (me : table.Me Command View) (own shared : TableId) (l : Lo
     pub knows : me ≡ (one_view (held (behind commands entries l) past) [], [])
     pub told : IsOfRun l.config past (behind commands entries l)
     pub few : IsInTime l.config past.call.command past.span
-    pub words : own.words ≡ words_count (extent l.config)
+    pub words : own.words ≡ words_count (extent l.config) + 1
     pub slots : own.slots ≡ 0
     pub table : own ≡ shared
 
@@ -57,7 +58,7 @@ pub record HasSeenMore (ks : List Command) (es : List Entry) (p : Past) (l : Loc
   pub turns : ℕ
   pub knows : after
       ≡ (one_view (held (behind ks es k) (later_past now turns (p.span.own + length ws) p)) [], [])
-  pub more : IsStartOf (history_of p.seen) (history_of now)
+  pub more : IsStartOf p.seen now
   pub made : MadeTurns (behind ks es l) ws (behind ks es k)
 
 -- The thread has made an event by each of these words. The earlier commands and entries of the

@@ -1,7 +1,7 @@
 -- The rule of a heap that several threads share: the words and the threads of all seats are those
--- of a run of some job, each turn of which was an event, and what each seat has seen is a prefix of
--- the order of that run.
-use Rattle.std.specs.Prelude.{ℕ, ◌+◌, ◌<◌, ◌≡◌, ◌==◌, List, [], ◌∷◌, ◌++◌, length, map, slice_index, slice_index_or}
+-- of a run of some job, each turn of which was an event. A timeline has the order of that run and
+-- the invocations of all commands, and what each seat has seen is a prefix of it.
+use Rattle.std.specs.Prelude.{ℕ, ◌+◌, ◌^◌, ◌<◌, ◌≤◌, ◌≡◌, ◌⊎◌, ◌==◌, if◌then◌else◌, List, [], ◌∷◌, ◌++◌, length, map, slice_index, slice_index_or}
 use mathlib.Core.Option.{Option, some}
 use lib.ListN.{get_elem?}
 use Rattle.atomic_table.specs.Table as table
@@ -11,7 +11,7 @@ use Rattle.heap_machine.specs.Operations.{op_place}
 use Rattle.never_heap.specs.declared.Command.{Command}
 use Rattle.never_heap.specs.declared.Command.TheVariants as commands
 use Rattle.never_heap.specs.declared.Entry.{Entry}
-use Rattle.never_heap.specs.Histories.{HistoryItem, Started, Did}
+use Rattle.never_heap.specs.Histories.{HistoryItem, Started, Did, part}
 use Rattle.heap_system.specs.Locals.{LocalState, LocalReads, local_got, op_wanted}
 use Rattle.heap_system.specs.Machines.{Run, IsAfterTurns, local_in}
 use Rattle.heap_system.specs.Systems.{Whole}
@@ -25,34 +25,70 @@ use Rattle.shared_heap.specs.declared.rules.Moment.TheVariants as moments
 use Rattle.shared_heap.specs.declared.rules.View.{View}
 use Rattle.shared_heap.specs.Spans.{IsInTime, IsTimed}
 
--- ---- prefixes of a history
+-- ---- timelines
 
--- the history of these moments
+-- The history of a timeline: its starts of cycles and its entries.
 abbrev pub history_of : List Moment → List HistoryItem
 history_of [] = []
 history_of (moments.Began ∷ ms) = Started ∷ history_of ms
+history_of (moments.Invoked t k ∷ ms) = history_of ms
+history_of (moments.Stamped ∷ ms) = history_of ms
 history_of (moments.Ended e ∷ ms) = Did e ∷ history_of ms
 
--- the first history is a prefix of the second
-abbrev pub IsStartOf : List HistoryItem → List HistoryItem → Type 0
-IsStartOf start order = (more : List HistoryItem) × (order ≡ start ++ more)
+-- the commands of thread t that were invoked, in the order of the timeline
+abbrev pub invoked_in : ℕ → List Moment → List Command
+invoked_in t [] = []
+invoked_in t (moments.Began ∷ ms) = invoked_in t ms
+invoked_in t (moments.Invoked u k ∷ ms) =
+    if u == t then k ∷ invoked_in t ms else invoked_in t ms
+invoked_in t (moments.Stamped ∷ ms) = invoked_in t ms
+invoked_in t (moments.Ended e ∷ ms) = invoked_in t ms
 
--- what each of these threads has seen, and each of these notes, is a prefix of this history
-abbrev pub AllSeenIn : List HistoryItem → List Held → Type 0
-AllSeenIn order [] = Unit {0}
-AllSeenIn order (h ∷ hs) = IsStartOf (history_of h.past.seen) order × AllSeenIn order hs
+-- how many stamps were drawn
+abbrev pub stamps_in : List Moment → ℕ
+stamps_in [] = 0
+stamps_in (moments.Began ∷ ms) = stamps_in ms
+stamps_in (moments.Invoked u k ∷ ms) = stamps_in ms
+stamps_in (moments.Stamped ∷ ms) = stamps_in ms + 1
+stamps_in (moments.Ended e ∷ ms) = stamps_in ms
 
-abbrev pub AllNotedIn : List HistoryItem → List (List Moment) → Type 0
-AllNotedIn order [] = Unit {0}
-AllNotedIn order (n ∷ ns) = IsStartOf (history_of n) order × AllNotedIn order ns
+-- The number is this count, unless that exceeds a word.
+abbrev pub Counts : ℕ → ℕ → Type 0
+Counts n count = (n ≡ count) ⊎ (2 ^ 64 ≤ count)
+
+-- the first list is a prefix of the second
+abbrev pub IsStartOf : {A : Type 0} → List A → List A → Type 0
+IsStartOf {A} start whole = (more : List A) × (whole ≡ start ++ more)
+
+-- Each entry comes after the invocation of its command: every prefix has at most as many entries of
+-- a thread as invocations of it. The n-th entry of a thread is that of its n-th command.
+abbrev pub EntriesFollow : List Moment → Type 0
+EntriesFollow timeline = (p : List Moment) → IsStartOf p timeline
+    → (t : ℕ) → length (part t (history_of p)) ≤ length (invoked_in t p)
+
+-- what each of these threads has seen, and each of these notes, is a prefix of this timeline
+abbrev pub AllSeenIn : List Moment → List Held → Type 0
+AllSeenIn timeline [] = Unit {0}
+AllSeenIn timeline (h ∷ hs) = IsStartOf h.past.seen timeline × AllSeenIn timeline hs
+
+abbrev pub AllNotedIn : List Moment → List (List Moment) → Type 0
+AllNotedIn timeline [] = Unit {0}
+AllNotedIn timeline (n ∷ ns) = IsStartOf n timeline × AllNotedIn timeline ns
 
 -- ---- the rule
 
--- a thread is the run's, and what it has seen is a prefix of the run's order
+-- A timeline of a run: its history is the run's order, the commands of each thread were invoked in
+-- the order of its trace, and each entry comes after the invocation of its command.
+pub record IsTimelineOf (c : Config) (r : Run) (timeline : List Moment) : Type 0 where
+  pub ordered : r.order ≡ history_of timeline
+  pub invoked : (t : ℕ) → t < c.threads → invoked_in t timeline ≡ (local_in c r t).trace
+  pub others : (u : ℕ) → c.threads ≤ u → invoked_in u timeline ≡ []
+  pub follow : EntriesFollow timeline
+
+-- a thread is the run's
 abbrev pub Fits : Config → Run → Held → Type 0
 Fits c r h = (h.local.thread < c.threads)
     × (h.local ≡ slice_index_or r.state.locals h.local.thread h.local)
-    × IsStartOf (history_of h.past.seen) r.order
 
 abbrev pub AllFit : Config → Run → List Held → Type 0
 AllFit c r [] = Unit {0}
@@ -71,16 +107,21 @@ abbrev pub AllTimed : Config → Run → ℕ → List Held → Type 0
 AllTimed c r turns [] = Unit {0}
 AllTimed c r turns (h ∷ hs) = IsTimed c r turns h × AllTimed c r turns hs
 
--- There is a run of some job, each turn of which was an event. Its words are those of the table.
--- Each of its threads is in exactly one view, with all of its commands and entries so far. What
--- each thread has seen, and each note, is a prefix of its order. The seats count its turns.
+-- There is a run of some job, each turn of which was an event. Its words are those of the table,
+-- followed by one that counts the stamps. Each of its threads is in exactly one view, with all of its commands and entries so far. It has a
+-- timeline, of which what each thread has seen, and each note, is a prefix. The seats count its
+-- turns.
 pub record SharedKept (k : Whole) (s : table.State Command View) : Type 0 where
   pub run : Run
   pub by : IsByEvents k.config run
-  pub words : s.words ≡ run.state.words
+  pub drawn : ℕ
+  pub words : s.words ≡ run.state.words ++ drawn ∷ []
+  pub timeline : List Moment
+  pub counts : Counts drawn (stamps_in timeline)
+  pub lined : IsTimelineOf k.config run timeline
   pub each : (id : ℕ) (v : View) → get_elem? s.views id ≡ some v
-      → AllFit k.config run v.threads × AllNotedIn run.order v.notes
-      × AllTimed k.config run (length by.after.turns) v.threads
+      → AllFit k.config run v.threads × AllNotedIn timeline v.notes
+      × AllTimed k.config run (length by.after.turns) v.threads × AllSeenIn timeline v.threads
   pub once : (t : ℕ) → t < k.config.threads → seats_of t s.views ≡ 1
 
 -- ---- views
@@ -151,14 +192,14 @@ same_view v = v
 
 -- ---- steps
 
--- The thread is that of some run of a job. The run has the order that the thread has seen, and as
--- many turns as its seat knows.
+-- The thread is that of some run of a job. The run has the timeline that the thread has seen, and
+-- as many turns as its seat knows.
 pub record IsOfRun (c : Config) (p : Past) (l : LocalState) : Type 0 where
   pub run : Run
   pub after : IsAfterTurns c run
   pub there : l.thread < c.threads
   pub local : l ≡ local_in c run l.thread
-  pub ordered : run.order ≡ history_of p.seen
+  pub lined : IsTimelineOf c run p.seen
   pub counted : p.span.last ≡ length after.turns
 
 abbrev pub AllOfRuns : List Held → Type 0
@@ -170,7 +211,7 @@ AllRead [] w = Unit {0}
 AllRead (h ∷ hs) w = LocalReads h.local.config h.local w × AllRead hs w
 
 -- what a seat knows after more events of its thread, where its thread has made so many for its last
--- command, and the run has this history and so many turns
+-- command, and the run has this timeline and so many turns
 abbrev pub later_past : List Moment → ℕ → ℕ → Past → Past
 later_past now turns own p =
     record p { seen = now; span = record p.span { last = turns; own = own } }
@@ -192,8 +233,8 @@ AllInTime [] = Unit {0}
 AllInTime (h ∷ hs) = IsInTime h.local.config h.past.call.command h.past.span × AllInTime hs
 
 -- What an event ensures: the thread moved on by one row, and the word is one that its row may
--- read. Its seat now knows the order and the turns of a run of which it is a thread. What it had
--- seen before is a prefix of that order. If it is alone, it is within its bounds.
+-- read. Its seat now knows the timeline and the turns of a run of which it is a thread. What it had
+-- seen before is a prefix of that timeline. If it is alone, it is within its bounds.
 pub record StepsOn (me : table.Me Command View) (w : ℕ) (after : table.Me Command View) : Type 0
   where
     pub now : List Moment
@@ -202,12 +243,13 @@ pub record StepsOn (me : table.Me Command View) (w : ℕ) (after : table.Me Comm
     pub reads : AllRead me.0.threads w
     pub told : AllOfRuns after.0.threads
     pub few : AllInTime after.0.threads
-    pub seen : AllSeenIn (history_of now) me.0.threads
+    pub seen : AllSeenIn now me.0.threads
 
--- what a seat knows when a command is announced for its thread
+-- what a seat knows when a command is announced for its thread: the timeline ends with the
+-- command's invocation
 abbrev pub given_past : Command → ℕ → List Moment → ℕ → List (List Moment) → Held → Past
 given_past k phase now turns notes h = record {
-  seen = now;
+  seen = now ++ moments.Invoked h.local.thread k ∷ [];
   span = record { phase = phase; first = turns; last = turns; own = 0 };
   call = record {
     command = k;
@@ -234,19 +276,40 @@ given_of k phase now turns me = (
 )
 
 -- What a step ensures that announces a command, and that found this phase word: the command is
--- appended to the thread's trace. Its seat now knows the order and the turns of a run of which it
--- is a thread. What it had seen before, and each of its notes, is a prefix of that order.
+-- appended to the thread's trace, and its invocation to a timeline `now`. Its seat now knows that
+-- timeline and the turns of a run of which it is a thread. What it had seen before, and each of its
+-- notes, is a prefix of `now`.
 pub record Gives (k : Command) (phase : ℕ) (me after : table.Me Command View) : Type 0 where
   pub now : List Moment
   pub turns : ℕ
   pub moved : after ≡ given_of k phase now turns me
   pub told : AllOfRuns after.0.threads
-  pub seen : AllSeenIn (history_of now) me.0.threads
-  pub noted : AllNotedIn (history_of now) me.0.notes
+  pub seen : AllSeenIn now me.0.threads
+  pub noted : AllNotedIn now me.0.notes
 
 abbrev pub gives_on : Option Command → ℕ → table.Me Command View → table.Me Command View → Type 0
 gives_on announced phase me after =
     (k : Command) → announced ≡ some k → Gives k phase me after
+
+-- what a seat knows after a stamp: all of the timeline, which ends with the stamp, and the turns
+abbrev pub drawn_by : List Moment → ℕ → Held → Held
+drawn_by now turns h =
+    held h.local (later_past (now ++ moments.Stamped ∷ []) turns h.past.span.own h.past)
+
+abbrev pub drawn_of : List Moment → ℕ → table.Me Command View → table.Me Command View
+drawn_of now turns me =
+    (record { threads = map (drawn_by now turns) me.0.threads; notes = me.0.notes }, me.1)
+
+-- What a step ensures that draws a stamp: the number found counts the stamps of a timeline `now`, to
+-- which one is appended. The seat knows that timeline and the turns of a run of which it is a thread.
+-- What it had seen before is a prefix of `now`.
+pub record Draws (found : ℕ) (me after : table.Me Command View) : Type 0 where
+  pub now : List Moment
+  pub turns : ℕ
+  pub moved : after ≡ drawn_of now turns me
+  pub told : AllOfRuns after.0.threads
+  pub seen : AllSeenIn now me.0.threads
+  pub counts : Counts found (stamps_in now)
 
 -- the word that a thread's next event finds
 abbrev pub found_by : LocalState → table.State Command View → ℕ

@@ -1,6 +1,6 @@
 -- A seat with one thread makes one event of it after the other. This is the proof of the laws of
 -- `ThreadMemory` for that memory, which an impl can't take from proofs/.
-use Rattle.std.proofs.Common.{◌≡◌, ℕ, ◌<◌, false, [], subst, sym, ap, ◌∙◌}
+use Rattle.std.proofs.Common.{◌≡◌, ℕ, ◌<◌, ◌+◌, arith, false, [], subst, sym, ap, ◌∙◌}
 use Rattle.atomic_table.specs.Table as table
 use Rattle.atomic_table.specs.Seated.{TableId}
 use Rattle.block_store.specs.Places.{extent, words_count}
@@ -11,6 +11,9 @@ use Rattle.control_heap.proofs.Behind.{behind_got, behind_done}
 use Rattle.shared_heap.specs.declared.rules.View.{View}
 use Rattle.shared_heap.specs.Shared.{AllInTime, AllRead, AllOfRuns, StepsOn, behind, got_of, held, one_view, stepped_past}
 use Rattle.shared_heap.specs.Ports.{MayTurn, HasTurned, HasThread}
+
+below : (p n : ℕ) → p < n → p < n + 1
+below p n low = omega (arith, low)
 
 pub may_turn : (me : table.Me Command View) (own shared : TableId) (l : LocalState)
     → HasThread me own shared l → is_done l ≡ false
@@ -23,7 +26,9 @@ may_turn me own shared l has going low = record {
   going = behind_done has.commands has.entries has.long l ∙ going;
   wants = λ i. op_wanted l;
   place = subst (λ n. op_place (op_wanted l) < n)
-      (sym has.words ∙ ap (λ (t : TableId). t.words) has.table) low;
+      (sym has.words ∙ ap (λ (t : TableId). t.words) has.table)
+      (below (op_place (op_wanted l)) (words_count (extent l.config)) low);
+  within = low;
   table = has.table;
   slots = sym (ap (λ (t : TableId). t.slots) has.table) ∙ has.slots;
 }

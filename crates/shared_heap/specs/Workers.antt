@@ -1,9 +1,12 @@
 -- A heap that several threads share, and its workers, as contracts see them.
-use Rattle.std.specs.Prelude.{ℕ, ◌+◌, ◌-◌, ◌*◌, ◌<◌, ◌≤◌, ◌≡◌, ◌++◌, true, List, [], ◌∷◌, length, map, slice_index_or}
+use Rattle.std.specs.Prelude.{ℕ, ◌+◌, ◌-◌, ◌*◌, ◌<◌, ◌≤◌, ◌≡◌, ◌++◌, true, List, [], ◌∷◌, length, map, slice_index, slice_index_or}
+use mathlib.Core.Option.{some}
+use lib.ListN.{get_elem?}
 use Rattle.atomic_table.specs.Table as table
 use Rattle.atomic_table.specs.Seated.{TableId}
 use Rattle.block_store.specs.declared.Config.{Config}
 use Rattle.block_store.specs.Configs.{IsInBounds}
+use Rattle.block_store.specs.Phases.{cycle_of}
 use Rattle.block_store.specs.Places.{extent, words_count}
 use Rattle.rate_plan.specs.Rates.{IsRate, IsAdmitted}
 use Rattle.never_heap.specs.declared.Command.{Command}
@@ -16,14 +19,16 @@ use Rattle.never_heap.specs.RightWork.{RightWork, units_owed}
 use Rattle.heap_system.specs.Lives.{sum_after, objects_of, most_commands, most_objects, most_units}
 use Rattle.heap_system.specs.Locals.{LocalState, is_done, works}
 use Rattle.heap_system.specs.Machines.{Run, local_in}
-use Rattle.heap_system.specs.Systems.{AllDone}
+use Rattle.heap_system.specs.Systems.{AllDone, Whole}
 use Rattle.control_heap.specs.Controls.{IsByEvents, with_history}
 use Rattle.control_heap.specs.Growth.{given}
 use Rattle.shared_heap.specs.declared.rules.Held.{Held}
 use Rattle.shared_heap.specs.declared.rules.Moment.{Moment}
+use Rattle.shared_heap.specs.declared.rules.Moment.TheVariants as moments
 use Rattle.shared_heap.specs.declared.rules.Span.{Span}
 use Rattle.shared_heap.specs.declared.rules.View.{View}
-use Rattle.shared_heap.specs.Shared.{IsOfRun, IsStartOf, first_held, first_past, held_of, history_of, one_view, unasked}
+use Rattle.shared_heap.specs.RealTime.{KeepsRealTime}
+use Rattle.shared_heap.specs.Shared.{EntriesFollow, IsOfRun, IsStartOf, SharedKept, first_held, first_past, held_of, history_of, invoked_in, one_view, unasked}
 use Rattle.shared_heap.specs.Turns.{MadeTurns}
 
 -- which table it is, and its configuration
@@ -32,11 +37,13 @@ pub record HeapState : Type 0 where
   pub config : Config
 
 -- The heap of a worker; its thread, with all of its commands so far and their entries; how much of
--- the history it has seen; the notes that it has learned since its last command; and the turns of
--- that command. In memory it has only its last command and that command's entry.
+-- the heap's timeline it has seen, and the history of that; the notes that it has learned since its
+-- last command; and the turns of that command. In memory it has only its last command and that
+-- command's entry.
 pub record WorkerState : Type 0 where
   pub heap : TableId
   pub thread : LocalState
+  pub timeline : List Moment
   pub seen : List HistoryItem
   pub notes : List (List HistoryItem)
   pub span : Span
@@ -89,6 +96,7 @@ pub record IsFresh (c : Config) (w : WorkerState) : Type 0 where
   pub config : w.thread.config ≡ c
   pub asked : w.thread.trace ≡ []
   pub told : w.thread.log ≡ []
+  pub timeline : w.timeline ≡ moments.Began ∷ []
   pub seen : w.seen ≡ Started ∷ []
   pub notes : w.notes ≡ []
 
@@ -112,7 +120,9 @@ AllStart [] order = Unit {0}
 AllStart (n ∷ ns) order = IsStartOf n order × AllStart ns order
 
 -- What a worker has seen is a history of the heap that never frees, with licensed fulls and the
--- work that is owed. The worker's part of it is its entries, and these are of its commands.
+-- work that is owed. The worker's part of it is its entries, and these are of its commands. It is
+-- the history of a timeline, which has the invocations of the worker's commands, and in which each
+-- entry comes after the invocation of its command.
 pub record HasSeenIts (w : WorkerState) : Type 0 where
   pub legal : Legal w.thread.config w.seen
   pub licensed : Licensed w.thread.config w.seen
@@ -120,11 +130,16 @@ pub record HasSeenIts (w : WorkerState) : Type 0 where
       → RightWork w.thread.config.width rate w.seen
   pub its : part w.thread.thread w.seen ≡ told w
   pub asked : map (λ (e : Entry). e.command) (told w) ≡ asked w
+  pub ordered : w.seen ≡ history_of w.timeline
+  pub invoked : invoked_in w.thread.thread w.timeline ≡ w.thread.trace
+  pub follow : EntriesFollow w.timeline
 
 -- The worker has executed one more command, with this reply: the command is appended to its
 -- commands, and an entry to its entries. What it had seen, and each note that it had learned, is a
 -- prefix of a history `start`. What it has seen now is `start` followed by items, among which the
--- entry is the only one of this worker.
+-- entry is the only one of this worker. In the timeline that it has seen, the command's invocation
+-- stands right behind `past`, whose history is `start` and of which the timeline that it had seen is
+-- a prefix.
 pub record HasAnswered (old : WorkerState) (k : Command) (a : Reply) (new : WorkerState) : Type 0
   where
     pub asked : new.thread.trace ≡ old.thread.trace ++ k ∷ []
@@ -139,6 +154,11 @@ pub record HasAnswered (old : WorkerState) (k : Command) (a : Reply) (new : Work
     pub seen : new.seen ≡ start ++ items
     pub own : part old.thread.thread items ≡ entry ∷ []
     pub notes : new.notes ≡ []
+    pub past : List Moment
+    pub later : List Moment
+    pub timeline : new.timeline ≡ past ++ moments.Invoked old.thread.thread k ∷ later
+    pub began : IsStartOf old.timeline past
+    pub started : start ≡ history_of past
     pub sound : HasSeenIts new
 
 -- The worker's code has made the events of a command and no others: an event of its thread by each
@@ -154,12 +174,16 @@ pub record IsSame (old new : WorkerState) : Type 0 where
   pub config : new.thread.config ≡ old.thread.config
   pub thread : new.thread.thread ≡ old.thread.thread
 
--- This is the worker of thread t. Its commands and entries are the thread's part of the history.
--- What it has seen is a prefix of the history.
-pub record HasPart (order : List HistoryItem) (t : ℕ) (w : WorkerState) : Type 0 where
+-- This is the worker of thread t. Its commands and entries are the thread's part of the history,
+-- and its commands are those of the thread that the timeline has invocations of. What it has seen
+-- is a prefix of both.
+pub record HasPart (timeline : List Moment) (order : List HistoryItem) (t : ℕ) (w : WorkerState) :
+    Type 0 where
   pub thread : w.thread.thread ≡ t
   pub told : told w ≡ part t order
   pub asked : map (λ (e : Entry). e.command) (part t order) ≡ asked w
+  pub invoked : invoked_in t timeline ≡ w.thread.trace
+  pub lined : IsStartOf w.timeline timeline
   pub seen : IsStartOf w.seen order
 
 -- The history is the order of a run of the machine, each turn of which was an event. At its end
@@ -178,20 +202,67 @@ pub record IsOfMachine (c : Config) (ws : List WorkerState) (order : List Histor
 -- within the limit. Each entry has the work that its command owes. The entries of each thread are,
 -- in order, those of its worker, and there are no other entries. The number of cycles is that of
 -- its starts. On m blocks, all entries of C cycles together have at least (C - 1) m units of work
--- and at most 2 m C. The history is that of a run of the machine.
+-- and at most 2 m C. The history is that of a run of the machine, and of a timeline that has the
+-- invocations of all commands, each before its entry and after all that its worker had seen. It
+-- keeps real-time order: what stands in the timeline before the invocation of a command comes in
+-- the history before the command's entry.
 pub record HaveOneHistory (c : Config) (ws : List WorkerState) (cycles : ℕ) : Type 0 where
+  pub timeline : List Moment
   pub order : List HistoryItem
   pub legal : Legal c order
   pub licensed : Licensed c order
   pub never : StartsSmall c order → NoFulls order
   pub right : (rate : ℕ) → IsRate c rate → RightWork c.width rate order
   pub parts : (t : ℕ) → t < c.threads → (j : ℕ) × (j < length ws)
-      × ((d : WorkerState) → HasPart order t (slice_index_or ws j d))
+      × ((d : WorkerState) → HasPart timeline order t (slice_index_or ws j d))
   pub others : (u : ℕ) → c.threads ≤ u → part u order ≡ []
+  pub ordered : order ≡ history_of timeline
+  pub uninvoked : (u : ℕ) → c.threads ≤ u → invoked_in u timeline ≡ []
+  pub follow : EntriesFollow timeline
+  pub real_time : KeepsRealTime timeline order
   pub starts : cycles ≡ starts_in order
   pub least_units : (cycles - 1) * c.blocks ≤ work_in order
   pub most_units : work_in order ≤ 2 * c.blocks * cycles
   pub machine : IsOfMachine c ws order
+
+-- these are some of the workers of this heap, at least one
+abbrev pub AreSome : HeapState → List WorkerState → Type 0
+AreSome h ws = (0 < length ws)
+    × ((i : ℕ) (d : WorkerState) → i < length ws → (slice_index_or ws i d).heap ≡ h.id)
+
+-- The commands of thread t that have an entry are the first that it was given.
+abbrev pub HasFirst : List Moment → List HistoryItem → ℕ → Type 0
+HasFirst timeline order t = (rest : List Command)
+    × (invoked_in t timeline ≡ map (λ (e : Entry). e.command) (part t order) ++ rest)
+
+-- There is one history of the heap, as of one that is closed with all of its workers. The entries of
+-- each of these workers are, in order, its thread's part. Those of any other thread are of the first
+-- commands that it was given, and no thread beyond those of the heap has an entry. The history is
+-- that of a run of the machine, each turn of which was an event, and of which these workers have
+-- their threads. It keeps real-time order.
+pub record HaveHistoryOfSome (c : Config) (ws : List WorkerState) (cycles : ℕ) : Type 0 where
+  pub timeline : List Moment
+  pub order : List HistoryItem
+  pub legal : Legal c order
+  pub licensed : Licensed c order
+  pub never : StartsSmall c order → NoFulls order
+  pub right : (rate : ℕ) → IsRate c rate → RightWork c.width rate order
+  pub parts : (j : ℕ) (d : WorkerState) → j < length ws
+      → HasPart timeline order (slice_index_or ws j d).thread.thread (slice_index_or ws j d)
+  pub apart : (i j : ℕ) (d : WorkerState) → i < j → j < length ws
+      → ¬ ((slice_index_or ws i d).thread.thread ≡ (slice_index_or ws j d).thread.thread)
+  pub firsts : (t : ℕ) → t < c.threads → HasFirst timeline order t
+  pub others : (u : ℕ) → c.threads ≤ u → part u order ≡ []
+  pub ordered : order ≡ history_of timeline
+  pub uninvoked : (u : ℕ) → c.threads ≤ u → invoked_in u timeline ≡ []
+  pub follow : EntriesFollow timeline
+  pub real_time : KeepsRealTime timeline order
+  pub starts : cycles ≡ starts_in order
+  pub run : Run
+  pub by : IsByEvents c run
+  pub of_run : order ≡ run.order
+  pub threads : (j : ℕ) (d : WorkerState) → j < length ws
+      → (slice_index_or ws j d).thread ≡ local_in c run (slice_index_or ws j d).thread.thread
 
 -- ---- within a worker
 
@@ -208,7 +279,7 @@ pub record Keeps (h : Held) (ns : List (List Moment)) (me : table.Me Command Vie
   pub units : works h.local.log ≡ l.before + works l.log
   pub one : length l.trace ≡ 1
   pub slots : id.slots ≡ 0
-  pub words : id.words ≡ words_count (extent l.config)
+  pub words : id.words ≡ words_count (extent l.config) + 1
 
 abbrev pub IsKept : table.Me Command View → TableId → LocalState → ℕ → ℕ → Type 0
 IsKept me id l n o = Keeps (held_of l me.0.threads) me.0.notes me id l n o
@@ -218,6 +289,7 @@ abbrev pub worker_of : TableId → Held → List (List Moment) → WorkerState
 worker_of id h ns = record {
   heap = id;
   thread = h.local;
+  timeline = h.past.seen;
   seen = history_of h.past.seen;
   notes = map history_of ns;
   span = h.past.span;
@@ -234,7 +306,7 @@ pub record IsDealt (ws : ℕ) (l : LocalState) : Type 0 where
   pub before : l.before ≡ 0
   pub log : l.log ≡ []
   pub one : length l.trace ≡ 1
-  pub words : ws ≡ words_count (extent l.config)
+  pub words : ws ≡ words_count (extent l.config) + 1
 
 -- the first of these notes
 abbrev pub note_in : List (List Moment) → List Moment
@@ -248,6 +320,7 @@ IsNote me = me ≡ (record { threads = []; notes = note_in me.0.notes ∷ [] }, 
 -- these are the threads of these workers, in the same order, and each is done
 abbrev pub IsOfWorker : WorkerState → Held → Type 0
 IsOfWorker w h = (w.thread ≡ h.local) × (w.seen ≡ history_of h.past.seen) × (is_done h.local ≡ true)
+    × (w.timeline ≡ h.past.seen)
 
 abbrev pub AreOfWorkers : List WorkerState → List Held → Type 0
 AreOfWorkers [] [] = Unit {0}
@@ -260,6 +333,19 @@ pub record KnowsAll (me : table.Me Command View) (ws : List WorkerState) : Type 
   pub notes : List (List Moment)
   pub knows : me ≡ (record { threads = threads; notes = notes }, [])
   pub all : AreOfWorkers ws threads
+
+-- The last state of a table, in which its rule holds. A seat knows the threads of these workers, and
+-- the phase word has this cycle.
+pub record WasClosedWith (c : Config) (ws : List WorkerState) (cycles : ℕ) : Type 0 where
+  pub whole : Whole
+  pub last : table.State Command View
+  pub kept : SharedKept whole last
+  pub config : c ≡ whole.config
+  pub id : ℕ
+  pub view : View
+  pub seat : get_elem? last.views id ≡ some view
+  pub own : AreOfWorkers ws view.threads
+  pub read : cycles ≡ cycle_of (slice_index last.words 0)
 
 -- each of these traces has one command, which the first command will replace
 abbrev pub AreOnes : List (List Command) → Type 0

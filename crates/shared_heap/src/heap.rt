@@ -8,13 +8,14 @@ ghost use Rattle.never_heap.specs.Bounds.{IsCommandInBounds};
 ghost use Rattle.heap_system.specs.Locals.{LocalState};
 ghost use Rattle.shared_heap.specs.Shared.{first_held};
 ghost use Rattle.shared_heap.specs.Pending.{HasAnnounced, MayAnnounce};
-ghost use Rattle.shared_heap.specs.Workers.{HeapState, WorkerState, CanOpen, AreInOrder, AreEachOnce, AreAmong, HasWorker, AreFresh, HasLeft, HasAnswered, HasMade, IsSame, HaveOneHistory, IsDealt, KnowsAll, AreOnes, start_worker};
+ghost use Rattle.shared_heap.specs.Workers.{HeapState, WorkerState, CanOpen, AreInOrder, AreEachOnce, AreAmong, AreSome, HasWorker, AreFresh, HasLeft, HasAnswered, HasMade, IsSame, HaveHistoryOfSome, HaveOneHistory, IsDealt, KnowsAll, AreOnes, WasClosedWith, start_worker};
 ghost use Rattle.shared_heap.specs.Spans.{IsInTime};
+ghost use Rattle.shared_heap.specs.Stamps.{HasDrawn};
 ghost use Rattle.shared_heap.specs.Refusals.{IsOpenFault, IsRefused};
 
 use crate::note::Note;
 use crate::port::Port;
-use crate::rules::{Both, Cut, Given, Law, Noted, View};
+use crate::rules::{Both, Cut, Drawn, Given, Law, Noted, View};
 use crate::worker::{Worker, objects_of};
 use atom_board::drives;
 use atomic_table::{Seat, Shared, Table};
@@ -50,7 +51,7 @@ pub struct SharedHeap {
 }
 
 impl Model for SharedHeap {
-    ghost use Rattle.std.specs.Prelude.{◌≡◌, ◌<◌};
+    ghost use Rattle.std.specs.Prelude.{◌≡◌, ◌<◌, ◌+◌};
     ghost use Rattle.block_store.specs.Places.{extent, words_count};
     ghost use Rattle.shared_heap.specs.Workers.{HeapState};
 
@@ -63,7 +64,7 @@ impl Model for SharedHeap {
 
     ghost invariant = { λ h. (h.config ≡ h.table.shared.key.config)
         × (h.table.shared.table_id.slots ≡ 0)
-        × (h.table.shared.table_id.words ≡ words_count (extent h.config))
+        × (h.table.shared.table_id.words ≡ words_count (extent h.config) + 1)
         × (0 < h.config.threads) };
 }
 
@@ -124,7 +125,9 @@ fn opened(alloc: Global, c: Config) -> Result<(SharedHeap, Vec<Worker>), OutOfMe
 {
     let traces = first_traces(alloc, &c)?;
     let system = System::new(alloc, c, traces)?;
-    let words = system.copied_words(alloc)?;
+    let mut words = system.copied_words(alloc)?;
+    // The count of stamps.
+    words.push(0)?;
     let places = Vec::with_capacity(alloc, c.threads as usize)?;
     let (table, seat) = Table::of_words(alloc, words.as_slice(), &system)?;
     let workers = dealt(&table.shared, &c, seat, system.into_locals(), places);
@@ -345,6 +348,23 @@ impl SharedHeap {
             .join_seat::<Both>(&mut who.port.seat, seat);
     }
 
+    /// Draws a stamp for a worker of this heap: a number that tells how much of the heap's timeline
+    /// the worker has seen. Stamps are plain numbers, which pass through any channel. A worker whose
+    /// stamp is no less than another's has seen all that that one had seen when it drew its own
+    /// (`stamps_are_in_order`), so the commands that it executes from then on come behind that.
+    ///
+    /// Its code makes one operation on the shared words, which adds 1 to the count of stamps, and
+    /// never waits. The bounds of the last command (`in_time`) no longer speak of the worker's span.
+    pub fn stamp(&self, who: &mut Worker) -> u64
+        requires { who.old.heap ≡ self.now.id }
+        ensures { HasDrawn who.old result who.new }
+    {
+        let place = self.table.word_count() - 1;
+        self.table
+            .shared
+            .fetch_add::<Drawn>(&mut who.port.seat, place, 1)
+    }
+
     /// Closes the heap. It takes all of its workers, each once, in any order. One history has all
     /// the commands that they executed, with their replies. Returns how many cycles of collection
     /// were started.
@@ -357,10 +377,29 @@ impl SharedHeap {
         self.close_in_order(workers)
     }
 
-    // The same for workers in thread order.
+    /// Closes the heap with some of its workers, at least one, in any order. The others may be lost,
+    /// or in the middle of a command. One history has all the commands that these workers executed,
+    /// with their replies. Returns how many cycles of collection were started.
+    pub fn close_some(self, who: Vec<Worker>) -> u64
+        requires { AreSome self who.items }
+        ensures { HaveHistoryOfSome self.config who.items result }
+    {
+        self.closed_with(who)
+    }
+
+    // The same for all workers in thread order.
     fn close_in_order(self, who: Vec<Worker>) -> u64
-        requires { AreInOrder self who.items }
+        requires order { AreInOrder self who.items }
+        requires some { 0 < length who.items }
         ensures { HaveOneHistory self.config who.items result }
+    {
+        self.closed_with(who)
+    }
+
+    // Closes the table with the seats of these workers.
+    fn closed_with(self, who: Vec<Worker>) -> u64
+        requires { AreSome self who.items }
+        ensures { WasClosedWith self.config who.items result }
     {
         let SharedHeap { table, .. } = self;
         let (first, rest) = first_and_rest(who);

@@ -1,10 +1,11 @@
 //! Laws of a shared heap that no single call can state. Each is the contract of a function that
 //! does nothing.
 
-ghost use Rattle.std.specs.Prelude.{◌≡◌, ℕ, List};
+ghost use Rattle.std.specs.Prelude.{◌≡◌, ◌≤◌, ◌^◌, ◌⊎◌, ◌++◌, ◌∷◌, [], ℕ, List};
 ghost use mathlib.Core.Option.{some};
 ghost use lib.ListN.{get_elem?};
 ghost use Rattle.atomic_table.specs.Table as table;
+ghost use Rattle.block_store.specs.declared.Config.{Config};
 ghost use Rattle.never_heap.specs.declared.Command.{Command};
 ghost use Rattle.never_heap.specs.declared.Entry.{Entry};
 ghost use Rattle.never_heap.specs.declared.Reply.{Reply};
@@ -13,9 +14,12 @@ ghost use Rattle.never_heap.specs.Histories.{HistoryItem};
 ghost use Rattle.heap_system.specs.Systems.{Whole};
 ghost use Rattle.shared_heap.specs.declared.rules.Held.{Held};
 ghost use Rattle.shared_heap.specs.declared.rules.Moment.{Moment};
+ghost use Rattle.shared_heap.specs.declared.rules.Moment.TheVariants as moments;
 ghost use Rattle.shared_heap.specs.declared.rules.View.{View};
-ghost use Rattle.shared_heap.specs.Shared.{IsStartOf, SharedKept, one_view};
-ghost use Rattle.shared_heap.specs.Workers.{HasAnswered, HasRoom, WorkerState};
+ghost use Rattle.shared_heap.specs.Shared.{IsStartOf, SharedKept, one_view, stamps_in};
+ghost use Rattle.shared_heap.specs.RealTime.{ComesBeforeTheNext, HasSeat, WasSeen};
+ghost use Rattle.shared_heap.specs.Workers.{HasAnswered, HasRoom, HasSeenIts, HaveOneHistory, WorkerState};
+ghost use Rattle.shared_heap.specs.Stamps.{HasDrawn};
 ghost use Rattle.shared_heap.specs.Behind.{StandsBehind, StandsBehindAll};
 ghost use Rattle.shared_heap.specs.Prefixes.{FitsOneHistory, AllAreDone, EndsInTime};
 
@@ -27,6 +31,47 @@ ghost use Rattle.shared_heap.specs.Prefixes.{FitsOneHistory, AllAreDone, EndsInT
 pub fn what_was_answered_fits_one_history()
     ensures { (k : Whole) (s : table.State Command View) → (kept : SharedKept k s)
         → (fits : FitsOneHistory k.config s) × (fits.order ≡ kept.run.order) }
+{}
+
+/// Real-time order, of two states of one table, in which the rule holds: what a worker had seen in
+/// the first comes before the entries of all commands that were invoked after it. So an operation
+/// that has returned comes before each operation that begins later.
+///
+/// A seat's step appends to what its worker has seen, and no other step changes that. So a worker
+/// that has seen `p` in the first state has seen it in each later one.
+pub fn what_was_seen_comes_before_what_is_invoked_later()
+    ensures { (k : Whole) (s later : table.State Command View) (now : SharedKept k s)
+        (then : SharedKept k later) (p : List Moment) → WasSeen s p → WasSeen later p
+        → (h : Held) → HasSeat s h → ComesBeforeTheNext p h then.run.order }
+{}
+
+/// Real-time order, of commands of a closed heap. If a command was invoked after all that some
+/// worker had seen, then its entry comes behind all of that (`behind`). Of two commands, either the
+/// second was invoked after all that the worker of the first had seen when the first returned, its
+/// entry included; or the invocation of the second stands among what that worker had seen then, so
+/// that it was invoked before the first returned (`either`).
+pub fn commands_keep_real_time()
+    ensures behind { (c : Config) (ws : List WorkerState) (cycles : ℕ)
+        (is : HaveOneHistory c ws cycles) (v x y : WorkerState) (m : Command) (b : Reply)
+        (did : HasAnswered x m b y) → HasSeenIts v → IsStartOf y.timeline is.timeline
+        → IsStartOf v.timeline did.past → StandsBehind v.seen did.entry is.order }
+    ensures either { (c : Config) (ws : List WorkerState) (cycles : ℕ) (is : HaveOneHistory c ws cycles)
+        (u v x y : WorkerState) (k m : Command) (a b : Reply) (first : HasAnswered u k a v)
+        (second : HasAnswered x m b y)
+        → IsStartOf v.timeline is.timeline → IsStartOf y.timeline is.timeline
+        → IsStartOf v.timeline second.past
+        ⊎ IsStartOf (second.past ++ moments.Invoked x.thread.thread m ∷ []) v.timeline }
+{}
+
+/// Of two stamps of one heap, the worker of the one that is no less had seen all that the other had
+/// seen when it drew its own: the timeline that the first had seen is a prefix of what the second
+/// had. So the commands that the second worker executed from then on come behind all of that
+/// (`commands_keep_real_time`, `behind`). Or 2^64 stamps were drawn. The timeline is that of the
+/// heap, as `close` has it.
+pub fn stamps_are_in_order()
+    ensures { (timeline : List Moment) (u v x y : WorkerState) (n m : ℕ) → HasDrawn u n v
+        → HasDrawn x m y → n ≤ m → IsStartOf v.timeline timeline → IsStartOf y.timeline timeline
+        → IsStartOf v.timeline y.timeline ⊎ (2 ^ 64 ≤ stamps_in timeline) }
 {}
 
 /// Suppose that the rule of the table holds and that every thread has finished its commands. Then

@@ -20,10 +20,13 @@ mod worker;
 pub use control_heap::{Fault, Refused};
 pub use heap::{OpenFault, SharedHeap};
 pub use laws::{
-    commands_alone_end_in_time, commands_stand_behind_what_was_seen,
-    what_was_answered_fits_one_history,
+    commands_alone_end_in_time, commands_keep_real_time, commands_stand_behind_what_was_seen,
+    stamps_are_in_order, what_was_answered_fits_one_history,
+    what_was_seen_comes_before_what_is_invoked_later,
 };
 pub use note::Note;
 pub use pending::Pending;
-pub use rules::{Both, Call, Cut, Given, Held, Law, Moment, Noted, Past, Span, Turned, View};
+pub use rules::{
+    Both, Call, Cut, Drawn, Given, Held, Law, Moment, Noted, Past, Span, Turned, View,
+};
 pub use worker::Worker;

@@ -1,16 +1,21 @@
 //! What a seat of the table knows, and the rule that each step keeps.
 
-ghost use Rattle.shared_heap.specs.Shared.{SharedKept, StepsOn, first_view, gives_on, first_of, rest_of, joined, no_view, noted_of, same_view};
+ghost use Rattle.shared_heap.specs.Shared.{Draws, SharedKept, StepsOn, first_view, gives_on, first_of, rest_of, joined, no_view, noted_of, same_view};
 
 use atomic_table::{Join, Play, Split, TableRule};
 use heap_system::{Local, System};
 use never_heap::{Command, Entry};
 use std::collections::LinkedList;
 
-/// An item of a history: the start of a cycle, or an entry. It is used in proofs only.
+/// An item of a timeline: the start of a cycle, the invocation of a command, or its entry. It is
+/// used in proofs only.
 pub enum Moment {
     /// A cycle of collection began.
     Began,
+    /// A command of a thread was invoked.
+    Invoked(u32, Command),
+    /// A worker drew a stamp.
+    Stamped,
     /// A command took effect, with this entry.
     Ended(Entry),
 }
@@ -33,19 +38,19 @@ pub struct Call {
     pub command: Command,
     /// The worker's thread before the command.
     pub local: Local,
-    /// The history that the worker had seen.
+    /// The timeline that the worker had seen.
     pub seen: LinkedList<Moment>,
     /// The notes that it had learned.
     pub notes: LinkedList<LinkedList<Moment>>,
     /// The turns of its command before.
     pub span: Span,
-    /// The history when the command was announced.
+    /// The timeline before the command was invoked.
     pub start: LinkedList<Moment>,
 }
 
 /// What the seat of a thread knows beyond the thread. It is used in proofs only.
 pub struct Past {
-    /// The history up to the thread's last step.
+    /// The timeline up to the thread's last step.
     pub seen: LinkedList<Moment>,
     /// The turns of its last command.
     pub span: Span,
@@ -66,12 +71,13 @@ pub struct Held {
 pub struct View {
     /// One for the seat of a worker, and none for the seat of a note.
     pub threads: LinkedList<Held>,
-    /// Histories that other workers had seen. The seat of a note has one.
+    /// Timelines that other workers had seen. The seat of a note has one.
     pub notes: LinkedList<LinkedList<Moment>>,
 }
 
 /// The rule of the table: its words and the threads of all seats are those of a run of some job,
-/// and what each seat has seen is a prefix of the order of that run.
+/// the order of that run and the invocations of all commands have one timeline, and what each seat
+/// has seen is a prefix of it.
 pub struct Law {}
 
 impl TableRule<Command, View, System> for Law {
@@ -87,11 +93,19 @@ impl Play<Command, View> for Turned {
     ghost then = { λ s me found after. StepsOn me found after };
 }
 
-/// The command that the step announces is appended to the trace of the seat's thread.
+/// The command that the step announces is appended to the trace of the seat's thread, and its
+/// invocation to the timeline.
 pub struct Given {}
 
 impl Play<Command, View> for Given {
     ghost then = { λ s me found after. gives_on s.said found me after };
+}
+
+/// A stamp is appended to the timeline, and the seat's thread has seen it.
+pub struct Drawn {}
+
+impl Play<Command, View> for Drawn {
+    ghost then = { λ s me found after. Draws found me after };
 }
 
 /// One thread moves to a new seat.

@@ -1,5 +1,5 @@
-//! Threads that share one heap: names of new objects, counting by `cas`, refusals and notes. Some
-//! heaps are closed with their workers out of order.
+//! Threads that share one heap: names of new objects, counting by `cas`, refusals, notes and stamps.
+//! Some heaps are closed with their workers out of order, or with some of them.
 
 ghost use Rattle.std.specs.Prelude.{◌≡◌, IfOk};
 ghost use Rattle.shared_heap.specs.Workers.{AreEachOnce, AreInOrder, IsSame};
@@ -285,6 +285,45 @@ fn a_note_passes_between_workers(rt: HostRuntime) -> Result<(), OutOfMemory> {
     assert_eq!(rt; read, Ok(Reply::Val(Value::Int(41))));
     let back = vec![in rt.alloc(); reader, writer]?;
     assert_eq!(rt; heap.close(back), 1);
+    Ok(())
+}
+
+// One worker writes the shared element and draws a stamp. The other draws its own and then reads.
+#[tactic(auto, using(crate::proofs::Crews::same_here, crate::proofs::Crews::same_on, crate::proofs::Stamps::drawn_same))]
+fn reads_behind<R: Wait>(
+    rt: &R,
+    heap: &SharedHeap,
+    writer: &mut Worker,
+    reader: &mut Worker,
+) -> (u64, u64, Result<Reply, Refused>)
+    requires writer { writer.old.heap ≡ heap.now.id }
+    requires reader { reader.old.heap ≡ heap.now.id }
+    ensures { IsSame reader.old reader.new }
+{
+    let _set = heap.ask(rt, writer, Command::Set { d: 1, value: 41 });
+    let _put = heap.ask(rt, writer, Command::Put { s: 0, i: 0, v: 1 });
+    let written = heap.stamp(writer);
+    let begun = heap.stamp(reader);
+    let read = heap.ask(rt, reader, Command::Get { d: 2, s: 0, i: 0 });
+    (written, begun, read)
+}
+
+// Stamps tell the order as plain numbers. The heap is closed without the worker that wrote.
+#[test]
+fn stamps_grow_and_a_worker_is_lost(rt: HostRuntime) -> Result<(), OutOfMemory> {
+    let Ok((heap, workers)) = SharedHeap::open(rt.alloc(), heap_of(2)) else {
+        assert!(rt; false, "it opens");
+        return Ok(());
+    };
+    let (first, rest) = first_and_rest(workers);
+    let (second, _none) = first_and_rest(rest);
+    let mut writer = first;
+    let mut reader = second;
+    let (written, begun, read) = reads_behind(&rt, &heap, &mut writer, &mut reader);
+    assert_eq!(rt; (written, begun), (0, 1));
+    assert_eq!(rt; read, Ok(Reply::Val(Value::Int(41))));
+    let back = vec![in rt.alloc(); reader]?;
+    assert_eq!(rt; heap.close_some(back), 1);
     Ok(())
 }
 

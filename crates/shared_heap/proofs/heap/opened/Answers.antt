@@ -1,4 +1,4 @@
-use Rattle.std.proofs.Common.{◌≡◌, ℕ, List, ap, sym, subst, ◌∙◌, map, length, Vec, Global, get_or, ◌<◌}
+use Rattle.std.proofs.Common.{◌≡◌, ℕ, List, [], ◌∷◌, ◌++◌, ap, sym, subst, ◌∙◌, map, length, Vec, Global, get_or, ◌<◌}
 use Rattle.never_heap.specs.declared.Command.{Command}
 use Rattle.heap_system.specs.Locals.{LocalState}
 use Rattle.heap_system.specs.Machines.{IsJob}
@@ -17,13 +17,13 @@ new-requires c = first_job c.args.c (map items_of c.in_ok-traces.traces.items) c
 pub of_words-requires : goal.of_words-requires
 of_words-requires c =
     let job : IsJob c.args.c (map items_of c.in_ok-traces.traces.items) = first_job c.args.c (map items_of c.in_ok-traces.traces.items) c.requires c.in_ok-traces.ensures.0 c.in_ok-traces.ensures.1 in
-    opens_of c.in_ok-system.system c.args.c (map items_of c.in_ok-traces.traces.items) c.as_slice.result.now c.in_ok-system.ensures.config job c.in_ok-system.ensures.opening (c.as_slice.ensures.value ∙ c.in_ok-words.ensures)
+    opens_of c.in_ok-system.system c.args.c (map items_of c.in_ok-traces.traces.items) c.as_slice.result.now c.in_ok-system.ensures.config job c.in_ok-system.ensures.opening (c.as_slice.ensures.value ∙ c.in_ok-push.ensures.items ∙ ap (λ ws. ws ++ 0 ∷ []) c.in_ok-words.ensures)
 
 pub dealt-workers-requires-clause-each : goal.dealt-workers-requires-clause-each
 dealt-workers-requires-clause-each c =
     let job : IsJob c.args.c (map items_of c.in_ok-traces.traces.items) = first_job c.args.c (map items_of c.in_ok-traces.traces.items) c.requires c.in_ok-traces.ensures.0 c.in_ok-traces.ensures.1 in
     subst (λ (ls : List LocalState). (i : ℕ) (d : LocalState) → i < length ls → IsDealt c.in_ok-table.table.shared.table_id.words (get_or ls i d)) (sym c.into_locals.ensures)
-    (dealt_at c.args.c (map items_of c.in_ok-traces.traces.items) job c.in_ok-system.system.state c.in_ok-system.ensures.opening c.in_ok-traces.ensures.1 c.in_ok-table.table.shared.table_id.words (c.in_ok-table.ensures.0 ∙ ap length (c.as_slice.ensures.value ∙ c.in_ok-words.ensures)))
+    (dealt_at c.args.c (map items_of c.in_ok-traces.traces.items) job c.in_ok-system.system.state c.in_ok-system.ensures.opening c.in_ok-traces.ensures.1 c.in_ok-table.table.shared.table_id.words (c.in_ok-table.ensures.0 ∙ ap length (c.as_slice.ensures.value ∙ c.in_ok-push.ensures.items ∙ ap (λ ws. ws ++ 0 ∷ []) c.in_ok-words.ensures)))
 
 pub dealt-workers-requires-clause-config : goal.dealt-workers-requires-clause-config
 dealt-workers-requires-clause-config c =

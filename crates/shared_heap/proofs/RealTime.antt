@@ -1,0 +1,62 @@
+-- What was seen comes before what is invoked later.
+use Rattle.std.proofs.Common.{◌≡◌, ℕ, ◌≤◌, refl, arith, subst, sym, ap, ◌∙◌, List, [], ◌∷◌, ◌++◌, length, get_or, inl, inr, ◌⊎◌, append_assoc}
+use Rattle.atomic_table.specs.Table as table
+use Rattle.block_store.specs.declared.Config.{Config}
+use Rattle.never_heap.specs.declared.Command.{Command}
+use Rattle.never_heap.specs.declared.Reply.{Reply}
+use Rattle.heap_system.specs.Locals.{LocalState}
+use Rattle.heap_system.specs.Machines.{local_in}
+use Rattle.heap_system.specs.Systems.{Whole}
+use Rattle.shared_heap.specs.declared.rules.Held.{Held}
+use Rattle.shared_heap.specs.declared.rules.Moment.{Moment}
+use Rattle.shared_heap.specs.declared.rules.Moment.TheVariants as moments
+use Rattle.shared_heap.specs.declared.rules.View.{View}
+use Rattle.shared_heap.specs.Behind.{StandsBehind}
+use Rattle.shared_heap.specs.RealTime.{ComesBeforeTheNext, HasSeat, WasSeen}
+use Rattle.shared_heap.specs.Shared.{Fits, IsStartOf, SharedKept, history_of, invoked_in}
+use Rattle.shared_heap.specs.Workers.{HasAnswered, HasSeenIts, HaveOneHistory, WorkerState}
+use Rattle.shared_heap.proofs.Behind.{stands_after, stands_still}
+use Rattle.shared_heap.proofs.Grown.{here}
+use Rattle.shared_heap.proofs.Timelines.{before_or_after, history_start, invoked_start, keeps_real_time}
+use Rattle.shared_heap.proofs.Views.{starts_on}
+
+-- what a seat has seen is a prefix of the timeline
+line_of : (k : Whole) (s : table.State Command View) (kept : SharedKept k s) (p : List Moment) → WasSeen s p → IsStartOf p kept.timeline
+line_of k s kept p was =
+    let seat = was.seat in
+    starts_on p was.worker.past.seen kept.timeline was.seen (kept.each seat.0 _ seat.2).3.0
+
+-- a thread's commands are those that the timeline has invocations of
+has_invoked : (k : Whole) (s : table.State Command View) (kept : SharedKept k s) (h : Held) → HasSeat s h → invoked_in h.local.thread kept.timeline ≡ h.local.trace
+has_invoked k s kept h seat =
+    let f : Fits k.config kept.run h = (kept.each seat.0 _ seat.2).0.0 in
+    let is : h.local ≡ local_in k.config kept.run h.local.thread = here k.config h.local.thread f.0 kept.run kept.by.after h.local f.1 in
+    kept.lined.invoked h.local.thread f.0 ∙ sym (ap (λ (l : LocalState). l.trace) is)
+
+pub comes_before : (k : Whole) (s later : table.State Command View) (now : SharedKept k s) (then : SharedKept k later) (p : List Moment) → WasSeen s p → WasSeen later p → (h : Held) → HasSeat s h → ComesBeforeTheNext p h then.run.order
+comes_before k s later now then p was still h seat t n many =
+    keeps_real_time then.timeline then.run.order then.lined.ordered then.lined.follow p (line_of k later then p still) t n h.local.thread (length h.local.trace) many
+    (omega (arith, invoked_start h.local.thread p now.timeline (line_of k s now p was), ap length (has_invoked k s now h seat)))
+
+module _ (c : Config) (ws : List WorkerState) (cycles : ℕ) (is : HaveOneHistory c ws cycles) (x y : WorkerState) (m : Command) (b : Reply) (did : HasAnswered x m b y) (lined : IsStartOf y.timeline is.timeline) where
+  seen_start : IsStartOf y.seen is.order
+  seen_start = subst (λ h. IsStartOf h is.order) (sym did.sound.ordered) (subst (λ o. IsStartOf (history_of y.timeline) o) (sym is.ordered) (history_start y.timeline is.timeline lined))
+
+  -- a command that was invoked after all that a worker had seen
+  pub behind : (v : WorkerState) → HasSeenIts v → IsStartOf v.timeline did.past → StandsBehind v.seen did.entry is.order
+  behind v sound line =
+      let begun : IsStartOf v.seen did.start = subst (λ h. IsStartOf h did.start) (sym sound.ordered) (subst (λ h. IsStartOf (history_of v.timeline) h) (sym did.started) (history_start v.timeline did.past line)) in
+      stands_still v.seen y.seen is.order did.entry (stands_after v.seen x y m b did begun) seen_start
+
+  abbrev call : Moment
+  call = moments.Invoked x.thread.thread m
+
+  -- the timeline, with the invocation of the command
+  whole : (v : WorkerState) → (line : IsStartOf v.timeline is.timeline) → did.past ++ call ∷ (did.later ++ lined.0) ≡ v.timeline ++ line.0
+  whole v line =
+      sym (append_assoc did.past (call ∷ did.later) lined.0)
+      ∙ ap (λ l. l ++ lined.0) (sym did.timeline)
+      ∙ sym lined.1 ∙ line.1
+
+  pub either_way : (v : WorkerState) → IsStartOf v.timeline is.timeline → IsStartOf v.timeline did.past ⊎ IsStartOf (did.past ++ call ∷ []) v.timeline
+  either_way v line = before_or_after v.timeline line.0 did.past call (did.later ++ lined.0) (whole v line)
