@@ -52,6 +52,7 @@ impl Model for FieldPass {
 }
 
 // What a payload word holds.
+#[inline(always)]
 fn payload_in(word: u64) -> Payload
     requires { IsSome (payload_of word) }
     ensures is { result ≡ Rows.payload_in word }
@@ -61,6 +62,7 @@ fn payload_in(word: u64) -> Payload
 }
 
 // The block to which a payload word refers, or 0.
+#[inline(always)]
 fn target(word: u64) -> u32
     requires { IsSome (payload_of word) }
     ensures { result ≡ words.target word }
@@ -72,6 +74,7 @@ fn target(word: u64) -> u32
 }
 
 // What a shape word says.
+#[inline(always)]
 fn shape_in(word: u64) -> Shape
     requires { IsSome (shape_of word) }
     ensures is { result ≡ Rows.shape_in word }
@@ -81,6 +84,7 @@ fn shape_in(word: u64) -> Shape
 }
 
 // The object of which an owner word says that a block is part.
+#[inline(always)]
 fn object_in(word: u64) -> Value
     requires { IsSome (wide_of word) }
     ensures { result ≡ Rows.object_in word }
@@ -104,6 +108,7 @@ fn register(places: &Places, thread: u32, r: u8) -> usize
 }
 
 // The word that is stored.
+#[inline(always)]
 fn word_of(store: FieldStore) -> u64
     ensures { result ≡ Rows.stored_word store }
 {
@@ -116,6 +121,7 @@ fn word_of(store: FieldStore) -> u64
 }
 
 // Whether the value was taken before.
+#[inline(always)]
 fn is_taken(store: FieldStore) -> bool
     ensures { result ≡ Rows.is_taken store }
 {
@@ -134,6 +140,7 @@ fn storing(store: FieldStore) -> FieldRow
 }
 
 // The block that is shaded before this word is stored, or 0.
+#[inline(always)]
 fn shaded_for(pass: Pass, word: u64) -> u32
     requires { IsSome (payload_of word) }
     ensures { result ≡ Rows.shaded_for pass word }
@@ -142,6 +149,7 @@ fn shaded_for(pass: Pass, word: u64) -> u32
 }
 
 // Before a store: the write barrier, where a block is to be shaded.
+#[inline(always)]
 fn before_store(pass: Pass, store: FieldStore) -> FieldRow
     requires { IsSome (payload_of (Rows.stored_word store)) }
     ensures { result ≡ Rows.before_store pass store }
@@ -226,6 +234,7 @@ fn answered(reply: Reply) -> FieldRow
 }
 
 // After the register that refers to the object.
+#[inline(always)]
 fn after_object(payload: Payload) -> FieldRow
     ensures { result ≡ Rows.after_object payload }
 {
@@ -237,6 +246,7 @@ fn after_object(payload: Payload) -> FieldRow
 }
 
 // At the block of the field.
+#[inline(always)]
 fn at_block(pass: Pass, command: Command, way: TreePath, word: u64) -> FieldRow
     requires { IsSome (payload_of word) }
     ensures { result ≡ Rows.at_block pass command way word }
@@ -255,6 +265,7 @@ fn at_block(pass: Pass, command: Command, way: TreePath, word: u64) -> FieldRow
 }
 
 // The next link of the way, while there is one.
+#[inline(always)]
 fn on_way(places: &Places, pass: Pass, command: Command, way: TreePath, word: u64) -> FieldRow
     requires word { IsSome (payload_of word) }
     requires shape { IsShape way.shape }
@@ -281,6 +292,7 @@ fn way_from(shape: Shape, block: u32) -> TreePath
 }
 
 // After the object's shape.
+#[inline(always)]
 #[tactic(auto, unfolding(block_store::specs::Payloads::payload_of))]
 fn after_shape(places: &Places, pass: Pass, command: Command, block: u32, shape: Shape) -> FieldRow
     requires { IsShape shape }
@@ -334,6 +346,7 @@ fn store_pending(word: u64, value: Value) -> FieldRow
 }
 
 // After the field that `get` loads.
+#[inline(always)]
 fn after_field(word: u64, payload: Payload) -> FieldRow
     ensures { result ≡ Rows.after_field word payload }
 {
@@ -367,6 +380,7 @@ fn after_both(first: u64, second: u64) -> FieldRow
 }
 
 // After the owner of the block to which the word refers.
+#[inline(always)]
 fn after_owner(pass: Pass, command: Command, word: u64, value: Value) -> FieldRow
     requires { IsSome (payload_of word) }
     ensures { result ≡ Rows.after_owner pass command word value }

@@ -23,6 +23,7 @@ pub(crate) fn length_of(shape: Shape) -> u32
 }
 
 // How many links lead to the field.
+#[inline(always)]
 pub(crate) fn links_to(places: &Places, shape: Shape, index: u32) -> u32
     requires { IsShape shape }
     ensures { result ≡ Walks.links_to (extent places.now) shape index }
@@ -48,6 +49,7 @@ pub(crate) fn link_at(places: &Places, way: TreePath, index: u32) -> u32
 }
 
 // The payload of the field in its block.
+#[inline(always)]
 pub(crate) fn field_at(places: &Places, way: TreePath, index: u32) -> u32
     requires shape { IsShape way.shape }
     requires index { index < shape_length way.shape }

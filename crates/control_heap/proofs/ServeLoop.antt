@@ -1,5 +1,5 @@
 -- What the code meets that serves a command.
-use Rattle.std.proofs.Common.{◌≡◌, ℕ, zero, suc, ◌+◌, ◌^◌, ◌≤◌, false, subst, get_or, List, [], ◌∷◌, ◌++◌, length, length-append, refl, sym, ap, ◌∙◌, arith, inl, inr}
+use Rattle.std.proofs.Common.{◌≡◌, ℕ, zero, suc, ◌+◌, ◌^◌, ◌≤◌, Bool, true, false, ◌&&◌, subst, get_or, List, [], ◌∷◌, ◌++◌, length, length-append, refl, sym, ap, ◌∙◌, arith, inl, inr}
 use Rattle.std.proofs.lemmas.Bool.{cases_lt}
 use Rattle.never_heap.specs.declared.Command.{Command}
 use Rattle.never_heap.specs.declared.Entry.{Entry}
@@ -8,15 +8,34 @@ use Rattle.never_heap.specs.Bounds.{IsCommandInBounds}
 use Rattle.heap_machine.specs.Memories.{Acts}
 use Rattle.heap_machine.specs.Operations.{op_place, words_after, HasActed, MayAct}
 use Rattle.heap_machine.specs.declared.op.Op.{Op}
-use Rattle.heap_system.specs.ThreadMemories.{HasRunOn, IsGoing, MayRun, Ran}
+use Rattle.heap_system.specs.ThreadMemories.{HasRunOn, IsGoing, MayRun, Ran, longest}
 use Rattle.heap_system.specs.declared.Turn.{Turn}
-use Rattle.heap_system.specs.Locals.{LocalState, LocalReads, begun, is_done, local_got, op_wanted}
+use Rattle.heap_system.specs.Locals.{LocalState, LocalReads, begun, is_done, is_rest, local_got, op_wanted}
+use Rattle.block_store.specs.declared.Config.{Config}
 use Rattle.heap_system.specs.Machines.{Run}
 use Rattle.heap_system.specs.Lives.{objects_of}
+use Rattle.heap_system.specs.Parts.{Rest}
 use Rattle.heap_system.proofs.Runs.{ran_on}
+use Rattle.heap_system.proofs.TurnFacts.{rest_is}
 use Rattle.control_heap.specs.Controls.{HasLeft, HasMade, ControlOf, Machine, Served, HasAnswered, HasBegun, Stands, GoesOn, moved, moved_times, given_to}
 use Rattle.control_heap.proofs.HeapAsRun.{IsSafe}
-use Rattle.control_heap.proofs.CommandBound.{has_answered, events_few, events_near, never_long, stays_safe}
+use Rattle.control_heap.proofs.CommandBound.{config_is, rests, has_answered, events_few, events_near, never_long, stays_safe}
+
+no_longer : (b : Bool) → (b && false) ≡ false
+no_longer true = refl
+no_longer false = refl
+
+-- a thread that begins a command is alone and at rest
+module _ {M : Type 0} (m : Machine) (b : HasBegun M m) where
+  pub begins_at_rest : m.thread.part ≡ Rest
+  begins_at_rest = ap (λ (y : Machine). y.thread.part) b.same ∙ rest_is b.heap.thread.part (rests b.heap b.run b.stood)
+
+  pub begins_undone : is_done m.thread ≡ false
+  begins_undone = ap (λ (y : Machine). is_done y.thread) b.same ∙ no_longer (is_rest b.heap.thread.part)
+
+  pub begins_alone : m.thread.config.threads ≡ 1
+  begins_alone = ap (λ (y : Machine). y.thread.config.threads) b.same
+      ∙ ap (λ (c : Config). c.threads) (config_is b.heap b.run b.stood) ∙ b.stood.single
 
 module _ {M : Type 0} (m : Machine) (b : HasBegun M m) (n : ℕ) (going : GoesOn n m) where
   pub few : n ≤ 2 ^ 40
@@ -119,6 +138,37 @@ module _ {M : Type 0} (may : M → Unit {0} → Op → Type 0) (acts : Acts M (U
         many = (let more = is.many in let some = has.1 in omega (arith, more, some));
         counted = ap (λ n. n + length has.0.words) is.counted ∙ sym (length-append is.words has.0.words);
       }
+
+  -- before the first event
+  pub not_yet : Came acts shows first l first l 0
+  not_yet = record {
+    words = [];
+    ran = (refl, refl);
+    events = 0;
+    at = refl;
+    goes = λ i low. absurd (omega (arith, low));
+    many = omega arith;
+    counted = refl;
+  }
+
+  -- the first run of events, which is not counted
+  pub came_first : (y : M) (u : LocalState) (turn : Turn) → HasRunOn acts tt first l y u turn
+      → Came acts shows first l y u 0
+  came_first y u turn has =
+      let is = came_more first l 0 not_yet y u turn has in
+      record {
+        words = is.words;
+        ran = is.ran;
+        events = is.events;
+        at = is.at;
+        goes = is.goes;
+        many = omega arith;
+        counted = is.counted;
+      }
+
+  -- and it may be made
+  pub may_begin : MayRun may acts longest first tt l
+  may_begin = may_run longest 0 first l refl (λ i low. absurd (omega (arith, low)))
 
 -- the heap behind a command
 abbrev pub behind_it : {M : Type 0} → ControlOf M → Command → Machine → M → ControlOf M

@@ -13,6 +13,7 @@ use never_heap::{Command, Reply};
 
 impl<M: Store> ControlHeap<M> {
     // Does a command.
+    #[inline(always)]
     fn call(&mut self, command: Command) -> Result<Reply, Fault>
         ensures config { self.new.config ≡ self.old.config }
         ensures told { HasTold (λ a. a) M.acts self.old command self.new result }

@@ -1,6 +1,6 @@
 //! A heap for one thread: opening it, doing commands on it, and reading its state.
 
-ghost use Rattle.std.specs.Prelude.{ℕ, ◌≡◌, ◌≤◌, ◌+◌, ◌-◌, ◌∷◌, ◌↔◌, [], length, true, IsTrue, IfOk, IfErr, OnOk, OnErr};
+ghost use Rattle.std.specs.Prelude.{ℕ, ◌≡◌, ◌≤◌, ◌+◌, ◌-◌, ◌∷◌, ◌↔◌, [], length, true, false, IsTrue, IfOk, IfErr, OnOk, OnErr};
 ghost use Rattle.block_store.specs.Configs.{IsInBounds};
 ghost use Rattle.rate_plan.specs.Rates.{IsRate, IsAdmitted};
 ghost use Rattle.never_heap.specs.declared.Command.{Command};
@@ -12,7 +12,10 @@ ghost use Rattle.block_store.specs.Heaps.{heap_of};
 ghost use Rattle.block_store.specs.Places.{Place, ColourOf, extent, in_range, words_count};
 ghost use Rattle.heap_machine.specs.FreeBlocks.{count_free};
 ghost use Rattle.heap_system.specs.Lives.{objects_of, most_units, most_objects};
+ghost use Rattle.heap_system.specs.AtOnce.{MayBegin};
+ghost use Rattle.heap_system.specs.Locals.{begun, is_done};
 ghost use Rattle.heap_system.specs.Machines.{Run};
+ghost use Rattle.heap_system.specs.ThreadMemories.{HasRunOn, MayRun, longest};
 ghost use Rattle.heap_system.specs.InitialHeaps.{opening_heap};
 ghost use Rattle.control_heap.specs.Controls.{ControlOf, CanOpen, HasLeft, Stands, HasAnswered, HasMade, ServedBy, HasBegun, asked, units};
 ghost use Rattle.control_heap.specs.Calls.{MayAnswer};
@@ -29,7 +32,7 @@ use crate::Store;
 use crate::gauges::{allocation_operations, cycle_in, free_in, other_operations};
 use block_store::{Config, OutOfMemory};
 use heap_machine::Words;
-use heap_system::{Local, opening};
+use heap_system::{Local, Turn, opening};
 use never_heap::{Command, Reply};
 use rate_plan::{PlanFault, plan};
 pub use seen::{Seen, Snapshot};
@@ -112,6 +115,7 @@ impl<M: Store> Model for ControlHeap<M> {
 }
 
 // 1 for a command that makes an object, and 0 for any other.
+#[inline(always)]
 fn objects_of(command: Command) -> u64
     ensures { result ≡ objects_of command }
 {
@@ -128,11 +132,107 @@ fn is_first(commands: u64, cycle: u64) -> bool
     commands == 0 && cycle == 1
 }
 
-// Makes the thread's events until its command is done.
-fn serve<M: Store>(memory: &mut M, thread: &mut Local)
-    requires { HasBegun M (record { words = M.shows memory.old; thread = thread.old }) }
-    ensures { ServedBy M.acts M.shows memory.old thread.old memory.new thread.new }
+// Begins a command and makes its first events. One that owes nothing has code of its own, which makes
+// all of them where there is no block to shade.
+#[inline(always)]
+fn begins<M: Store>(memory: &mut M, thread: &mut Local, command: Command) -> Turn
+    requires begins { MayBegin command thread.old }
+    requires begun { HasBegun M
+        (record { words = M.shows memory.old; thread = begun command thread.old }) }
+    ensures { HasRunOn M.acts tt memory.old (begun command thread.old) memory.new thread.new result }
 {
+    use Command::*;
+
+    match command {
+        Set { d, value } => thread.sets(d, value, memory, &()),
+        Nil { d } => thread.nils(d, memory, &()),
+        Mov { d, s } => thread.moves(d, s, memory, &()),
+        Get { d, s, i } => thread.gets(d, s, i, memory, &()),
+        Put { s, i, v } => thread.puts(s, i, v, memory, &()),
+        Len { s } => thread.lens(s, memory, &()),
+        Same { a, b } => thread.sames(a, b, memory, &()),
+        Say { s } => thread.says(s, memory, &()),
+        Swap { s, i, v } => thread.swaps(s, i, v, memory, &()),
+        Cas { s, i, a, v } => thread.cases(s, i, a, v, memory, &()),
+        New { .. } | Arr { .. } | Idle { .. } => begins_any(memory, thread, command),
+    }
+}
+
+// The same of any command.
+#[inline(never)]
+fn begins_any<M: Store>(memory: &mut M, thread: &mut Local, command: Command) -> Turn
+    requires begins { MayBegin command thread.old }
+    requires begun { HasBegun M
+        (record { words = M.shows memory.old; thread = begun command thread.old }) }
+    ensures { HasRunOn M.acts tt memory.old (begun command thread.old) memory.new thread.new result }
+{
+    thread.begin(command);
+    goes_on(memory, thread)
+}
+
+// Makes events of a thread that is not done. It keeps them out of the code of what owes nothing.
+#[inline(never)]
+fn goes_on<M: Store>(memory: &mut M, thread: &mut Local) -> Turn
+    requires open { is_done thread.old ≡ false }
+    requires may { MayRun M.may M.acts longest memory.old tt thread.old }
+    ensures { HasRunOn M.acts tt memory.old thread.old memory.new thread.new result }
+{
+    thread.run(memory, &())
+}
+
+// Whether the command owes nothing and has code of its own.
+fn is_short(command: &Command) -> bool {
+    use Command::*;
+
+    match command {
+        New { .. } | Arr { .. } | Idle { .. } => false,
+        Set { .. } | Nil { .. } | Mov { .. } | Get { .. } | Put { .. } => true,
+        Swap { .. } | Cas { .. } | Len { .. } | Same { .. } | Say { .. } => true,
+    }
+}
+
+// Begins a command, and makes the thread's events until that is done.
+#[inline(always)]
+fn serve<M: Store>(memory: &mut M, thread: &mut Local, command: Command)
+    requires begins { MayBegin command thread.old }
+    requires begun { HasBegun M
+        (record { words = M.shows memory.old; thread = begun command thread.old }) }
+    ensures { ServedBy M.acts M.shows memory.old (begun command thread.old) memory.new thread.new }
+{
+    if is_short(&command) {
+        serve_short(memory, thread, command);
+    } else {
+        serve_any(memory, thread, command);
+    }
+}
+
+// The same of a command that has code of its own.
+#[inline(always)]
+fn serve_short<M: Store>(memory: &mut M, thread: &mut Local, command: Command)
+    requires begins { MayBegin command thread.old }
+    requires begun { HasBegun M
+        (record { words = M.shows memory.old; thread = begun command thread.old }) }
+    ensures { ServedBy M.acts M.shows memory.old (begun command thread.old) memory.new thread.new }
+{
+    begins(memory, thread, command);
+    for _run in 0..u64::MAX {
+        if thread.done() {
+            return;
+        }
+        goes_on(memory, thread);
+    }
+    unreachable!();
+}
+
+// Makes the thread's events until its command is done.
+#[inline(never)]
+fn serve_any<M: Store>(memory: &mut M, thread: &mut Local, command: Command)
+    requires begins { MayBegin command thread.old }
+    requires begun { HasBegun M
+        (record { words = M.shows memory.old; thread = begun command thread.old }) }
+    ensures { ServedBy M.acts M.shows memory.old (begun command thread.old) memory.new thread.new }
+{
+    thread.begin(command);
     for _run in 0..u64::MAX {
         if thread.done() {
             return;
@@ -312,6 +412,7 @@ impl<M: Store> ControlHeap<M> {
 
     /// Whether what is left of the life is enough for a command: for its units, for its object, and
     /// for one more command. The command is in bounds.
+    #[inline(always)]
     pub fn has_left(&self, command: &Command) -> bool
         requires { IsCommandInBounds self.now.config command.now }
         ensures { IsTrue result ↔ HasLeft self.now command.now }
@@ -324,6 +425,7 @@ impl<M: Store> ControlHeap<M> {
 
     // Whether the life has room for so many units. Those of the commands before are added up only
     // where some are owed.
+    #[inline(always)]
     fn has_units(&self, owed: u64) -> bool
         requires { owed ≤ most_units }
         ensures { IsTrue result ↔ (units self.now + owed ≤ most_units) }
@@ -335,6 +437,7 @@ impl<M: Store> ControlHeap<M> {
     /// it. Whichever run the heap stood for, it then stands for that run followed by this command
     /// with this reply. The operations that the command takes lead from the memory before to that
     /// after.
+    #[inline(always)]
     pub fn request(&mut self, command: Command) -> Reply
         requires bounds { IsCommandInBounds self.old.config command }
         requires left { HasLeft self.old command }
@@ -345,8 +448,7 @@ impl<M: Store> ControlHeap<M> {
         ensures made { HasMade M.acts self.old command self.new }
         ensures fits { MayAnswer command result }
     {
-        self.thread.begin(command);
-        serve(&mut self.memory, &mut self.thread);
+        serve(&mut self.memory, &mut self.thread, command);
         self.count += 1;
         self.objects += objects_of(command);
         self.thread.log()[0].reply
@@ -358,6 +460,7 @@ impl<M: Store> ControlHeap<M> {
     ///
     /// `OutOfBounds` exactly where the command is not in bounds, and `NoLifeLeft` exactly where it
     /// is in bounds and the life has no room for it. The heap is then unchanged.
+    #[inline(always)]
     pub fn ask(&mut self, command: Command) -> Result<Reply, Refused>
         ensures config { self.new.config ≡ self.old.config }
         ensures can { OnOk result

@@ -14,6 +14,7 @@ use never_heap::Reply;
 /// # Errors
 ///
 /// The fault of such a reply, or of the refusal.
+#[inline(always)]
 pub fn outcome_of(asked: Result<Reply, Refused>) -> Result<Reply, Fault>
     ensures { result ≡ outcome_of asked }
 {

@@ -23,7 +23,7 @@ use Rattle.heap_machine.specs.declared.pass.Pass.{Pass}
 use Rattle.heap_machine.specs.declared.gate.GateRow.{GateRow}
 use Rattle.heap_machine.specs.declared.gate.GateRow.TheVariants as gates
 use Rattle.heap_machine.specs.declared.Step.TheVariants as steps
-use Rattle.heap_machine.specs.Gates.{gate_entered}
+use Rattle.heap_machine.specs.Gates.{SeenOpen, gate_entered}
 use Rattle.heap_machine.specs.Memories.{Acts, ReadsOnly}
 use Rattle.heap_machine.specs.Operations.{CompareExchange, op_at, op_place, place_of}
 use Rattle.heap_machine.specs.Readings.{IsPhaseWord}
@@ -31,7 +31,7 @@ use Rattle.heap_machine.proofs.HeapAfter.{op_place-at}
 use Rattle.work_account.specs.Accounts.{entered}
 use Rattle.heap_system.specs.declared.Turn.{Turn}
 use Rattle.heap_system.specs.declared.Turn.TheVariants.{Went, Waited}
-use Rattle.heap_system.specs.AtOnce.{GoesIn, HasRunUpTo, OwesNothing, come_to, entering_by, if_answered, inside_by, serving_at}
+use Rattle.heap_system.specs.AtOnce.{GoesIn, HasGoneIn, HasRunUpTo, OwesNothing, come_to, entering_by, from_gate, if_answered, inside_by, serving_at}
 use Rattle.heap_system.specs.ThreadMemories.{HasRunOn, IsGoing, MakesTheNextEvent, MayRun, TellsLast, longest}
 use Rattle.heap_system.specs.Locals.{Errand, IsLocal, LocalState, LocalReads, answered, balance_in, balance_paid, command_of, entries_of, errand_of, first_part, if_entered, if_replied, is_done, local_got, made_got, op_wanted, owed, part_step, pass_by, pass_got, spent_got, turn_of}
 use Rattle.heap_system.specs.Parts.{Build, Enter, Mark, Rest, Serve, Sweep}
@@ -355,6 +355,21 @@ module _ {M S : Type 0} (may : M → S → Op → Type 0) (acts : Acts M S) (s :
           ap (λ b. turn_of (cond b steps.Over steps.Waited)) (sym wins) in
           (run_first acts s 62 m T w o by tried_reads trying went (inside_by l p) went_in after new turn run).0
 
+      pub gone_in : SeenOpen seen × (1 ≤ cycle_of seen) → HasGoneIn may acts s (from_gate acts s m l seen) l o p
+      gone_in good =
+          let cycle : p.cycle ≡ cycle_of seen = ap (λ (q : Pass). q.cycle) mine in
+          let last = good.0.word.cycle in
+          let first = good.1 in
+          let entered : l.balance.cycle ≤ cycle_of w = tried_reads.1 in
+          let same_word : cycle_of w ≡ cycle_of seen = ap cycle_of won in
+          record {
+            cycle = (omega (arith, cycle, first), omega (arith, cycle, last));
+            later = omega (arith, cycle, entered, same_word);
+            mine = (ap (λ (q : Pass). q.thread) mine, ap (λ (q : Pass). q.threads) mine);
+            may_on = inside_may;
+            leads = inside_run;
+          }
+
     pub lost_run : (w ≡ seen → ⊥) → (new : LocalState) → new ≡ record l { part = Enter gates.Look }
         → HasRunUpTo 63 acts s m T o new Waited
     lost_run lost new is =
@@ -425,3 +440,34 @@ module _ {M S : Type 0} (may : M → S → Op → Type 0) (acts : Acts M S) (s :
         let all = run_last acts s 63 m R w o looked reads looking new got Waited
         (ap (λ b. turn_of (cond b steps.Waited steps.Went)) (sym closed)) in
         subst (λ (y : LocalState). HasRunOn acts s m y o new Waited) (sym at_rest) (all.0.0, all.1, all.0.1)
+
+-- ---- a thread that is alone, and went in
+
+-- what leads on from one moment leads on from an earlier one
+pub gone_earlier : {M S : Type 0} (may : M → S → Op → Type 0) (acts : Acts M S) (s : S)
+    (on from : M → LocalState → Turn → Type 0)
+    → ((after : M) (new : LocalState) (turn : Turn) → on after new turn → from after new turn)
+    → (l : LocalState) (o : M) (p : Pass) → HasGoneIn may acts s on l o p → HasGoneIn may acts s from l o p
+gone_earlier may acts s on from back l o p is = record {
+  cycle = is.cycle;
+  later = is.later;
+  mine = is.mine;
+  may_on = is.may_on;
+  leads = λ after new turn run. back after new turn (is.leads after new turn run);
+}
+
+-- from the first row of a command that owes nothing
+module _ {M S : Type 0} (may : M → S → Op → Type 0) (acts : Acts M S) (s : S)
+    (on : M → LocalState → Turn → Type 0) (l : LocalState) (o : M) (p : Pass)
+    (is : HasGoneIn may acts s on l o p) (k : Command) (r : FieldRow) (owes : OwesNothing k r)
+    (goes : GoesIn l p k) (j : ℕ) (few : j ≤ 62) where
+  pub row_may : MayRun may acts j o s (come_to l p r)
+  row_may = may_fewer may acts j 62 few o s (come_to l p r)
+      (subst (λ (y : LocalState). MayRun may acts 62 o s y) (inside_is l p k r owes goes) is.may_on)
+
+  pub row_run : (after : M) (new : LocalState) (turn : Turn)
+      → HasRunUpTo j acts s o (come_to l p r) after new turn → on after new turn
+  row_run after new turn run =
+      is.leads after new turn
+      (subst (λ (y : LocalState). HasRunUpTo 62 acts s o y after new turn)
+      (sym (inside_is l p k r owes goes)) (run.0, omega (arith, run.1, few)))

@@ -1,9 +1,10 @@
 -- A command that owes nothing, done from the look at the gate to the way out while its row is in
 -- hand: the thread as it is at each row.
-use Rattle.std.specs.Prelude.{ℕ, ◌<◌, ◌≤◌, ◌≡◌, Option, Some, None, length}
+use Rattle.std.specs.Prelude.{ℕ, ◌+◌, ◌-◌, ◌<◌, ◌≤◌, ◌^◌, ◌≡◌, Option, Some, None, length}
 use Rattle.never_heap.specs.declared.Command.{Command}
 use Rattle.never_heap.specs.declared.Reply.{Reply}
-use Rattle.never_heap.specs.RightWork.{units_told}
+use Rattle.never_heap.specs.Bounds.{IsCommandInBounds}
+use Rattle.never_heap.specs.RightWork.{units_owed, units_told}
 use Rattle.never_heap.specs.Steps.{blocks_of}
 use Rattle.block_store.specs.declared.Width.{Width}
 use Rattle.barrier_steps.specs.declared.rows.FieldRow.{FieldRow}
@@ -13,9 +14,12 @@ use Rattle.heap_machine.specs.Passes.{IsPass}
 use Rattle.heap_machine.specs.declared.pass.Pass.{Pass}
 use Rattle.heap_machine.specs.declared.gate.GateRow.{GateRow}
 use Rattle.work_account.specs.Accounts.{entered}
+use Rattle.heap_machine.specs.declared.op.Op.{Op}
 use Rattle.heap_system.specs.declared.Turn.{Turn}
-use Rattle.heap_system.specs.ThreadMemories.{HasRun}
-use Rattle.heap_system.specs.Locals.{LocalState, answered, command_of, errand_of, first_part, owed}
+use Rattle.heap_system.specs.declared.Turn.TheVariants.{Waited}
+use Rattle.heap_system.specs.ThreadMemories.{HasRun, HasRunOn, MayRun}
+use Rattle.heap_system.specs.Lives.{most_objects, most_units, objects_of}
+use Rattle.heap_system.specs.Locals.{LocalState, answered, command_of, errand_of, first_part, owed, works}
 use Rattle.heap_system.specs.Parts.{Rest, Enter, Serve}
 
 -- the thread that has seen this phase word, and goes in
@@ -71,3 +75,38 @@ abbrev pub HasRunUpTo : {M S : Type 0} → ℕ → Acts M S → S → M → Loca
     → Type 0
 HasRunUpTo most acts s before old after new turn =
     (run : HasRun acts s before old after new turn) × (length run.words ≤ most)
+
+-- A thread that began so has gone in, in this pass. So many events may follow inside, and with those
+-- before them they lead on as `on` says.
+pub record HasGoneIn {M S : Type 0} (may : M → S → Op → Type 0) (acts : Acts M S) (s : S)
+    (on : M → LocalState → Turn → Type 0) (l : LocalState) (now : M) (p : Pass) : Type 0 where
+  pub cycle : (1 ≤ p.cycle) × (p.cycle ≤ 2 ^ 54 - 2)
+  pub later : l.balance.cycle ≤ p.cycle
+  pub mine : (p.thread ≡ l.thread) × (p.threads ≡ l.config.threads)
+  pub may_on : MayRun may acts 62 now s (inside_by l p)
+  pub leads : (after : M) (new : LocalState) (turn : Turn)
+      → HasRunUpTo 62 acts s now (inside_by l p) after new turn → on after new turn
+
+-- it has not gone in, and looks at the gate again
+abbrev pub HasStayedOut : {M : Type 0} → (M → LocalState → Turn → Type 0) → LocalState → M → Type 0
+HasStayedOut on l now = on now (record l { part = Enter GateRow.Look }) Waited
+
+-- from rest, and from where it has seen this phase word
+abbrev pub from_rest : {M S : Type 0} → Acts M S → S → M → LocalState → M → LocalState → Turn
+    → Type 0
+from_rest acts s before l after new turn = HasRunOn acts s before l after new turn
+
+abbrev pub from_gate : {M S : Type 0} → Acts M S → S → M → LocalState → ℕ → M → LocalState → Turn
+    → Type 0
+from_gate acts s before l seen after new turn =
+    HasRunUpTo 63 acts s before (entering_by l seen) after new turn
+
+-- A thread that is alone and at rest, and has one command, may begin this one in its place.
+pub record MayBegin (k : Command) (l : LocalState) : Type 0 where
+  pub one : length l.trace ≡ 1
+  pub rest : l.part ≡ Rest
+  pub settled : l.spent ≡ 0
+  pub alone : l.config.threads ≡ 1
+  pub bounds : IsCommandInBounds l.config k
+  pub units : l.before + works l.log + units_owed l.config.width l.rate k ≤ most_units
+  pub objects : l.made + objects_of k ≤ most_objects

@@ -2,6 +2,7 @@
 
 mod at_once;
 mod events;
+mod lone;
 mod runs;
 
 ghost use Rattle.std.specs.Prelude.{◌≡◌, ◌≤◌, ◌<◌, ◌+◌, ◌^◌, [], true, length, IfOk};

@@ -83,6 +83,7 @@ impl Command {
     /// made is at most 65,535 long and takes no more blocks than one object may, and an `Idle`
     /// makes at most `MOST_UNITS`. `Swap`, `Cas` and `Idle` are commands of version 2 alone, whose
     /// blocks are wide.
+    #[inline(always)]
     #[tactic(auto, using(crate::proofs::CommandBounds::length_in_range, crate::proofs::CommandBounds::bounds_are))]
     pub fn in_bounds(&self, c: &Config) -> bool
         ensures { IsTrue result ↔ IsCommandInBounds c.now self.now }
@@ -94,6 +95,7 @@ impl Command {
     }
 
     /// Whether each operand is in its range.
+    #[inline(always)]
     fn is_in_range(&self) -> bool
         ensures { IsTrue result ↔ IsCommandInRange self.now }
     {

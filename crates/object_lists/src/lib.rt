@@ -24,13 +24,16 @@ pub fn blocks_of_record(width: Width, f: u32) -> u32
 
 /// Where field `i` of a record stands: the number of links to follow from the first block, which is
 /// the ordinal of the field's block, and the payload there.
+#[inline(always)]
 pub fn walk_of(width: Width, i: u32) -> (u32, u32)
     ensures pair { result ≡ record_slot width i }
     ensures way { (f : ℕ) → i < f
         → IsWay (record_part width f) i result.0 result.1 (λ l. l) (λ l. 0) }
 {
     match width {
+        Width::Four if i < 3 => (0, 1 + i),
         Width::Four => (i / 3, 1 + i % 3),
+        Width::Eight if i < 7 => (0, 1 + i),
         Width::Eight => (i / 7, 1 + i % 7),
     }
 }

@@ -48,7 +48,7 @@ impl Local {
 
     // That a thread at rest which is not done has a command. It does nothing.
     #[inline(always)]
-    fn has_a_command(&self)
+    pub(super) fn has_a_command(&self)
         requires rest { self.now.part ≡ Rest }
         requires open { is_done self.now ≡ false }
         ensures { length self.now.log < length self.now.trace }
@@ -58,14 +58,14 @@ impl Local {
 
     // The places of the heap's words.
     #[inline(always)]
-    fn places(&self) -> Places
+    pub(super) fn places(&self) -> Places
         ensures { result ≡ self.now.config }
     {
         Places::new(&self.config)
     }
 
     // The thread stays outside.
-    fn looks_again(&mut self)
+    pub(super) fn looks_again(&mut self)
         requires part { self.old.part ≡ Rest }
         requires low { length self.old.log < length self.old.trace }
         ensures { self.new ≡ record self.old { part = Part.Enter GateRow.Look } }
@@ -136,7 +136,7 @@ impl Local {
 
     // That the command may be done from its first row on. It does nothing.
     #[inline(always)]
-    fn goes_by(&self, pass: Pass, command: Command, row: FieldRow)
+    pub(super) fn goes_by(&self, pass: Pass, command: Command, row: FieldRow)
         requires rest { self.now.part ≡ Rest }
         requires low { length self.now.log < length self.now.trace }
         requires cycle { (1 ≤ pass.cycle) × (pass.cycle ≤ 2 ^ 54 - 2) }
@@ -214,7 +214,7 @@ impl Local {
 
     // From the first load of `same`.
     #[inline(always)]
-    fn both<M: Memory>(
+    pub(super) fn both<M: Memory>(
         &mut self,
         pass: Pass,
         command: Command,
@@ -242,7 +242,7 @@ impl Local {
 
     // From the load of any other register.
     #[inline(always)]
-    fn register<M: Memory>(
+    pub(super) fn register<M: Memory>(
         &mut self,
         pass: Pass,
         command: Command,
@@ -295,7 +295,7 @@ impl Local {
 
     // From the store of `set` and `nil`.
     #[inline(always)]
-    fn constant<M: Memory>(
+    pub(super) fn constant<M: Memory>(
         &mut self,
         pass: Pass,
         command: Command,
@@ -347,7 +347,7 @@ impl Local {
 
     // From the load of the field of `get`.
     #[inline(always)]
-    fn field<M: Memory>(
+    pub(super) fn field<M: Memory>(
         &mut self,
         pass: Pass,
         command: Command,
@@ -374,7 +374,7 @@ impl Local {
 
     // From the load of the owner of what the field refers to.
     #[inline(always)]
-    fn owner<M: Memory>(
+    pub(super) fn owner<M: Memory>(
         &mut self,
         pass: Pass,
         command: Command,
@@ -400,7 +400,7 @@ impl Local {
 
     // From the store of a word that was loaded.
     #[inline(always)]
-    fn store<M: Memory>(
+    pub(super) fn store<M: Memory>(
         &mut self,
         pass: Pass,
         command: Command,
@@ -424,7 +424,7 @@ impl Local {
 
     // At a row at which the command is over, or another way goes on.
     #[inline(always)]
-    fn ends<M: Memory>(
+    pub(super) fn ends<M: Memory>(
         &mut self,
         pass: Pass,
         command: Command,

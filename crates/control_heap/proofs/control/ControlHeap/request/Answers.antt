@@ -7,22 +7,16 @@ use Rattle.never_heap.specs.Bounds.{IsCommandInBounds}
 use Rattle.heap_machine.specs.Memories.{Acts}
 use Rattle.heap_system.specs.ThreadMemories.{Ran}
 use Rattle.heap_system.specs.Locals.{LocalState, begun}
+use Rattle.heap_system.proofs.TurnFacts.{rest_is}
+use Rattle.block_store.specs.declared.Config.{Config}
 use Rattle.heap_system.specs.Machines.{Run}
 use Rattle.never_heap.specs.declared.Reply.{Reply}
 use Rattle.heap_system.specs.Lives.{objects_of}
 use Rattle.control_heap.specs.Controls.{ControlOf, Stands, HasAnswered, HasLeft, HasMade, Machine, Served, asked, given_to}
-use Rattle.control_heap.proofs.CommandBound.{begin_units, begin_objects, config_is, unspent, later, logged, more_asked, stands_after}
+use Rattle.control_heap.proofs.CommandBound.{rests, begin_units, begin_objects, config_is, unspent, later, logged, more_asked, stands_after}
 use Rattle.control_heap.proofs.Fitting.{may_now}
 use Rattle.control_heap.proofs.ServeLoop.{all_answered, all_made, behind_it}
 use Rattle.control_heap.proofs.control.ControlHeap.request.Goals as goal
-
-pub begin-requires-clause-settled : goal.begin-requires-clause-settled
-begin-requires-clause-settled g c = unspent (record { config = c.self.inside.config; memory = c.self.inside.memory; words = g.M.Store.shows c.self.inside.memory; thread = c.self.inside.thread; count = c.self.inside.count; objects = c.self.inside.objects }) c.self.invariant.0 c.self.invariant.1
-
-pub begin-requires-clause-bounds : goal.begin-requires-clause-bounds
-begin-requires-clause-bounds g c =
-    let h : ControlOf g.row.M.Denot = record { config = c.self.inside.config; memory = c.self.inside.memory; words = g.M.Store.shows c.self.inside.memory; thread = c.self.inside.thread; count = c.self.inside.count; objects = c.self.inside.objects } in
-    subst (λ y. IsCommandInBounds y c.args.command) (sym (config_is h c.self.invariant.0 c.self.invariant.1)) (subst (λ (x : ControlOf _). IsCommandInBounds x.config c.args.command) (sym c.self.view_is) c.requires.bounds)
 
 -- what was served
 fits : {M : Type 0} (h now : ControlOf M) (k : Command) → h ≡ now → IsCommandInBounds now.config k → IsCommandInBounds h.config k
@@ -46,7 +40,7 @@ bounds-log-0 g c =
     let h : ControlOf g.row.M.Denot = record { config = c.self.inside.config; memory = c.self.inside.memory; words = g.M.Store.shows c.self.inside.memory; thread = c.self.inside.thread; count = c.self.inside.count; objects = c.self.inside.objects } in
     let n = c.serve.new.memory in
     let z : Machine = record { words = g.M.Store.shows n; thread = c.serve.new.thread } in
-    omega (arith, logged h c.self.invariant.0 c.self.invariant.1 c.args.command (fits h c.args.self.now c.args.command c.self.view_is c.requires.bounds) (room h c.args.self.now c.args.command c.self.view_is c.requires.left) z n (served h c.args.command c.begin.new.self z c.begin.ensures c.serve.ensures.served), ap length c.log.ensures)
+    omega (arith, logged h c.self.invariant.0 c.self.invariant.1 c.args.command (fits h c.args.self.now c.args.command c.self.view_is c.requires.bounds) (room h c.args.self.now c.args.command c.self.view_is c.requires.left) z n (served h c.args.command (begun c.args.command h.thread) z refl c.serve.ensures.served), ap length c.log.ensures)
 
 pub invariant_of-self : goal.invariant_of-self
 invariant_of-self g c =
@@ -56,7 +50,7 @@ invariant_of-self g c =
     let f = fits h c.args.self.now c.args.command c.self.view_is c.requires.bounds in
     let l = room h c.args.self.now c.args.command c.self.view_is c.requires.left in (
       later h c.self.invariant.0 c.self.invariant.1 c.args.command f l,
-      subst (λ x. Stands (record { config = h.config; memory = n; words = z.words; thread = z.thread; count = h.count + 1; objects = h.objects + x }) (later h c.self.invariant.0 c.self.invariant.1 c.args.command f l)) (sym c.objects_of.ensures) (stands_after h c.self.invariant.0 c.self.invariant.1 c.args.command f l z n (served h c.args.command c.begin.new.self z c.begin.ensures c.serve.ensures.served)),
+      subst (λ x. Stands (record { config = h.config; memory = n; words = z.words; thread = z.thread; count = h.count + 1; objects = h.objects + x }) (later h c.self.invariant.0 c.self.invariant.1 c.args.command f l)) (sym c.objects_of.ensures) (stands_after h c.self.invariant.0 c.self.invariant.1 c.args.command f l z n (served h c.args.command (begun c.args.command h.thread) z refl c.serve.ensures.served)),
     )
 
 pub returns-clause-one_more : goal.returns-clause-one_more
@@ -64,7 +58,7 @@ returns-clause-one_more g c =
     let h : ControlOf g.row.M.Denot = record { config = c.self.inside.config; memory = c.self.inside.memory; words = g.M.Store.shows c.self.inside.memory; thread = c.self.inside.thread; count = c.self.inside.count; objects = c.self.inside.objects } in
     let n = c.serve.new.memory in
     let z : Machine = record { words = g.M.Store.shows n; thread = c.serve.new.thread } in
-    more_asked h c.self.invariant.0 c.self.invariant.1 c.args.command (fits h c.args.self.now c.args.command c.self.view_is c.requires.bounds) (room h c.args.self.now c.args.command c.self.view_is c.requires.left) z n (served h c.args.command c.begin.new.self z c.begin.ensures c.serve.ensures.served)
+    more_asked h c.self.invariant.0 c.self.invariant.1 c.args.command (fits h c.args.self.now c.args.command c.self.view_is c.requires.bounds) (room h c.args.self.now c.args.command c.self.view_is c.requires.left) z n (served h c.args.command (begun c.args.command h.thread) z refl c.serve.ensures.served)
     ∙ ap (λ x. asked x + 1) c.self.view_is
 
 -- stands for no entry
@@ -88,17 +82,7 @@ returns-clause-answered g c =
     let n = c.serve.new.memory in
     let z : Machine = record { words = g.M.Store.shows n; thread = c.serve.new.thread } in
     answered_so c.args.self.now h c.args.command _ z n c.objects_of.result c.objects_of.ensures
-    (all_answered h c.args.self.now c.self.view_is c.args.command z n (served h c.args.command c.begin.new.self z c.begin.ensures c.serve.ensures.served) none _ (ap (λ (es : List Entry). (get_or es 0 none).reply) c.log.ensures) c.requires.bounds c.requires.left)
-
-pub begin-requires-clause-units : goal.begin-requires-clause-units
-begin-requires-clause-units g c =
-    let h : ControlOf g.row.M.Denot = record { config = c.self.inside.config; memory = c.self.inside.memory; words = g.M.Store.shows c.self.inside.memory; thread = c.self.inside.thread; count = c.self.inside.count; objects = c.self.inside.objects } in
-    begin_units h c.self.invariant.0 c.self.invariant.1 c.args.command (fits h c.args.self.now c.args.command c.self.view_is c.requires.bounds) (room h c.args.self.now c.args.command c.self.view_is c.requires.left)
-
-pub begin-requires-clause-objects : goal.begin-requires-clause-objects
-begin-requires-clause-objects g c =
-    let h : ControlOf g.row.M.Denot = record { config = c.self.inside.config; memory = c.self.inside.memory; words = g.M.Store.shows c.self.inside.memory; thread = c.self.inside.thread; count = c.self.inside.count; objects = c.self.inside.objects } in
-    begin_objects h c.self.invariant.0 c.self.invariant.1 c.args.command (fits h c.args.self.now c.args.command c.self.view_is c.requires.bounds) (room h c.args.self.now c.args.command c.self.view_is c.requires.left)
+    (all_answered h c.args.self.now c.self.view_is c.args.command z n (served h c.args.command (begun c.args.command h.thread) z refl c.serve.ensures.served) none _ (ap (λ (es : List Entry). (get_or es 0 none).reply) c.log.ensures) c.requires.bounds c.requires.left)
 
 pub returns-clause-made : goal.returns-clause-made
 returns-clause-made g c =
@@ -107,20 +91,7 @@ returns-clause-made g c =
     let z : Machine = record { words = g.M.Store.shows n; thread = c.serve.new.thread } in
     let is = c.serve.ensures in
     counted_so (λ x. HasMade g.M.Memory.acts c.args.self.now c.args.command x) h c.args.command z n c.objects_of.result c.objects_of.ensures
-    (made_from h c.args.self.now c.self.view_is c.args.command c.begin.new.self z n c.begin.ensures c.self.invariant.0 c.self.invariant.1 g.M.Memory.acts is.words is.ran is.served is.counted c.requires.bounds c.requires.left)
-
-pub serve-requires : goal.serve-requires
-serve-requires g c =
-    let h : ControlOf g.row.M.Denot = record { config = c.self.inside.config; memory = c.self.inside.memory; words = g.M.Store.shows c.self.inside.memory; thread = c.self.inside.thread; count = c.self.inside.count; objects = c.self.inside.objects } in
-    record {
-      heap = h;
-      command = c.args.command;
-      run = c.self.invariant.0;
-      stood = c.self.invariant.1;
-      bounds = fits h c.args.self.now c.args.command c.self.view_is c.requires.bounds;
-      left = room h c.args.self.now c.args.command c.self.view_is c.requires.left;
-      same = λ i. record { words = h.words; thread = c.begin.ensures i };
-    }
+    (made_from h c.args.self.now c.self.view_is c.args.command (begun c.args.command h.thread) z n refl c.self.invariant.0 c.self.invariant.1 g.M.Memory.acts is.words is.ran is.served is.counted c.requires.bounds c.requires.left)
 
 pub returns-clause-fits : goal.returns-clause-fits
 returns-clause-fits g c =
@@ -128,4 +99,31 @@ returns-clause-fits g c =
     let n = c.serve.new.memory in
     let z : Machine = record { words = g.M.Store.shows n; thread = c.serve.new.thread } in
     may_now h c.args.self.now c.self.view_is c.self.invariant.0 c.self.invariant.1 (behind_it h c.args.command z n) c.args.command _ refl
-    (all_answered h c.args.self.now c.self.view_is c.args.command z n (served h c.args.command c.begin.new.self z c.begin.ensures c.serve.ensures.served) none _ (ap (λ (es : List Entry). (get_or es 0 none).reply) c.log.ensures) c.requires.bounds c.requires.left)
+    (all_answered h c.args.self.now c.self.view_is c.args.command z n (served h c.args.command (begun c.args.command h.thread) z refl c.serve.ensures.served) none _ (ap (λ (es : List Entry). (get_or es 0 none).reply) c.log.ensures) c.requires.bounds c.requires.left)
+
+pub serve-requires : goal.serve-requires
+serve-requires g c =
+    let h : ControlOf g.row.M.Denot = record { config = c.self.inside.config; memory = c.self.inside.memory; words = g.M.Store.shows c.self.inside.memory; thread = c.self.inside.thread; count = c.self.inside.count; objects = c.self.inside.objects } in
+    let st = c.self.invariant.1 in
+    let f = fits h c.args.self.now c.args.command c.self.view_is c.requires.bounds in
+    let l = room h c.args.self.now c.args.command c.self.view_is c.requires.left in
+    record {
+      begins = record {
+        one = st.one;
+        rest = rest_is h.thread.part (rests h c.self.invariant.0 st);
+        settled = unspent h c.self.invariant.0 st;
+        alone = ap (λ (x : Config). x.threads) (config_is h c.self.invariant.0 st) ∙ st.single;
+        bounds = subst (λ y. IsCommandInBounds y c.args.command) (sym (config_is h c.self.invariant.0 st)) f;
+        units = begin_units h c.self.invariant.0 st c.args.command f l;
+        objects = begin_objects h c.self.invariant.0 st c.args.command f l;
+      };
+      begun = record {
+        heap = h;
+        command = c.args.command;
+        run = c.self.invariant.0;
+        stood = st;
+        bounds = f;
+        left = l;
+        same = refl;
+      };
+    }

@@ -1,0 +1,36 @@
+use Rattle.std.proofs.Common.{refl, sym, ◌∙◌, arith}
+use Rattle.barrier_steps.specs.declared.rows.FieldRow.{FieldRow}
+use Rattle.heap_system.proofs.AtOnce.{may_on, run_on}
+use Rattle.heap_system.proofs.local.Local.shape_of_get.Goals as goal
+
+pub field-requires-clause-may : goal.field-requires-clause-may
+field-requires-clause-may g c =
+    may_on g.M.Memory.may g.M.Memory.acts c.args.shared.now c.args.self.now c.args.pass c.args.places.now
+    c.requires.places c.args.command c.requires.goes.command (FieldRow.LoadShape c.args.block) c.requires.fits refl 4
+    c.args.memory.now c.requires.may
+    c.loads_shape.ensures.acted.0 c.loads_shape.new.memory c.loads_shape.ensures.acted.1 (FieldRow.LoadField c.in-LoadField.way)
+    (sym c.in-LoadField.is ∙ c.loads_shape.ensures.acted.2) 4 (omega arith)
+
+pub returns-in-LoadField : goal.returns-in-LoadField
+returns-in-LoadField g c =
+    run_on g.M.Memory.may g.M.Memory.acts c.args.shared.now c.args.self.now c.args.pass c.args.places.now
+    c.requires.places c.args.command c.requires.goes.command (FieldRow.LoadShape c.args.block) c.requires.fits refl 4
+    c.args.memory.now c.requires.may
+    c.loads_shape.ensures.acted.0 c.loads_shape.new.memory c.loads_shape.ensures.acted.1 (FieldRow.LoadField c.in-LoadField.way)
+    (sym c.in-LoadField.is ∙ c.loads_shape.ensures.acted.2) 4 (omega arith) c.field.new.memory c.field.new.self c.field.result c.field.ensures
+
+pub ends-requires-clause-may : goal.ends-requires-clause-may
+ends-requires-clause-may g c =
+    may_on g.M.Memory.may g.M.Memory.acts c.args.shared.now c.args.self.now c.args.pass c.args.places.now
+    c.requires.places c.args.command c.requires.goes.command (FieldRow.LoadShape c.args.block) c.requires.fits refl 4
+    c.args.memory.now c.requires.may
+    c.loads_shape.ensures.acted.0 c.loads_shape.new.memory c.loads_shape.ensures.acted.1 (c.loads_shape.result)
+    (c.loads_shape.ensures.acted.2) 1 (omega arith)
+
+pub returns-in_default : goal.returns-in_default
+returns-in_default g c =
+    run_on g.M.Memory.may g.M.Memory.acts c.args.shared.now c.args.self.now c.args.pass c.args.places.now
+    c.requires.places c.args.command c.requires.goes.command (FieldRow.LoadShape c.args.block) c.requires.fits refl 4
+    c.args.memory.now c.requires.may
+    c.loads_shape.ensures.acted.0 c.loads_shape.new.memory c.loads_shape.ensures.acted.1 (c.loads_shape.result)
+    (c.loads_shape.ensures.acted.2) 1 (omega arith) c.ends.new.memory c.ends.new.self c.ends.result c.ends.ensures

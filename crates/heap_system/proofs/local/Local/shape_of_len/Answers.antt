@@ -1,0 +1,20 @@
+use Rattle.std.proofs.Common.{refl, arith}
+use Rattle.barrier_steps.specs.declared.rows.FieldRow.{FieldRow}
+use Rattle.heap_system.proofs.AtOnce.{may_on, run_on}
+use Rattle.heap_system.proofs.local.Local.shape_of_len.Goals as goal
+
+pub ends-requires-clause-may : goal.ends-requires-clause-may
+ends-requires-clause-may g c =
+    may_on g.M.Memory.may g.M.Memory.acts c.args.shared.now c.args.self.now c.args.pass c.args.places.now
+    c.requires.places c.args.command c.requires.goes.command (FieldRow.LoadShape c.args.block) c.requires.fits refl 1
+    c.args.memory.now c.requires.may
+    c.loads_shape-row.ensures.acted.0 c.loads_shape-row.new.memory c.loads_shape-row.ensures.acted.1 (c.loads_shape-row.result)
+    (c.loads_shape-row.ensures.acted.2) 1 (omega arith)
+
+pub returns : goal.returns
+returns g c =
+    run_on g.M.Memory.may g.M.Memory.acts c.args.shared.now c.args.self.now c.args.pass c.args.places.now
+    c.requires.places c.args.command c.requires.goes.command (FieldRow.LoadShape c.args.block) c.requires.fits refl 1
+    c.args.memory.now c.requires.may
+    c.loads_shape-row.ensures.acted.0 c.loads_shape-row.new.memory c.loads_shape-row.ensures.acted.1 (c.loads_shape-row.result)
+    (c.loads_shape-row.ensures.acted.2) 1 (omega arith) c.ends.new.memory c.ends.new.self c.ends.result c.ends.ensures

@@ -1,0 +1,37 @@
+use Rattle.std.proofs.Common.{refl, sym, ◌∙◌, arith}
+use Rattle.barrier_steps.specs.declared.rows.FieldRow.{FieldRow}
+use Rattle.barrier_steps.specs.declared.rows.Purpose.{Purpose}
+use Rattle.heap_system.proofs.AtOnce.{may_on, run_on}
+use Rattle.heap_system.proofs.local.Local.shown.Goals as goal
+
+pub owner-requires-clause-may : goal.owner-requires-clause-may
+owner-requires-clause-may g c =
+    may_on g.M.Memory.may g.M.Memory.acts c.args.shared.now c.args.self.now c.args.pass c.args.places.now
+    c.requires.places c.args.command c.requires.goes.command (FieldRow.LoadRegister Purpose.Shown) c.requires.fits refl 3
+    c.args.memory.now c.requires.may
+    c.loads_register.ensures.acted.0 c.loads_register.new.memory c.loads_register.ensures.acted.1 (FieldRow.LoadOwner c.in-LoadOwner.word)
+    (sym c.in-LoadOwner.is ∙ c.loads_register.ensures.acted.2) 3 (omega arith)
+
+pub returns-in-LoadOwner : goal.returns-in-LoadOwner
+returns-in-LoadOwner g c =
+    run_on g.M.Memory.may g.M.Memory.acts c.args.shared.now c.args.self.now c.args.pass c.args.places.now
+    c.requires.places c.args.command c.requires.goes.command (FieldRow.LoadRegister Purpose.Shown) c.requires.fits refl 3
+    c.args.memory.now c.requires.may
+    c.loads_register.ensures.acted.0 c.loads_register.new.memory c.loads_register.ensures.acted.1 (FieldRow.LoadOwner c.in-LoadOwner.word)
+    (sym c.in-LoadOwner.is ∙ c.loads_register.ensures.acted.2) 3 (omega arith) c.owner.new.memory c.owner.new.self c.owner.result c.owner.ensures
+
+pub ends-requires-clause-may : goal.ends-requires-clause-may
+ends-requires-clause-may g c =
+    may_on g.M.Memory.may g.M.Memory.acts c.args.shared.now c.args.self.now c.args.pass c.args.places.now
+    c.requires.places c.args.command c.requires.goes.command (FieldRow.LoadRegister Purpose.Shown) c.requires.fits refl 3
+    c.args.memory.now c.requires.may
+    c.loads_register.ensures.acted.0 c.loads_register.new.memory c.loads_register.ensures.acted.1 (c.loads_register.result)
+    (c.loads_register.ensures.acted.2) 1 (omega arith)
+
+pub returns-in_default : goal.returns-in_default
+returns-in_default g c =
+    run_on g.M.Memory.may g.M.Memory.acts c.args.shared.now c.args.self.now c.args.pass c.args.places.now
+    c.requires.places c.args.command c.requires.goes.command (FieldRow.LoadRegister Purpose.Shown) c.requires.fits refl 3
+    c.args.memory.now c.requires.may
+    c.loads_register.ensures.acted.0 c.loads_register.new.memory c.loads_register.ensures.acted.1 (c.loads_register.result)
+    (c.loads_register.ensures.acted.2) 1 (omega arith) c.ends.new.memory c.ends.new.self c.ends.result c.ends.ensures

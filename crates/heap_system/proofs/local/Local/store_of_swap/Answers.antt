@@ -1,0 +1,58 @@
+use Rattle.std.proofs.Common.{refl, sym, ◌∙◌, arith}
+use Rattle.barrier_steps.specs.declared.rows.FieldRow.{FieldRow}
+use Rattle.heap_system.proofs.AtOnce.{may_on, reads_well, run_on}
+use Rattle.heap_system.proofs.local.Local.store_of_swap.Goals as goal
+
+pub store-requires-clause-may : goal.store-requires-clause-may
+store-requires-clause-may g c =
+    may_on g.M.Memory.may g.M.Memory.acts c.args.shared.now c.args.self.now c.args.pass c.args.places.now
+    c.requires.places c.args.command c.requires.goes.command (FieldRow.Store c.args.store) c.requires.fits refl 3
+    c.args.memory.now c.requires.may
+    c.stores.ensures.acted.0 c.stores.new.memory c.stores.ensures.acted.1 (FieldRow.Store c.in-Store.store)
+    (sym c.in-Store.is ∙ c.stores.ensures.acted.2) 2 (omega arith)
+
+pub returns-in-Store : goal.returns-in-Store
+returns-in-Store g c =
+    run_on g.M.Memory.may g.M.Memory.acts c.args.shared.now c.args.self.now c.args.pass c.args.places.now
+    c.requires.places c.args.command c.requires.goes.command (FieldRow.Store c.args.store) c.requires.fits refl 3
+    c.args.memory.now c.requires.may
+    c.stores.ensures.acted.0 c.stores.new.memory c.stores.ensures.acted.1 (FieldRow.Store c.in-Store.store)
+    (sym c.in-Store.is ∙ c.stores.ensures.acted.2) 2 (omega arith) c.store.new.memory c.store.new.self c.store.result c.store.ensures
+
+pub owner-requires-clause-may : goal.owner-requires-clause-may
+owner-requires-clause-may g c =
+    may_on g.M.Memory.may g.M.Memory.acts c.args.shared.now c.args.self.now c.args.pass c.args.places.now
+    c.requires.places c.args.command c.requires.goes.command (FieldRow.Store c.args.store) c.requires.fits refl 3
+    c.args.memory.now c.requires.may
+    c.stores.ensures.acted.0 c.stores.new.memory c.stores.ensures.acted.1 (FieldRow.LoadOwner c.in-LoadOwner.word)
+    (sym c.in-LoadOwner.is ∙ c.stores.ensures.acted.2) 3 (omega arith)
+
+pub returns-in-LoadOwner : goal.returns-in-LoadOwner
+returns-in-LoadOwner g c =
+    run_on g.M.Memory.may g.M.Memory.acts c.args.shared.now c.args.self.now c.args.pass c.args.places.now
+    c.requires.places c.args.command c.requires.goes.command (FieldRow.Store c.args.store) c.requires.fits refl 3
+    c.args.memory.now c.requires.may
+    c.stores.ensures.acted.0 c.stores.new.memory c.stores.ensures.acted.1 (FieldRow.LoadOwner c.in-LoadOwner.word)
+    (sym c.in-LoadOwner.is ∙ c.stores.ensures.acted.2) 3 (omega arith) c.owner.new.memory c.owner.new.self c.owner.result c.owner.ensures
+
+pub ends-requires-clause-may : goal.ends-requires-clause-may
+ends-requires-clause-may g c =
+    may_on g.M.Memory.may g.M.Memory.acts c.args.shared.now c.args.self.now c.args.pass c.args.places.now
+    c.requires.places c.args.command c.requires.goes.command (FieldRow.Store c.args.store) c.requires.fits refl 3
+    c.args.memory.now c.requires.may
+    c.stores.ensures.acted.0 c.stores.new.memory c.stores.ensures.acted.1 (c.stores.result)
+    (c.stores.ensures.acted.2) 1 (omega arith)
+
+pub returns-in_default : goal.returns-in_default
+returns-in_default g c =
+    run_on g.M.Memory.may g.M.Memory.acts c.args.shared.now c.args.self.now c.args.pass c.args.places.now
+    c.requires.places c.args.command c.requires.goes.command (FieldRow.Store c.args.store) c.requires.fits refl 3
+    c.args.memory.now c.requires.may
+    c.stores.ensures.acted.0 c.stores.new.memory c.stores.ensures.acted.1 (c.stores.result)
+    (c.stores.ensures.acted.2) 1 (omega arith) c.ends.new.memory c.ends.new.self c.ends.result c.ends.ensures
+
+pub stores-requires-clause-reads : goal.stores-requires-clause-reads
+stores-requires-clause-reads g c =
+    reads_well g.M.Memory.may g.M.Memory.acts c.args.shared.now c.args.self.now c.args.pass c.args.places.now
+    c.requires.places c.args.command c.requires.goes.command (FieldRow.Store c.args.store) c.requires.fits refl 3
+    c.args.memory.now c.requires.may

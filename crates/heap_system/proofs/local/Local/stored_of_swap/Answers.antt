@@ -1,0 +1,42 @@
+use Rattle.std.proofs.Common.{refl, sym, ◌∙◌, arith}
+use Rattle.barrier_steps.specs.declared.rows.FieldRow.{FieldRow}
+use Rattle.heap_system.proofs.AtOnce.{may_on, reads_well, run_on}
+use Rattle.heap_system.proofs.local.Local.stored_of_swap.Goals as goal
+
+pub store_of_swap-requires-clause-may : goal.store_of_swap-requires-clause-may
+store_of_swap-requires-clause-may g c =
+    may_on g.M.Memory.may g.M.Memory.acts c.args.shared.now c.args.self.now c.args.pass c.args.places.now
+    c.requires.places c.args.command c.requires.goes.command (FieldRow.LoadRegister c.args.wanted) c.requires.fits refl 4
+    c.args.memory.now c.requires.may
+    c.loads_register.ensures.acted.0 c.loads_register.new.memory c.loads_register.ensures.acted.1 (FieldRow.Store c.in-Store.store)
+    (sym c.in-Store.is ∙ c.loads_register.ensures.acted.2) 4 (omega arith)
+
+pub returns-in-Store : goal.returns-in-Store
+returns-in-Store g c =
+    run_on g.M.Memory.may g.M.Memory.acts c.args.shared.now c.args.self.now c.args.pass c.args.places.now
+    c.requires.places c.args.command c.requires.goes.command (FieldRow.LoadRegister c.args.wanted) c.requires.fits refl 4
+    c.args.memory.now c.requires.may
+    c.loads_register.ensures.acted.0 c.loads_register.new.memory c.loads_register.ensures.acted.1 (FieldRow.Store c.in-Store.store)
+    (sym c.in-Store.is ∙ c.loads_register.ensures.acted.2) 4 (omega arith) c.store_of_swap.new.memory c.store_of_swap.new.self c.store_of_swap.result c.store_of_swap.ensures
+
+pub ends-requires-clause-may : goal.ends-requires-clause-may
+ends-requires-clause-may g c =
+    may_on g.M.Memory.may g.M.Memory.acts c.args.shared.now c.args.self.now c.args.pass c.args.places.now
+    c.requires.places c.args.command c.requires.goes.command (FieldRow.LoadRegister c.args.wanted) c.requires.fits refl 4
+    c.args.memory.now c.requires.may
+    c.loads_register.ensures.acted.0 c.loads_register.new.memory c.loads_register.ensures.acted.1 (c.loads_register.result)
+    (c.loads_register.ensures.acted.2) 1 (omega arith)
+
+pub returns-in_default : goal.returns-in_default
+returns-in_default g c =
+    run_on g.M.Memory.may g.M.Memory.acts c.args.shared.now c.args.self.now c.args.pass c.args.places.now
+    c.requires.places c.args.command c.requires.goes.command (FieldRow.LoadRegister c.args.wanted) c.requires.fits refl 4
+    c.args.memory.now c.requires.may
+    c.loads_register.ensures.acted.0 c.loads_register.new.memory c.loads_register.ensures.acted.1 (c.loads_register.result)
+    (c.loads_register.ensures.acted.2) 1 (omega arith) c.ends.new.memory c.ends.new.self c.ends.result c.ends.ensures
+
+pub loads_register-requires-clause-reads : goal.loads_register-requires-clause-reads
+loads_register-requires-clause-reads g c =
+    reads_well g.M.Memory.may g.M.Memory.acts c.args.shared.now c.args.self.now c.args.pass c.args.places.now
+    c.requires.places c.args.command c.requires.goes.command (FieldRow.LoadRegister c.args.wanted) c.requires.fits refl 4
+    c.args.memory.now c.requires.may

@@ -1,0 +1,763 @@
+//! A command that owes nothing, of a thread that is alone and of which the caller knows the command:
+//! each kind has code of its own, so that a compiler sees which rows come.
+
+ghost use Rattle.std.specs.Prelude.{◌≡◌, ◌≤◌, ◌<◌, false, length, IfSome, IfNone};
+ghost use Rattle.block_store.specs.Phases.{cycle_of};
+ghost use Rattle.block_store.specs.declared.PhaseWord.{PhaseWord};
+ghost use Rattle.barrier_steps.specs.declared.rows.FieldRow.{FieldRow};
+ghost use Rattle.barrier_steps.specs.declared.rows.Purpose.{Purpose};
+ghost use Rattle.barrier_steps.specs.Fits.{FitsAt};
+ghost use Rattle.heap_machine.specs.Gates.{SeenOpen};
+ghost use Rattle.never_heap.specs.declared.Command.{Command};
+ghost use Rattle.heap_system.specs.AtOnce.{GoesIn, HasGoneIn, HasRunUpTo, HasStayedOut, MayBegin, come_to, entering_by, from_gate, from_rest};
+ghost use Rattle.heap_system.specs.ThreadMemories.{HasRunOn, MayRun, longest};
+ghost use Rattle.heap_system.specs.Locals.{begun, command_of, is_done, pass_by};
+ghost use Rattle.heap_system.specs.Parts.{Rest};
+
+use super::Local;
+use crate::Turn;
+use barrier_steps::{FieldPass, FieldRow, FieldStore, Purpose};
+use block_store::{PhaseWord, Places, read_phase};
+use heap_machine::{Memory, Op, Pass, entering};
+use never_heap::Command;
+
+impl Local {
+    // Has this command in place of its one command, which is done.
+    #[inline(always)]
+    fn begins_alone(&mut self, command: Command)
+        requires { MayBegin command self.old }
+        ensures begun { self.new ≡ begun command self.old }
+        ensures rest { self.new.part ≡ Rest }
+        ensures open { is_done self.new ≡ false }
+        ensures low { length self.new.log < length self.new.trace }
+        ensures alone { self.new.config.threads ≡ 1 }
+        ensures command { command ≡ command_of self.new }
+    {
+        self.begin(command);
+    }
+
+    // Goes in, where the gate is open. The thread, which the rows show as at rest, is not changed.
+    #[inline(always)]
+    fn tries_alone<M: Memory>(
+        &self,
+        places: &Places,
+        memory: &mut M,
+        shared: &M::Shared,
+    ) -> Option<Pass>
+        requires rest { self.now.part ≡ Rest }
+        requires open { is_done self.now ≡ false }
+        requires alone { self.now.config.threads ≡ 1 }
+        requires places { places.now ≡ self.now.config }
+        requires may { MayRun M.may M.acts longest memory.old shared.now self.now }
+        ensures inside { IfSome result (HasGoneIn M.may M.acts shared.now
+            (from_rest M.acts shared.now memory.old self.now) self.now memory.new) }
+        ensures outside { IfNone result (HasStayedOut
+            (from_rest M.acts shared.now memory.old self.now) self.now memory.new) }
+    {
+        self.has_a_command();
+        let seen = memory.act(shared, &Op::load(places.phase()));
+        if read_phase(seen).closed {
+            None
+        } else {
+            self.enters_alone(seen, places, memory, shared)
+        }
+    }
+
+    // The same from where the thread has seen this phase word, of an open gate.
+    #[inline(always)]
+    fn enters_alone<M: Memory>(
+        &self,
+        seen: u64,
+        places: &Places,
+        memory: &mut M,
+        shared: &M::Shared,
+    ) -> Option<Pass>
+        requires rest { self.now.part ≡ Rest }
+        requires low { length self.now.log < length self.now.trace }
+        requires alone { self.now.config.threads ≡ 1 }
+        requires places { places.now ≡ self.now.config }
+        requires seen { SeenOpen seen × (1 ≤ cycle_of seen) }
+        requires may { MayRun M.may M.acts 63 memory.old shared.now (entering_by self.now seen) }
+        ensures inside { IfSome result (HasGoneIn M.may M.acts shared.now
+            (from_gate M.acts shared.now memory.old self.now seen) self.now memory.new) }
+        ensures outside { IfNone result (HasStayedOut
+            (from_gate M.acts shared.now memory.old self.now seen) self.now memory.new) }
+    {
+        let word = memory.act(shared, &entering(places, seen));
+        if word == seen {
+            Some(self.pass_alone(read_phase(seen)))
+        } else {
+            None
+        }
+    }
+
+    // The pass that begins by this phase word.
+    #[inline(always)]
+    fn pass_alone(&self, phase: PhaseWord) -> Pass
+        requires { self.now.config.threads ≡ 1 }
+        ensures { result ≡ pass_by self.now.thread self.now.config.threads phase }
+    {
+        let _row = &self.row;
+        Pass {
+            thread: 0,
+            threads: 1,
+            cycle: phase.cycle,
+            sweep: phase.sweep,
+        }
+    }
+
+    /// Begins `set` and makes its events: all of them, where the thread finds the gate open and no
+    /// block to shade; else those before the first that is made another way.
+    #[inline(never)]
+    pub fn sets<M: Memory>(
+        &mut self,
+        d: u8,
+        value: u64,
+        memory: &mut M,
+        shared: &M::Shared,
+    ) -> Turn
+        requires begins { MayBegin (Command.Set d value) self.old }
+        requires may { MayRun M.may M.acts longest memory.old shared.now
+            (begun (Command.Set d value) self.old) }
+        ensures { HasRunOn M.acts shared.now memory.old
+            (begun (Command.Set d value) self.old) memory.new self.new result }
+    {
+        let command = Command::Set { d, value };
+        self.begins_alone(command);
+        let places = self.places();
+        match self.tries_alone(&places, memory, shared) {
+            Some(pass) => {
+                self.goes_by(pass, command, FieldRow::StoreConstant);
+                self.constant(pass, command, &places, memory, shared)
+            }
+            None => {
+                self.looks_again();
+                Turn::Waited
+            }
+        }
+    }
+
+    /// Begins `nil` and makes its events: all of them, where the thread finds the gate open and no
+    /// block to shade; else those before the first that is made another way.
+    #[inline(never)]
+    pub fn nils<M: Memory>(
+        &mut self,
+        d: u8,
+        memory: &mut M,
+        shared: &M::Shared,
+    ) -> Turn
+        requires begins { MayBegin (Command.Nil d) self.old }
+        requires may { MayRun M.may M.acts longest memory.old shared.now
+            (begun (Command.Nil d) self.old) }
+        ensures { HasRunOn M.acts shared.now memory.old
+            (begun (Command.Nil d) self.old) memory.new self.new result }
+    {
+        let command = Command::Nil { d };
+        self.begins_alone(command);
+        let places = self.places();
+        match self.tries_alone(&places, memory, shared) {
+            Some(pass) => {
+                self.goes_by(pass, command, FieldRow::StoreConstant);
+                self.constant(pass, command, &places, memory, shared)
+            }
+            None => {
+                self.looks_again();
+                Turn::Waited
+            }
+        }
+    }
+
+    /// Begins `mov` and makes its events: all of them, where the thread finds the gate open and no
+    /// block to shade; else those before the first that is made another way.
+    #[inline(never)]
+    pub fn moves<M: Memory>(
+        &mut self,
+        d: u8,
+        s: u8,
+        memory: &mut M,
+        shared: &M::Shared,
+    ) -> Turn
+        requires begins { MayBegin (Command.Mov d s) self.old }
+        requires may { MayRun M.may M.acts longest memory.old shared.now
+            (begun (Command.Mov d s) self.old) }
+        ensures { HasRunOn M.acts shared.now memory.old
+            (begun (Command.Mov d s) self.old) memory.new self.new result }
+    {
+        let command = Command::Mov { d, s };
+        self.begins_alone(command);
+        let places = self.places();
+        match self.tries_alone(&places, memory, shared) {
+            Some(pass) => {
+                self.goes_by(pass, command, FieldRow::LoadRegister { wanted: Purpose::Copied });
+                self.register(pass, command, Purpose::Copied, &places, memory, shared)
+            }
+            None => {
+                self.looks_again();
+                Turn::Waited
+            }
+        }
+    }
+
+    /// Begins `get` and makes its events: all of them, where the thread finds the gate open and no
+    /// block to shade; else those before the first that is made another way.
+    #[inline(never)]
+    pub fn gets<M: Memory>(
+        &mut self,
+        d: u8,
+        s: u8,
+        i: u64,
+        memory: &mut M,
+        shared: &M::Shared,
+    ) -> Turn
+        requires begins { MayBegin (Command.Get d s i) self.old }
+        requires may { MayRun M.may M.acts longest memory.old shared.now
+            (begun (Command.Get d s i) self.old) }
+        ensures { HasRunOn M.acts shared.now memory.old
+            (begun (Command.Get d s i) self.old) memory.new self.new result }
+    {
+        let command = Command::Get { d, s, i };
+        self.begins_alone(command);
+        let places = self.places();
+        match self.tries_alone(&places, memory, shared) {
+            Some(pass) => {
+                self.goes_by(pass, command, FieldRow::LoadRegister { wanted: Purpose::Object });
+                self.object_of_get(pass, command, &places, memory, shared)
+            }
+            None => {
+                self.looks_again();
+                Turn::Waited
+            }
+        }
+    }
+
+    /// Begins `put` and makes its events: all of them, where the thread finds the gate open and no
+    /// block to shade; else those before the first that is made another way.
+    #[inline(never)]
+    pub fn puts<M: Memory>(
+        &mut self,
+        s: u8,
+        i: u64,
+        v: u8,
+        memory: &mut M,
+        shared: &M::Shared,
+    ) -> Turn
+        requires begins { MayBegin (Command.Put s i v) self.old }
+        requires may { MayRun M.may M.acts longest memory.old shared.now
+            (begun (Command.Put s i v) self.old) }
+        ensures { HasRunOn M.acts shared.now memory.old
+            (begun (Command.Put s i v) self.old) memory.new self.new result }
+    {
+        let command = Command::Put { s, i, v };
+        self.begins_alone(command);
+        let places = self.places();
+        match self.tries_alone(&places, memory, shared) {
+            Some(pass) => {
+                self.goes_by(pass, command, FieldRow::LoadRegister { wanted: Purpose::Object });
+                self.object_of_put(pass, command, &places, memory, shared)
+            }
+            None => {
+                self.looks_again();
+                Turn::Waited
+            }
+        }
+    }
+
+    /// Begins `len` and makes its events: all of them, where the thread finds the gate open and no
+    /// block to shade; else those before the first that is made another way.
+    #[inline(never)]
+    pub fn lens<M: Memory>(
+        &mut self,
+        s: u8,
+        memory: &mut M,
+        shared: &M::Shared,
+    ) -> Turn
+        requires begins { MayBegin (Command.Len s) self.old }
+        requires may { MayRun M.may M.acts longest memory.old shared.now
+            (begun (Command.Len s) self.old) }
+        ensures { HasRunOn M.acts shared.now memory.old
+            (begun (Command.Len s) self.old) memory.new self.new result }
+    {
+        let command = Command::Len { s };
+        self.begins_alone(command);
+        let places = self.places();
+        match self.tries_alone(&places, memory, shared) {
+            Some(pass) => {
+                self.goes_by(pass, command, FieldRow::LoadRegister { wanted: Purpose::Object });
+                self.object_of_len(pass, command, &places, memory, shared)
+            }
+            None => {
+                self.looks_again();
+                Turn::Waited
+            }
+        }
+    }
+
+    /// Begins `same` and makes its events: all of them, where the thread finds the gate open and no
+    /// block to shade; else those before the first that is made another way.
+    #[inline(never)]
+    pub fn sames<M: Memory>(
+        &mut self,
+        a: u8,
+        b: u8,
+        memory: &mut M,
+        shared: &M::Shared,
+    ) -> Turn
+        requires begins { MayBegin (Command.Same a b) self.old }
+        requires may { MayRun M.may M.acts longest memory.old shared.now
+            (begun (Command.Same a b) self.old) }
+        ensures { HasRunOn M.acts shared.now memory.old
+            (begun (Command.Same a b) self.old) memory.new self.new result }
+    {
+        let command = Command::Same { a, b };
+        self.begins_alone(command);
+        let places = self.places();
+        match self.tries_alone(&places, memory, shared) {
+            Some(pass) => {
+                self.goes_by(pass, command, FieldRow::LoadRegister { wanted: Purpose::First });
+                self.both(pass, command, &places, memory, shared)
+            }
+            None => {
+                self.looks_again();
+                Turn::Waited
+            }
+        }
+    }
+
+    /// Begins `say` and makes its events: all of them, where the thread finds the gate open and no
+    /// block to shade; else those before the first that is made another way.
+    #[inline(never)]
+    pub fn says<M: Memory>(
+        &mut self,
+        s: u8,
+        memory: &mut M,
+        shared: &M::Shared,
+    ) -> Turn
+        requires begins { MayBegin (Command.Say s) self.old }
+        requires may { MayRun M.may M.acts longest memory.old shared.now
+            (begun (Command.Say s) self.old) }
+        ensures { HasRunOn M.acts shared.now memory.old
+            (begun (Command.Say s) self.old) memory.new self.new result }
+    {
+        let command = Command::Say { s };
+        self.begins_alone(command);
+        let places = self.places();
+        match self.tries_alone(&places, memory, shared) {
+            Some(pass) => {
+                self.goes_by(pass, command, FieldRow::LoadRegister { wanted: Purpose::Shown });
+                self.shown(pass, command, &places, memory, shared)
+            }
+            None => {
+                self.looks_again();
+                Turn::Waited
+            }
+        }
+    }
+
+    /// Begins `swap` and makes its events: all of them, where the thread finds the gate open and no
+    /// block to shade; else those before the first that is made another way.
+    #[inline(never)]
+    pub fn swaps<M: Memory>(
+        &mut self,
+        s: u8,
+        i: u64,
+        v: u8,
+        memory: &mut M,
+        shared: &M::Shared,
+    ) -> Turn
+        requires begins { MayBegin (Command.Swap s i v) self.old }
+        requires may { MayRun M.may M.acts longest memory.old shared.now
+            (begun (Command.Swap s i v) self.old) }
+        ensures { HasRunOn M.acts shared.now memory.old
+            (begun (Command.Swap s i v) self.old) memory.new self.new result }
+    {
+        let command = Command::Swap { s, i, v };
+        self.begins_alone(command);
+        let places = self.places();
+        match self.tries_alone(&places, memory, shared) {
+            Some(pass) => {
+                self.goes_by(pass, command, FieldRow::LoadRegister { wanted: Purpose::Object });
+                self.object_of_swap(pass, command, &places, memory, shared)
+            }
+            None => {
+                self.looks_again();
+                Turn::Waited
+            }
+        }
+    }
+
+    /// Begins `cas` and makes its events: all of them, where the thread finds the gate open and no
+    /// block to shade; else those before the first that is made another way.
+    #[inline(never)]
+    pub fn cases<M: Memory>(
+        &mut self,
+        s: u8,
+        i: u64,
+        a: u8,
+        v: u8,
+        memory: &mut M,
+        shared: &M::Shared,
+    ) -> Turn
+        requires begins { MayBegin (Command.Cas s i a v) self.old }
+        requires may { MayRun M.may M.acts longest memory.old shared.now
+            (begun (Command.Cas s i a v) self.old) }
+        ensures { HasRunOn M.acts shared.now memory.old
+            (begun (Command.Cas s i a v) self.old) memory.new self.new result }
+    {
+        let command = Command::Cas { s, i, a, v };
+        self.begins_alone(command);
+        let places = self.places();
+        match self.tries_alone(&places, memory, shared) {
+            Some(pass) => {
+                self.goes_by(pass, command, FieldRow::LoadRegister { wanted: Purpose::Object });
+                self.object_of_cas(pass, command, &places, memory, shared)
+            }
+            None => {
+                self.looks_again();
+                Turn::Waited
+            }
+        }
+    }
+
+    // From the load of the register that refers to the object, of `get`.
+    #[inline(always)]
+    fn object_of_get<M: Memory>(
+        &mut self,
+        pass: Pass,
+        command: Command,
+        places: &Places,
+        memory: &mut M,
+        shared: &M::Shared,
+    ) -> Turn
+        requires goes { GoesIn self.old pass command }
+        requires places { places.now ≡ self.old.config }
+        requires fits { FitsAt places.now pass command (FieldRow.LoadRegister Purpose.Object) }
+        requires may { MayRun M.may M.acts 6 memory.old shared.now
+            (come_to self.old pass (FieldRow.LoadRegister Purpose.Object)) }
+        ensures { HasRunUpTo 6 M.acts shared.now memory.old
+            (come_to self.old pass (FieldRow.LoadRegister Purpose.Object)) memory.new self.new result }
+    {
+        match FieldPass::loads_register(pass, command, Purpose::Object, places, memory, shared) {
+            FieldRow::LoadShape { block } => self.shape_of_get(pass, command, block, places, memory, shared),
+            row => self.ends(pass, command, row, places, memory, shared),
+        }
+    }
+
+    // From the load of the register that refers to the object, of `put`.
+    #[inline(always)]
+    fn object_of_put<M: Memory>(
+        &mut self,
+        pass: Pass,
+        command: Command,
+        places: &Places,
+        memory: &mut M,
+        shared: &M::Shared,
+    ) -> Turn
+        requires goes { GoesIn self.old pass command }
+        requires places { places.now ≡ self.old.config }
+        requires fits { FitsAt places.now pass command (FieldRow.LoadRegister Purpose.Object) }
+        requires may { MayRun M.may M.acts 5 memory.old shared.now
+            (come_to self.old pass (FieldRow.LoadRegister Purpose.Object)) }
+        ensures { HasRunUpTo 5 M.acts shared.now memory.old
+            (come_to self.old pass (FieldRow.LoadRegister Purpose.Object)) memory.new self.new result }
+    {
+        match FieldPass::loads_register(pass, command, Purpose::Object, places, memory, shared) {
+            FieldRow::LoadShape { block } => self.shape_of_put(pass, command, block, places, memory, shared),
+            row => self.ends(pass, command, row, places, memory, shared),
+        }
+    }
+
+    // From the load of the register that refers to the object, of `len`.
+    #[inline(always)]
+    fn object_of_len<M: Memory>(
+        &mut self,
+        pass: Pass,
+        command: Command,
+        places: &Places,
+        memory: &mut M,
+        shared: &M::Shared,
+    ) -> Turn
+        requires goes { GoesIn self.old pass command }
+        requires places { places.now ≡ self.old.config }
+        requires fits { FitsAt places.now pass command (FieldRow.LoadRegister Purpose.Object) }
+        requires may { MayRun M.may M.acts 3 memory.old shared.now
+            (come_to self.old pass (FieldRow.LoadRegister Purpose.Object)) }
+        ensures { HasRunUpTo 3 M.acts shared.now memory.old
+            (come_to self.old pass (FieldRow.LoadRegister Purpose.Object)) memory.new self.new result }
+    {
+        match FieldPass::loads_register(pass, command, Purpose::Object, places, memory, shared) {
+            FieldRow::LoadShape { block } => self.shape_of_len(pass, command, block, places, memory, shared),
+            row => self.ends(pass, command, row, places, memory, shared),
+        }
+    }
+
+    // From the load of the register that refers to the object, of `swap`.
+    #[inline(always)]
+    fn object_of_swap<M: Memory>(
+        &mut self,
+        pass: Pass,
+        command: Command,
+        places: &Places,
+        memory: &mut M,
+        shared: &M::Shared,
+    ) -> Turn
+        requires goes { GoesIn self.old pass command }
+        requires places { places.now ≡ self.old.config }
+        requires fits { FitsAt places.now pass command (FieldRow.LoadRegister Purpose.Object) }
+        requires may { MayRun M.may M.acts 7 memory.old shared.now
+            (come_to self.old pass (FieldRow.LoadRegister Purpose.Object)) }
+        ensures { HasRunUpTo 7 M.acts shared.now memory.old
+            (come_to self.old pass (FieldRow.LoadRegister Purpose.Object)) memory.new self.new result }
+    {
+        match FieldPass::loads_register(pass, command, Purpose::Object, places, memory, shared) {
+            FieldRow::LoadShape { block } => self.shape_of_swap(pass, command, block, places, memory, shared),
+            row => self.ends(pass, command, row, places, memory, shared),
+        }
+    }
+
+    // From the load of the register that refers to the object, of `cas`.
+    #[inline(always)]
+    fn object_of_cas<M: Memory>(
+        &mut self,
+        pass: Pass,
+        command: Command,
+        places: &Places,
+        memory: &mut M,
+        shared: &M::Shared,
+    ) -> Turn
+        requires goes { GoesIn self.old pass command }
+        requires places { places.now ≡ self.old.config }
+        requires fits { FitsAt places.now pass command (FieldRow.LoadRegister Purpose.Object) }
+        requires may { MayRun M.may M.acts 6 memory.old shared.now
+            (come_to self.old pass (FieldRow.LoadRegister Purpose.Object)) }
+        ensures { HasRunUpTo 6 M.acts shared.now memory.old
+            (come_to self.old pass (FieldRow.LoadRegister Purpose.Object)) memory.new self.new result }
+    {
+        match FieldPass::loads_register(pass, command, Purpose::Object, places, memory, shared) {
+            FieldRow::LoadShape { block } => self.shape_of_cas(pass, command, block, places, memory, shared),
+            row => self.ends(pass, command, row, places, memory, shared),
+        }
+    }
+
+    // From the load of the object's shape, of `swap`.
+    #[inline(always)]
+    fn shape_of_swap<M: Memory>(
+        &mut self,
+        pass: Pass,
+        command: Command,
+        block: u32,
+        places: &Places,
+        memory: &mut M,
+        shared: &M::Shared,
+    ) -> Turn
+        requires goes { GoesIn self.old pass command }
+        requires places { places.now ≡ self.old.config }
+        requires fits { FitsAt places.now pass command (FieldRow.LoadShape block) }
+        requires may { MayRun M.may M.acts 6 memory.old shared.now
+            (come_to self.old pass (FieldRow.LoadShape block)) }
+        ensures { HasRunUpTo 6 M.acts shared.now memory.old
+            (come_to self.old pass (FieldRow.LoadShape block)) memory.new self.new result }
+    {
+        match FieldPass::loads_shape(pass, command, block, places, memory, shared) {
+            FieldRow::LoadRegister { wanted } => self.stored_of_swap(pass, command, wanted, places, memory, shared),
+            row => self.ends(pass, command, row, places, memory, shared),
+        }
+    }
+
+    // From the load of the object's shape, of `cas`.
+    #[inline(always)]
+    fn shape_of_cas<M: Memory>(
+        &mut self,
+        pass: Pass,
+        command: Command,
+        block: u32,
+        places: &Places,
+        memory: &mut M,
+        shared: &M::Shared,
+    ) -> Turn
+        requires goes { GoesIn self.old pass command }
+        requires places { places.now ≡ self.old.config }
+        requires fits { FitsAt places.now pass command (FieldRow.LoadShape block) }
+        requires may { MayRun M.may M.acts 5 memory.old shared.now
+            (come_to self.old pass (FieldRow.LoadShape block)) }
+        ensures { HasRunUpTo 5 M.acts shared.now memory.old
+            (come_to self.old pass (FieldRow.LoadShape block)) memory.new self.new result }
+    {
+        match FieldPass::loads_shape(pass, command, block, places, memory, shared) {
+            FieldRow::LoadRegister { wanted } => self.expected_of_cas(pass, command, wanted, places, memory, shared),
+            row => self.ends(pass, command, row, places, memory, shared),
+        }
+    }
+
+    // From the load of the register that `swap` stores.
+    #[inline(always)]
+    fn stored_of_swap<M: Memory>(
+        &mut self,
+        pass: Pass,
+        command: Command,
+        wanted: Purpose,
+        places: &Places,
+        memory: &mut M,
+        shared: &M::Shared,
+    ) -> Turn
+        requires goes { GoesIn self.old pass command }
+        requires places { places.now ≡ self.old.config }
+        requires fits { FitsAt places.now pass command (FieldRow.LoadRegister wanted) }
+        requires may { MayRun M.may M.acts 5 memory.old shared.now
+            (come_to self.old pass (FieldRow.LoadRegister wanted)) }
+        ensures { HasRunUpTo 5 M.acts shared.now memory.old
+            (come_to self.old pass (FieldRow.LoadRegister wanted)) memory.new self.new result }
+    {
+        match FieldPass::loads_register(pass, command, wanted, places, memory, shared) {
+            FieldRow::Store { store } => self.store_of_swap(pass, command, store, places, memory, shared),
+            row => self.ends(pass, command, row, places, memory, shared),
+        }
+    }
+
+    // From the exchange of `swap`.
+    #[inline(always)]
+    fn store_of_swap<M: Memory>(
+        &mut self,
+        pass: Pass,
+        command: Command,
+        store: FieldStore,
+        places: &Places,
+        memory: &mut M,
+        shared: &M::Shared,
+    ) -> Turn
+        requires goes { GoesIn self.old pass command }
+        requires places { places.now ≡ self.old.config }
+        requires fits { FitsAt places.now pass command (FieldRow.Store store) }
+        requires may { MayRun M.may M.acts 4 memory.old shared.now
+            (come_to self.old pass (FieldRow.Store store)) }
+        ensures { HasRunUpTo 4 M.acts shared.now memory.old
+            (come_to self.old pass (FieldRow.Store store)) memory.new self.new result }
+    {
+        match FieldPass::stores(pass, command, store, places, memory, shared) {
+            FieldRow::Store { store } => self.store(pass, command, store, places, memory, shared),
+            FieldRow::LoadOwner { word } => self.owner(pass, command, word, places, memory, shared),
+            row => self.ends(pass, command, row, places, memory, shared),
+        }
+    }
+
+    // From the load of the register with which `cas` compares.
+    #[inline(always)]
+    fn expected_of_cas<M: Memory>(
+        &mut self,
+        pass: Pass,
+        command: Command,
+        wanted: Purpose,
+        places: &Places,
+        memory: &mut M,
+        shared: &M::Shared,
+    ) -> Turn
+        requires goes { GoesIn self.old pass command }
+        requires places { places.now ≡ self.old.config }
+        requires fits { FitsAt places.now pass command (FieldRow.LoadRegister wanted) }
+        requires may { MayRun M.may M.acts 4 memory.old shared.now
+            (come_to self.old pass (FieldRow.LoadRegister wanted)) }
+        ensures { HasRunUpTo 4 M.acts shared.now memory.old
+            (come_to self.old pass (FieldRow.LoadRegister wanted)) memory.new self.new result }
+    {
+        match FieldPass::loads_register(pass, command, wanted, places, memory, shared) {
+            FieldRow::LoadRegister { wanted } => self.register(pass, command, wanted, places, memory, shared),
+            row => self.ends(pass, command, row, places, memory, shared),
+        }
+    }
+
+    // From the load of the object's shape, of `get`.
+    #[inline(always)]
+    fn shape_of_get<M: Memory>(
+        &mut self,
+        pass: Pass,
+        command: Command,
+        block: u32,
+        places: &Places,
+        memory: &mut M,
+        shared: &M::Shared,
+    ) -> Turn
+        requires goes { GoesIn self.old pass command }
+        requires places { places.now ≡ self.old.config }
+        requires fits { FitsAt places.now pass command (FieldRow.LoadShape block) }
+        requires may { MayRun M.may M.acts 5 memory.old shared.now
+            (come_to self.old pass (FieldRow.LoadShape block)) }
+        ensures { HasRunUpTo 5 M.acts shared.now memory.old
+            (come_to self.old pass (FieldRow.LoadShape block)) memory.new self.new result }
+    {
+        match FieldPass::loads_shape(pass, command, block, places, memory, shared) {
+            FieldRow::LoadField { way } => self.field(pass, command, way, places, memory, shared),
+            row => self.ends(pass, command, row, places, memory, shared),
+        }
+    }
+
+    // From the load of the object's shape, of `put`.
+    #[inline(always)]
+    fn shape_of_put<M: Memory>(
+        &mut self,
+        pass: Pass,
+        command: Command,
+        block: u32,
+        places: &Places,
+        memory: &mut M,
+        shared: &M::Shared,
+    ) -> Turn
+        requires goes { GoesIn self.old pass command }
+        requires places { places.now ≡ self.old.config }
+        requires fits { FitsAt places.now pass command (FieldRow.LoadShape block) }
+        requires may { MayRun M.may M.acts 4 memory.old shared.now
+            (come_to self.old pass (FieldRow.LoadShape block)) }
+        ensures { HasRunUpTo 4 M.acts shared.now memory.old
+            (come_to self.old pass (FieldRow.LoadShape block)) memory.new self.new result }
+    {
+        match FieldPass::loads_shape(pass, command, block, places, memory, shared) {
+            FieldRow::LoadRegister { wanted } => self.register(pass, command, wanted, places, memory, shared),
+            row => self.ends(pass, command, row, places, memory, shared),
+        }
+    }
+
+    // From the load of the object's shape, of `len`.
+    #[inline(always)]
+    fn shape_of_len<M: Memory>(
+        &mut self,
+        pass: Pass,
+        command: Command,
+        block: u32,
+        places: &Places,
+        memory: &mut M,
+        shared: &M::Shared,
+    ) -> Turn
+        requires goes { GoesIn self.old pass command }
+        requires places { places.now ≡ self.old.config }
+        requires fits { FitsAt places.now pass command (FieldRow.LoadShape block) }
+        requires may { MayRun M.may M.acts 2 memory.old shared.now
+            (come_to self.old pass (FieldRow.LoadShape block)) }
+        ensures { HasRunUpTo 2 M.acts shared.now memory.old
+            (come_to self.old pass (FieldRow.LoadShape block)) memory.new self.new result }
+    {
+        let row = FieldPass::loads_shape(pass, command, block, places, memory, shared);
+        self.ends(pass, command, row, places, memory, shared)
+    }
+
+    // From the load of the register that `say` shows.
+    #[inline(always)]
+    fn shown<M: Memory>(
+        &mut self,
+        pass: Pass,
+        command: Command,
+        places: &Places,
+        memory: &mut M,
+        shared: &M::Shared,
+    ) -> Turn
+        requires goes { GoesIn self.old pass command }
+        requires places { places.now ≡ self.old.config }
+        requires fits { FitsAt places.now pass command (FieldRow.LoadRegister Purpose.Shown) }
+        requires may { MayRun M.may M.acts 4 memory.old shared.now
+            (come_to self.old pass (FieldRow.LoadRegister Purpose.Shown)) }
+        ensures { HasRunUpTo 4 M.acts shared.now memory.old
+            (come_to self.old pass (FieldRow.LoadRegister Purpose.Shown)) memory.new self.new result }
+    {
+        match FieldPass::loads_register(pass, command, Purpose::Shown, places, memory, shared) {
+            FieldRow::LoadOwner { word } => self.owner(pass, command, word, places, memory, shared),
+            row => self.ends(pass, command, row, places, memory, shared),
+        }
+    }
+}
