@@ -10,3 +10,4 @@ pub mod Tested
 pub mod RenamedGraphs
 pub mod Following
 pub mod LiveUpToNames
+pub mod Needed

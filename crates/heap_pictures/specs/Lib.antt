@@ -5,3 +5,4 @@ pub mod Reading
 pub mod Plans
 pub mod Faults
 pub mod Following
+pub mod Needs

@@ -35,7 +35,7 @@ fn load(d: u8, value: Value) -> Command
 }
 
 // Makes an object of nils.
-fn make(item: &Item) -> Command
+pub(crate) fn make(item: &Item) -> Command
     requires { length item.now.fields.items ≤ 65535 }
     ensures { result ≡ make (view item.now) }
 {

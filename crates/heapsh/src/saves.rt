@@ -4,7 +4,7 @@ use crate::replies::push_refused;
 use block_store::{Config, OutOfMemory};
 use control_heap::ControlHeap;
 use never_heap::{Command, Reply};
-use saved_heap::{Renewal, load, picture_of, renew, save};
+use saved_heap::{NotSaved, Renewal, load, picture_of, renew, save};
 use std::alloc::Global;
 use std::fmt::Write;
 
@@ -30,8 +30,14 @@ impl Saves {
         heap: &ControlHeap,
         out: &mut String,
     ) -> Result<(), OutOfMemory> {
-        self.bytes = save(alloc, heap)?;
-        Ok(out.push_str("ok")?)
+        match save(alloc, heap) {
+            Ok(bytes) => {
+                self.bytes = bytes;
+                Ok(out.push_str("ok")?)
+            }
+            Err(NotSaved::NoMemory) => Err(OutOfMemory),
+            Err(fault) => Ok(write!(out, "refused: {fault}")?),
+        }
     }
 
     /// Prints the bytes that were saved.

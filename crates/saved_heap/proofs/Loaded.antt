@@ -61,5 +61,8 @@ pub renewed_not : (from : Control) (c : Config) (p : Content) (x : Result Contro
 renewed_not from c p (Ok h) pictured order cannot = tt
 renewed_not from c p (Err renew_faults.NoMemory) pictured order cannot = tt
 renewed_not from c p (Err (renew_faults.Open f)) pictured order cannot = (p, pictured, order, cannot)
-renewed_not from c p (Err renew_faults.DoesNotFit) pictured order cannot = (p, pictured, order, cannot)
+renewed_not from c p (Err renew_faults.Unsound) pictured order cannot = (p, pictured, order, cannot)
+renewed_not from c p (Err (renew_faults.TooManyObjects n)) pictured order cannot = (p, pictured, order, cannot)
+renewed_not from c p (Err (renew_faults.ObjectTooLarge n m)) pictured order cannot = (p, pictured, order, cannot)
+renewed_not from c p (Err (renew_faults.LiveTooSmall n l y)) pictured order cannot = (p, pictured, order, cannot)
 renewed_not from c p (Err (renew_faults.Copy f)) pictured order cannot = (p, pictured, order, cannot)

@@ -1,5 +1,5 @@
 -- When each fault comes, and the printed texts.
-use Rattle.std.specs.Prelude.{ℕ, ◌<◌, ◌≡◌, ◌⊎◌, false, List, length, slice_index_or, take, codes, Ok, Err}
+use Rattle.std.specs.Prelude.{ℕ, ◌<◌, ◌≡◌, false, List, length, slice_index_or, take, codes, Ok, Err}
 use Rattle.std.specs.List.{AllByRecursion}
 use Rattle.block_store.specs.declared.Config.{Config}
 use Rattle.never_heap.specs.declared.Command.{Command}
@@ -7,6 +7,7 @@ use Rattle.never_heap.specs.declared.Reply.TheVariants.{Full as FullReply}
 use Rattle.never_heap.specs.Bounds.{IsCommandInBounds}
 use Rattle.never_heap.specs.Graphs.{Graph}
 use Rattle.heap_pictures.specs.Faults.{save_fault_text}
+use Rattle.heap_pictures.specs.Needs.{needs_of}
 use Rattle.heap_pictures.specs.Pictures.{Content, is_sound}
 use Rattle.heap_pictures.specs.Plans.{plan_of}
 use Rattle.heap_pictures.specs.Reading.{picture_at}
@@ -19,8 +20,13 @@ use Rattle.saved_heap.specs.declared.faults.CopyFault.{CopyFault}
 use Rattle.saved_heap.specs.declared.faults.CopyFault.TheVariants as copy_faults
 use Rattle.saved_heap.specs.declared.faults.LoadFault.{LoadFault}
 use Rattle.saved_heap.specs.declared.faults.LoadFault.TheVariants as load_faults
+use Rattle.saved_heap.specs.declared.faults.NotSaved.{NotSaved}
+use Rattle.saved_heap.specs.declared.faults.NotSaved.TheVariants as not_saved
+use Rattle.saved_heap.specs.declared.faults.OnFault.{OnFault}
+use Rattle.saved_heap.specs.declared.faults.OnFault.TheVariants as on_faults
 use Rattle.saved_heap.specs.declared.faults.RenewFault.{RenewFault}
 use Rattle.saved_heap.specs.declared.faults.RenewFault.TheVariants as renew_faults
+use Rattle.saved_heap.specs.Enough.{CanBeLoaded}
 use Rattle.saved_heap.specs.Orders.{IsInOrder}
 use Rattle.saved_heap.specs.Renewals.{HasBuilt, IsOpened, IsPictureOf}
 
@@ -44,17 +50,16 @@ pub record StopsAt (old : Control) (ks : List Command) (n : ℕ) (new : Control)
 abbrev pub AreAllowed : Config → List Command → Type 0
 AreAllowed c ks = AllByRecursion (IsCommandInBounds c) ks
 
--- There are more objects than the longest array has elements, or a command is out of bounds on this
--- heap: an object, or the table of all, is larger than one may be.
-abbrev pub IsTooLarge : Config → Content → Type 0
-IsTooLarge c p =
-    (65534 < length p.objects) ⊎ (is_sound p ≡ false) ⊎ (AreAllowed c (plan_of p) → ⊥)
-
 -- why a copy cannot begin; of memory nothing is said
 abbrev pub IsRenewFault : Config → Content → RenewFault → Type 0
 IsRenewFault c p renew_faults.NoMemory = Unit {0}
 IsRenewFault c p (renew_faults.Open f) = IsOpenFault c f
-IsRenewFault c p renew_faults.DoesNotFit = IsTooLarge c p
+IsRenewFault c p renew_faults.Unsound = is_sound p ≡ false
+IsRenewFault c p (renew_faults.TooManyObjects n) = (65534 < n) × (n ≡ length p.objects)
+IsRenewFault c p (renew_faults.ObjectTooLarge needed most) =
+    (AreAllowed c (plan_of p) → ⊥) × (most < needed)
+    × (needed ≡ (needs_of c.width c.shared p).object) × (most ≡ c.object)
+IsRenewFault c p (renew_faults.LiveTooSmall needed live cycle) = ⊥
 IsRenewFault c p (renew_faults.Copy f) = ⊥
 
 -- A heap of this configuration allows each of these commands. It was opened and did them, up to one
@@ -67,8 +72,12 @@ pub record StopsBuilding (c : Config) (ks : List Command) (f : CopyFault) : Type
   pub new : Control
   pub stops : StopsAt first ks done new f
 
--- why this picture cannot be built: the same, or one of its commands stopped
+-- Why this picture cannot be built: the same, or one of its commands stopped. Where it was answered
+-- `Full`, the live limit is lower than the picture needs.
 abbrev pub CannotBuild : Config → Content → RenewFault → Type 0
+CannotBuild c p (renew_faults.LiveTooSmall needed live cycle) =
+    StopsBuilding c (plan_of p) (copy_faults.Full cycle) × (live < needed)
+    × (needed ≡ (needs_of c.width c.shared p).live) × (live ≡ c.live)
 CannotBuild c p (renew_faults.Copy f) = StopsBuilding c (plan_of p) f
 CannotBuild c p f = IsRenewFault c p f
 
@@ -77,12 +86,26 @@ abbrev pub CannotRenew : Control → Config → RenewFault → Type 0
 CannotRenew from c renew_faults.NoMemory = Unit {0}
 CannotRenew from c f = (p : Content) × IsPictureOf from p × IsInOrder p × CannotBuild c p f
 
+-- why a heap is not saved: of memory nothing is said, or no configuration is enough for its picture
+abbrev pub IsNotSaved : Control → NotSaved → Type 0
+IsNotSaved h not_saved.NoMemory = Unit {0}
+IsNotSaved h (not_saved.TooLarge n) =
+    (p : Content) × IsPictureOf h p × (n ≡ length p.objects) × (CanBeLoaded p → ⊥)
+
 -- why bytes cannot be loaded
 abbrev pub IsLoadFault : List ℕ → Config → LoadFault → Type 0
 IsLoadFault bytes c (load_faults.Bytes f) = picture_at bytes ≡ Err f
 IsLoadFault bytes c (load_faults.Build renew_faults.NoMemory) = Unit {0}
 IsLoadFault bytes c (load_faults.Build f) =
     (p : Content) × (picture_at bytes ≡ Ok p) × CannotBuild c p f
+
+-- why it is not known what bytes need: they are of no picture, or of one that no heap allows
+abbrev pub IsNeedsFault : List ℕ → LoadFault → Type 0
+IsNeedsFault bytes (load_faults.Bytes f) = picture_at bytes ≡ Err f
+IsNeedsFault bytes (load_faults.Build renew_faults.NoMemory) = Unit {0}
+IsNeedsFault bytes (load_faults.Build (renew_faults.TooManyObjects n)) =
+    (p : Content) × (picture_at bytes ≡ Ok p) × (65534 < n) × (n ≡ length p.objects)
+IsNeedsFault bytes (load_faults.Build _) = ⊥
 
 abbrev pub copy_fault_text : CopyFault → List ℕ
 copy_fault_text (copy_faults.Full c) =
@@ -92,12 +115,27 @@ copy_fault_text (copy_faults.Refused r) = refused_text r
 abbrev pub behind_text : List ℕ
 behind_text = codes "no room to note a command; make room and note it, or begin again"
 
+abbrev pub on_fault_text : OnFault → List ℕ
+on_fault_text on_faults.Used = codes "the heap was used before; open another"
+on_fault_text on_faults.NotAllowed =
+    codes "the heap does not allow the plan; open one that needs allow"
+
 abbrev pub renew_fault_text : RenewFault → List ℕ
 renew_fault_text renew_faults.NoMemory = codes "memory ran out; free memory"
 renew_fault_text (renew_faults.Open f) = open_fault_text f
-renew_fault_text renew_faults.DoesNotFit =
+renew_fault_text renew_faults.Unsound = codes "the picture is not that of a heap; take another"
+renew_fault_text (renew_faults.TooManyObjects n) =
+    codes "more than 65,534 objects; keep fewer, in larger ones"
+renew_fault_text (renew_faults.ObjectTooLarge needed most) =
     codes "an object, or the table of all, is too large; raise `object` (at most 1024)"
+renew_fault_text (renew_faults.LiveTooSmall needed live cycle) =
+    codes "the registers, the objects and their table exceed the live limit; raise `live`"
 renew_fault_text (renew_faults.Copy f) = copy_fault_text f
+
+abbrev pub not_saved_text : NotSaved → List ℕ
+not_saved_text not_saved.NoMemory = codes "memory ran out; free memory"
+not_saved_text (not_saved.TooLarge n) =
+    codes "no heap has room for the objects and their table; keep fewer"
 
 abbrev pub load_fault_text : LoadFault → List ℕ
 load_fault_text (load_faults.Bytes f) = save_fault_text f

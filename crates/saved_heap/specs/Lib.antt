@@ -3,3 +3,4 @@ pub mod Walks
 pub mod Renewals
 pub mod Follows
 pub mod Faults
+pub mod Enough

@@ -1,7 +1,7 @@
 //! Why a heap could not be loaded or renewed, and the printed texts of the causes.
 
 ghost use Rattle.std.specs.Prelude.{◌≡◌};
-ghost use Rattle.saved_heap.specs.Faults.{copy_fault_text, load_fault_text, renew_fault_text};
+ghost use Rattle.saved_heap.specs.Faults.{copy_fault_text, load_fault_text, not_saved_text, on_fault_text, renew_fault_text};
 
 use block_store::OutOfMemory;
 use control_heap::{OpenFault, Refused};
@@ -19,18 +19,60 @@ pub enum CopyFault {
     Refused(Refused),
 }
 
-/// Why a copy cannot begin.
+/// Why a renewal cannot begin on a heap.
+#[derive(Clone, Copy, Debug, PartialEq, Eq)]
+pub enum OnFault {
+    /// A command was done on the heap.
+    Used,
+    /// The heap does not allow each of the commands: it was opened for smaller objects, or in
+    /// another version.
+    NotAllowed,
+}
+
+/// Why a heap could not be built.
 #[derive(Clone, Copy, Debug, PartialEq, Eq)]
 pub enum RenewFault {
     /// Memory ran out.
     NoMemory,
     /// The new heap could not be opened.
     Open(OpenFault),
-    /// There are more than 65,534 objects, or the new heap allows no object as large as one of
-    /// them, or as the table of all.
-    DoesNotFit,
+    /// The picture is not that of a heap.
+    Unsound,
+    /// There are more than 65,534 objects.
+    TooManyObjects {
+        /// How many there are.
+        objects: u64,
+    },
+    /// The new heap allows no object as large as one of them, or as the table of all.
+    ObjectTooLarge {
+        /// The least `object` that is enough.
+        needed: u32,
+        /// The `object` of the configuration.
+        most: u32,
+    },
+    /// An allocation was answered `Full`, and the live limit is lower than the picture needs.
+    LiveTooSmall {
+        /// The least `live` that is enough.
+        needed: u64,
+        /// The `live` of the configuration.
+        live: u32,
+        /// The cycle of the `Full`.
+        cycle: u64,
+    },
     /// The copy stopped.
     Copy(CopyFault),
+}
+
+/// Why a heap was not saved.
+#[derive(Clone, Copy, Debug, PartialEq, Eq)]
+pub enum NotSaved {
+    /// Memory ran out.
+    NoMemory,
+    /// No configuration has room for the objects and a table of them, so they could never be loaded.
+    TooLarge {
+        /// How many objects there are.
+        objects: u64,
+    },
 }
 
 /// Why bytes could not be loaded.
@@ -89,6 +131,31 @@ impl fmt::Display for CopyFault {
 
 impl Error for CopyFault {}
 
+impl OnFault {
+    /// The printed text: what is wrong, and what to do.
+    pub fn text(self) -> &'static str
+        ensures { result.now ≡ on_fault_text self }
+    {
+        match self {
+            OnFault::Used => "the heap was used before; open another",
+            OnFault::NotAllowed => "the heap does not allow the plan; open one that needs allow",
+        }
+    }
+}
+
+impl fmt::Display for OnFault {
+    ghost use Rattle.std.specs.Prelude.{Some};
+    ghost use Rattle.saved_heap.specs.Faults.{on_fault_text};
+
+    ghost output = { λ fault. Some (on_fault_text fault) };
+
+    fn fmt<W: fmt::Write>(&self, f: &mut fmt::Formatter<W>) -> fmt::Result {
+        f.write_str(self.text())
+    }
+}
+
+impl Error for OnFault {}
+
 impl RenewFault {
     /// The printed text: what is wrong, and what to do.
     pub fn text(self) -> &'static str
@@ -97,8 +164,13 @@ impl RenewFault {
         match self {
             RenewFault::NoMemory => "memory ran out; free memory",
             RenewFault::Open(fault) => fault.text(),
-            RenewFault::DoesNotFit =>
+            RenewFault::Unsound => "the picture is not that of a heap; take another",
+            RenewFault::TooManyObjects { .. } =>
+                "more than 65,534 objects; keep fewer, in larger ones",
+            RenewFault::ObjectTooLarge { .. } =>
                 "an object, or the table of all, is too large; raise `object` (at most 1024)",
+            RenewFault::LiveTooSmall { .. } =>
+                "the registers, the objects and their table exceed the live limit; raise `live`",
             RenewFault::Copy(fault) => fault.text(),
         }
     }
@@ -116,6 +188,43 @@ impl fmt::Display for RenewFault {
 }
 
 impl Error for RenewFault {}
+
+impl From<OutOfMemory> for NotSaved {
+    ghost use Rattle.std.specs.Prelude.{◌≡◌};
+    ghost use Rattle.saved_heap.specs.declared.faults.NotSaved.TheVariants.{NoMemory};
+
+    ghost from_gives = { λ _ e. e ≡ NoMemory };
+
+    fn from(_e: OutOfMemory) -> NotSaved {
+        NotSaved::NoMemory
+    }
+}
+
+impl NotSaved {
+    /// The printed text: what is wrong, and what to do.
+    pub fn text(self) -> &'static str
+        ensures { result.now ≡ not_saved_text self }
+    {
+        match self {
+            NotSaved::NoMemory => "memory ran out; free memory",
+            NotSaved::TooLarge { .. } =>
+                "no heap has room for the objects and their table; keep fewer",
+        }
+    }
+}
+
+impl fmt::Display for NotSaved {
+    ghost use Rattle.std.specs.Prelude.{Some};
+    ghost use Rattle.saved_heap.specs.Faults.{not_saved_text};
+
+    ghost output = { λ fault. Some (not_saved_text fault) };
+
+    fn fmt<W: fmt::Write>(&self, f: &mut fmt::Formatter<W>) -> fmt::Result {
+        f.write_str(self.text())
+    }
+}
+
+impl Error for NotSaved {}
 
 impl LoadFault {
     /// The printed text: what is wrong, and what to do.

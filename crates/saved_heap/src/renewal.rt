@@ -6,24 +6,29 @@ ghost use Rattle.never_heap.specs.Graphs.{Graph};
 ghost use Rattle.never_heap.specs.Steps.{step};
 ghost use Rattle.heap_pictures.specs.Pictures.{Content, content_of, graph_of, is_sound};
 ghost use Rattle.heap_pictures.specs.Plans.{graph_after, plan_of};
-ghost use Rattle.control_heap.specs.Controls.{Control, asked};
+ghost use Rattle.block_store.specs.declared.Config.{Config};
+ghost use Rattle.control_heap.specs.Controls.{CanOpen, Control, asked};
 ghost use Rattle.control_heap.specs.Unused.{IsUnused};
 ghost use Rattle.graph_view.specs.Shown.{Leaves};
 ghost use Rattle.saved_heap.specs.Follows.{HasFollowed, IsFollowed};
 ghost use Rattle.saved_heap.specs.Renewals.{HasBuilt, IsBuilt, IsBuiltFrom, IsOpened, ShowOneGraph, ShowsPicture, ShowsUpToNames, rest_of};
-ghost use Rattle.saved_heap.specs.Faults.{AreAllowed, CannotBuild, CannotRenew, IsCopyFault, IsRenewFault, StopsAt};
+ghost use Rattle.saved_heap.specs.declared.faults.OnFault.TheVariants.{NotAllowed, Used};
+ghost use Rattle.saved_heap.specs.declared.faults.RenewFault.{RenewFault};
+ghost use Rattle.saved_heap.specs.Enough.{IsEnough, IsOfMemory};
+ghost use Rattle.saved_heap.specs.Faults.{AreAllowed, CannotBuild, CannotRenew, IsCopyFault, IsRenewFault, StopsAt, StopsBuilding};
 
 mod follow;
 
-use crate::{CopyFault, RenewFault, picture_of};
+use crate::{CopyFault, OnFault, RenewFault, picture_of};
 use block_store::Config;
 use control_heap::{ControlHeap, histories_are_right};
 pub use follow::Behind;
-use graph_view::ask;
+use graph_view::{ask, lives_add_up, small_histories_are_shown};
 use heap_pictures::{
     Picture, commands_keep_names, names_follow_one_another, pictures_are_built, plan,
 };
-use never_heap::{Command, Reply};
+use never_heap::{Command, Reply, live_grows, opening_blocks_are_live};
+use rate_plan::one_rate;
 use std::alloc::Global;
 use std::marker::Model;
 
@@ -55,6 +60,17 @@ impl Model for Renewal {
           done = s.done;
           room = vec_capacity s.commands - length s.commands.items;
         }) };
+}
+
+/// A renewal that could not begin on a heap: what was given for it, and why.
+#[derive(Drop)]
+pub struct NotBegun {
+    /// The heap, unchanged.
+    pub heap: ControlHeap,
+    /// The planned commands.
+    pub commands: Vec<Command>,
+    /// Why it could not begin.
+    pub fault: OnFault,
 }
 
 // Whether a heap allows each of these commands.
@@ -114,30 +130,82 @@ fn copied(
     (count, Ok(()))
 }
 
+// The fault of a configuration that does not allow the commands of a picture.
+fn too_large(picture: &Picture, c: &Config) -> RenewFault
+    requires sound { is_sound (content_of picture.now) ≡ true }
+    requires few { length picture.now.objects.items ≤ 65534 }
+    requires not { AreAllowed c.now (plan_of (content_of picture.now)) → ⊥ }
+    ensures { IsRenewFault c.now (content_of picture.now) result }
+{
+    match picture.needs(c.width, 0) {
+        Some(needs) => RenewFault::ObjectTooLarge {
+            needed: needs.object,
+            most: c.object,
+        },
+        None => unreachable!(),
+    }
+}
+
+// The fault of a copy that stopped.
+fn stopped(picture: &Picture, c: &Config, fault: CopyFault) -> RenewFault
+    requires can { CanOpen c.now }
+    requires sound { is_sound (content_of picture.now) ≡ true }
+    requires few { length picture.now.objects.items ≤ 65534 }
+    requires stops { StopsBuilding c.now (plan_of (content_of picture.now)) fault }
+    ensures { CannotBuild c.now (content_of picture.now) result }
+{
+    live_grows();
+    opening_blocks_are_live();
+    one_rate();
+    histories_are_right();
+    small_histories_are_shown();
+    lives_add_up();
+    let CopyFault::Full(cycle) = fault else {
+        return RenewFault::Copy(fault);
+    };
+    match picture.needs(c.width, c.shared) {
+        Some(needs) => RenewFault::LiveTooSmall {
+            needed: needs.live,
+            live: c.live,
+            cycle,
+        },
+        None => unreachable!(),
+    }
+}
+
 impl Renewal {
     /// Opens a heap, in which `copy` then builds what a picture shows.
     ///
     /// # Errors
     ///
-    /// `DoesNotFit` where the heap does not allow objects as large as those of the picture and a
-    /// table of all of them; `Open` where it cannot be opened; `NoMemory` where memory runs out.
+    /// `Unsound` and `TooManyObjects`, which no heap allows; `ObjectTooLarge` where the heap does not
+    /// allow objects as large as those of the picture and a table of all of them; `Open` where it
+    /// cannot be opened; `NoMemory` where memory runs out.
     pub fn of(alloc: Global, picture: &Picture, c: Config) -> Result<Renewal, RenewFault>
         ensures sound { OnOk result (is_sound (content_of picture.now) ≡ true) }
         ensures commands { IfOk result (λ n. n.commands ≡ plan_of (content_of picture.now)) }
         ensures none { IfOk result (λ n. n.done ≡ 0) }
         ensures config { IfOk result (λ n. n.heap.config ≡ c) }
         ensures opened { IfOk result (λ n. IsOpened c n.heap) }
+        ensures can { OnOk result (CanOpen c) }
+        ensures few { OnOk result (length picture.now.objects.items ≤ 65534) }
         ensures allowed { OnOk result (AreAllowed c (plan_of (content_of picture.now))) }
         ensures followed { IfOk result (λ n. (from : Control)
             → IsFollowed from (content_of picture.now) n.commands from) }
         ensures refused { IfErr result (IsRenewFault c (content_of picture.now)) }
     {
-        if picture.objects.len() > 65_534 || !picture.is_sound() {
-            return Err(RenewFault::DoesNotFit);
+        let objects = picture.objects.len();
+        if objects > 65_534 {
+            return Err(RenewFault::TooManyObjects {
+                objects: objects as u64,
+            });
+        }
+        if !picture.is_sound() {
+            return Err(RenewFault::Unsound);
         }
         let commands = plan(alloc, picture)?;
         if !are_allowed(&commands, &c) {
-            return Err(RenewFault::DoesNotFit);
+            return Err(too_large(picture, &c));
         }
         match ControlHeap::open(alloc, c) {
             Err(fault) => Err(RenewFault::Open(fault)),
@@ -154,19 +222,35 @@ impl Renewal {
     ///
     /// # Errors
     ///
-    /// The heap, where a command was done on it (`used`).
-    pub fn on(heap: ControlHeap, commands: Vec<Command>) -> Result<Renewal, ControlHeap>
+    /// Both, with the first that applies: `Used` where a command was done on the heap (`used`), and
+    /// `NotAllowed` where it does not allow each of the commands (`refused`).
+    pub fn on(heap: ControlHeap, commands: Vec<Command>) -> Result<Renewal, NotBegun>
         ensures commands { IfOk result (λ n. n.commands ≡ commands.items) }
         ensures none { IfOk result (λ n. n.done ≡ 0) }
         ensures heap { IfOk result (λ n. n.heap ≡ heap) }
         ensures opened { IfOk result (λ n. IsOpened heap.config n.heap) }
         ensures followed { IfOk result (λ n. (from : Control) (p : Content)
             → n.commands ≡ plan_of p → IsFollowed from p n.commands from) }
-        ensures used { OnErr result (IsUnused heap → ⊥) }
-        ensures same { IfErr result (λ h. h ≡ heap) }
+        ensures allowed { OnOk result (AreAllowed heap.config commands.items) }
+        ensures used { IfErr result (λ n. n.fault ≡ Used → IsUnused heap → ⊥) }
+        ensures refused { IfErr result (λ n. n.fault ≡ NotAllowed
+            → IsUnused heap × (AreAllowed heap.config commands.items → ⊥)) }
+        ensures same { IfErr result (λ n. n.heap ≡ heap) }
+        ensures plan { IfErr result (λ n. n.commands.items ≡ commands.items) }
     {
         if !heap.is_unused() {
-            return Err(heap);
+            return Err(NotBegun {
+                heap,
+                commands,
+                fault: OnFault::Used,
+            });
+        }
+        if !are_allowed(&commands, heap.config()) {
+            return Err(NotBegun {
+                heap,
+                commands,
+                fault: OnFault::NotAllowed,
+            });
         }
         Ok(Renewal {
             heap,
@@ -237,21 +321,39 @@ impl Renewal {
     }
 }
 
+/// A heap that can be opened and allows what a picture needs is enough to build it: nothing but
+/// memory may be lacking.
+pub fn needs_are_enough()
+    ensures { (c : Config) (p : Content) (f : RenewFault) → IsEnough c p → CannotBuild c p f
+        → IsOfMemory f }
+{
+    live_grows();
+    opening_blocks_are_live();
+    one_rate();
+    histories_are_right();
+    small_histories_are_shown();
+    lives_add_up();
+}
+
 /// A heap of a configuration that shows what a picture shows, up to names. It does all commands at
 /// once.
 ///
 /// # Errors
 ///
-/// As for `Renewal::of` and `Renewal::copy`.
+/// As for `Renewal::of` and `Renewal::copy`; `LiveTooSmall` where `copy` has `Full`. Where the
+/// configuration can be opened and allows what the picture needs (`Picture::needs`), only memory may
+/// be lacking (`enough`).
 pub fn build(alloc: Global, picture: &Picture, c: Config) -> Result<ControlHeap, RenewFault>
     ensures config { IfOk result (λ h. h.config ≡ c) }
     ensures shown { IfOk result (λ h. ShowsUpToNames h (graph_of (content_of picture.now))) }
     ensures built { IfOk result (IsBuilt c (plan_of (content_of picture.now))) }
     ensures refused { IfErr result (CannotBuild c (content_of picture.now)) }
+    ensures enough { IsEnough c (content_of picture.now) → IfErr result IsOfMemory }
 {
+    needs_are_enough();
     let mut renewal = Renewal::of(alloc, picture, c)?;
     if let Err(fault) = renewal.copy(usize::MAX) {
-        return Err(RenewFault::Copy(fault));
+        return Err(stopped(picture, &c, fault));
     }
     match renewal.finish() {
         Ok(heap) => Ok(heap),

@@ -1,33 +1,53 @@
 //! Heaps as bytes.
 
 ghost use Rattle.std.specs.Prelude.{◌≡◌, ◌^◌, ◌<◌, Ok, true, length, IfOk, IfErr};
-ghost use Rattle.heap_pictures.specs.Pictures.{Content, graph_of, is_sound};
+ghost use Rattle.heap_pictures.specs.Pictures.{Content, content_of, graph_of, is_sound};
 ghost use Rattle.heap_pictures.specs.Plans.{plan_of};
 ghost use Rattle.heap_pictures.specs.Spelling.{saved};
 ghost use Rattle.heap_pictures.specs.Reading.{picture_at};
 ghost use Rattle.control_heap.specs.Controls.{Control};
-ghost use Rattle.saved_heap.specs.Faults.{IsLoadFault};
+ghost use Rattle.saved_heap.specs.Enough.{CanBeLoaded, IsEnough, IsOfMemoryAlone};
+ghost use Rattle.saved_heap.specs.Faults.{IsLoadFault, IsNotSaved};
 ghost use Rattle.saved_heap.specs.Orders.{IsInOrder};
 ghost use Rattle.saved_heap.specs.Renewals.{IsBuilt, IsPictureOf, ShowOneGraph, ShowsUpToNames};
 
-use crate::{LoadFault, RenewFault, build, picture_of};
+use crate::needs::can_be_loaded;
+use crate::{LoadFault, NotSaved, RenewFault, build, needs_are_enough, picture_of};
 use block_store::{Config, OutOfMemory};
 use control_heap::ControlHeap;
-use heap_pictures::{ReadError, decode, encode, names_follow_one_another};
+use heap_pictures::{Picture, ReadError, decode, encode, names_follow_one_another};
 use std::alloc::Global;
 
-/// What the registers of a heap reach, as bytes: those of its picture.
+// The bytes of a picture.
+fn written(alloc: Global, picture: &Picture) -> Result<Vec<u8>, OutOfMemory>
+    ensures { IfOk result (λ v. v.items ≡ saved (content_of picture.now)) }
+{
+    Ok(encode(alloc, picture)?)
+}
+
+/// What the registers of a heap reach, as bytes: those of its picture. Some configuration is enough
+/// to load them, but not always that of the heap: `needs_of` tells what they need, `Needs::raise`
+/// raises a configuration as far, and `least_config` is the smallest.
 ///
 /// # Errors
 ///
-/// `OutOfMemory` where there is no memory for them.
-pub fn save(alloc: Global, heap: &ControlHeap) -> Result<Vec<u8>, OutOfMemory>
+/// `TooLarge` where no configuration is enough, so they could never be loaded; `NoMemory` where
+/// there is no memory for them.
+pub fn save(alloc: Global, heap: &ControlHeap) -> Result<Vec<u8>, NotSaved>
     ensures saved { IfOk result (λ v.
-        (p : Content) × (v.items ≡ saved p) × IsPictureOf heap.now p × IsInOrder p) }
+        (p : Content) × (v.items ≡ saved p) × IsPictureOf heap.now p × IsInOrder p
+        × CanBeLoaded p) }
     ensures short { IfOk result (λ v. length v.items < 2 ^ 64) }
+    ensures refused { IfErr result (IsNotSaved heap.now) }
 {
     let picture = picture_of(alloc, heap)?;
-    Ok(encode(alloc, &picture)?)
+    if !can_be_loaded(&picture) {
+        return Err(NotSaved::TooLarge {
+            objects: picture.objects.len() as u64,
+        });
+    }
+    let bytes = written(alloc, &picture)?;
+    Ok(bytes)
 }
 
 /// Opens a heap that shows what was saved, up to names: the graph of the heap that `save` was given
@@ -36,7 +56,8 @@ pub fn save(alloc: Global, heap: &ControlHeap) -> Result<Vec<u8>, OutOfMemory>
 /// # Errors
 ///
 /// `Bytes` with the first fault of the bytes; or, as for `build`, why what they show cannot be
-/// built.
+/// built: where the configuration can be opened and allows what they need (`needs_of`), only for
+/// memory (`enough`).
 pub fn load(alloc: Global, bytes: &[u8], c: Config) -> Result<ControlHeap, LoadFault>
     ensures config { IfOk result (λ h. h.config ≡ c) }
     ensures shown { IfOk result (λ h.
@@ -48,8 +69,11 @@ pub fn load(alloc: Global, bytes: &[u8], c: Config) -> Result<ControlHeap, LoadF
     ensures intact { (p : Content) → is_sound p ≡ true → length (saved p) < 2 ^ 64
         → bytes.now ≡ saved p → picture_at bytes.now ≡ Ok p }
     ensures refused { IfErr result (IsLoadFault bytes.now c) }
+    ensures enough { (p : Content) → picture_at bytes.now ≡ Ok p → IsEnough c p
+        → IfErr result IsOfMemoryAlone }
 {
     names_follow_one_another();
+    needs_are_enough();
     let picture = match decode(alloc, bytes) {
         Ok(picture) => picture,
         Err(ReadError::Memory) => return Err(LoadFault::Build(RenewFault::NoMemory)),

@@ -3,6 +3,7 @@
 ghost use Rattle.std.specs.Prelude.{◌<◌};
 
 mod follow;
+mod needs;
 mod pieces;
 
 use crate::{CopyFault, LoadFault, RenewFault, Renewal, load, picture_of, renew, save};
@@ -284,7 +285,8 @@ fn a_heap_that_is_too_small_is_refused(rt: HostRuntime) -> Result<(), Fail> {
         object: 3,
         ..CONFIG
     };
-    assert!(rt; matches!(renew(rt.alloc(), &heap, small), Err(RenewFault::DoesNotFit)));
+    let too_large = RenewFault::ObjectTooLarge { needed: 9, most: 3 };
+    assert!(rt; renew(rt.alloc(), &heap, small).err() == Some(too_large));
     let full = Config {
         live: 100,
         blocks: 150,

@@ -1,7 +1,7 @@
 //! The picture of a heap: a walk over all objects that its registers reach.
 
-ghost use Rattle.std.specs.Prelude.{◌≡◌, ◌^◌, ◌<◌, ◌++◌, ◌∷◌, [], ℕ, suc, length, slice_index, slice_set, IfOk, OnOk};
-ghost use Rattle.heap_pictures.specs.Pictures.{content_of, kind_of, view};
+ghost use Rattle.std.specs.Prelude.{◌≡◌, ◌^◌, ◌<◌, ◌++◌, ◌∷◌, [], ℕ, suc, true, length, slice_index, slice_set, IfOk, OnOk};
+ghost use Rattle.heap_pictures.specs.Pictures.{content_of, is_sound, kind_of, view};
 ghost use Rattle.control_heap.specs.Seen.{kind_seen};
 ghost use Rattle.saved_heap.specs.Orders.{IsInOrder};
 ghost use Rattle.saved_heap.specs.Renewals.{IsPictureOf};
@@ -148,6 +148,7 @@ fn item_of(
 pub fn picture_of(alloc: Global, heap: &ControlHeap) -> Result<Picture, OutOfMemory>
     ensures picture { IfOk result (λ p. IsPictureOf heap.now (content_of p)) }
     ensures order { IfOk result (λ p. IsInOrder (content_of p)) }
+    ensures sound { IfOk result (λ p. is_sound (content_of p) ≡ true) }
 {
     let mut reading = Reading::of(alloc, heap)?;
     let _done = reading.step(alloc, usize::MAX)?;

@@ -61,7 +61,7 @@ fn planned_meanwhile(
         return Err(Stop::Behind);
     };
     if picture.objects.len() > 65_534 {
-        return Err(Stop::Renew(RenewFault::DoesNotFit));
+        return Err(Stop::Renew(RenewFault::Unsound));
     }
     let mut planning = Planning::of(alloc, picture);
     for _period in 0..u64::MAX {

@@ -19,3 +19,8 @@ returns-clause-built c = record {
       (c.in-Ok.ensures.all ∙ ap length c.copy.ensures.commands) c.in_ok-renewal.ensures.commands
       c.in-Ok.ensures.heap c.in_default.ensures.built;
 }
+
+pub returns-in-Err-clause-enough : goal.returns-in-Err-clause-enough
+returns-in-Err-clause-enough c = λ enough.
+    c.needs_are_enough.ensures c.args.c (content_of c.args.picture.now) c.stopped.result enough
+    c.stopped.ensures

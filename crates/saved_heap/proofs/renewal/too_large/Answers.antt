@@ -1,0 +1,15 @@
+use Rattle.std.proofs.Common.{◌≡◌, ◌∙◌, ap, refl, subst, sym, arith, length, ◌≤◌}
+use Rattle.heap_pictures.specs.declared.needs.Needs.{Needs}
+use Rattle.heap_pictures.specs.Pictures.{content_of}
+use Rattle.heap_pictures.proofs.Turns.{count_is}
+use Rattle.saved_heap.proofs.Enough.{object_lacks}
+use Rattle.saved_heap.proofs.renewal.too_large.Goals as goal
+
+pub returns : goal.returns
+returns c =
+    let p = content_of c.args.picture.now in
+    let n = count_is c.args.picture.now in
+    let few : length p.objects ≤ 65534 = (let f = c.requires.few in omega (arith, f, n)) in
+    let is = ap (λ (x : Needs). x.object) c.in-Some.ensures.needs in
+    let lacks = object_lacks c.args.c.now p c.requires.sound few c.requires.not in
+    (c.requires.not, omega (arith, is, lacks), is, refl)

@@ -1,0 +1,39 @@
+-- What is enough to build a picture.
+use Rattle.std.specs.Prelude.{◌≡◌, ◌+◌, ◌*◌, ◌≤◌, true}
+use Rattle.block_store.specs.declared.Config.{Config}
+use Rattle.heap_pictures.specs.Needs.{Meets, needs_of}
+use Rattle.heap_pictures.specs.Pictures.{Content, is_sound}
+use Rattle.control_heap.specs.declared.control.OpenFault.TheVariants as opening
+use Rattle.control_heap.specs.Controls.{CanOpen}
+use Rattle.saved_heap.specs.declared.faults.LoadFault.{LoadFault}
+use Rattle.saved_heap.specs.declared.faults.LoadFault.TheVariants as load_faults
+use Rattle.saved_heap.specs.declared.faults.RenewFault.{RenewFault}
+use Rattle.saved_heap.specs.declared.faults.RenewFault.TheVariants as renew_faults
+
+-- A heap of this configuration can be opened, and allows what the picture needs.
+pub record IsEnough (c : Config) (p : Content) : Type 0 where
+  pub can : CanOpen c
+  pub sound : is_sound p ≡ true
+  pub meets : Meets c (needs_of c.width c.shared p)
+
+-- memory ran out
+abbrev pub IsOfMemory : RenewFault → Type 0
+IsOfMemory renew_faults.NoMemory = Unit {0}
+IsOfMemory (renew_faults.Open opening.NoMemory) = Unit {0}
+IsOfMemory _ = ⊥
+
+-- bytes were those of a picture, and memory ran out
+abbrev pub IsOfMemoryAlone : LoadFault → Type 0
+IsOfMemoryAlone (load_faults.Build f) = IsOfMemory f
+IsOfMemoryAlone _ = ⊥
+
+-- some configuration is enough
+abbrev pub CanBeLoaded : Content → Type 0
+CanBeLoaded p = (c : Config) × IsEnough c p
+
+-- a configuration for one thread has room for a cycle beyond its limits
+pub record HasRoom (c : Config) : Type 0 where
+  pub single : c.threads ≡ 1
+  pub shared : c.shared ≤ 1024
+  pub object : 1 ≤ c.object
+  pub room : c.live + 2 * (1 + c.object) ≤ c.blocks

@@ -1,0 +1,85 @@
+//! Configurations in which pictures can be built.
+
+ghost use Rattle.std.specs.Prelude.{◌≡◌, ◌≤◌, true, false, Ok, IfOk, IfErr, IfSome, IfNone};
+ghost use Rattle.block_store.specs.declared.Config.{Config};
+ghost use Rattle.heap_pictures.specs.Needs.{IsRaised, needs_of};
+ghost use Rattle.heap_pictures.specs.Pictures.{Content, content_of, is_sound};
+ghost use Rattle.heap_pictures.specs.Reading.{picture_at};
+ghost use Rattle.saved_heap.specs.Enough.{CanBeLoaded, HasRoom, IsEnough};
+ghost use Rattle.saved_heap.specs.Faults.{IsNeedsFault};
+
+use crate::{LoadFault, RenewFault};
+use array_trees::tree_counts;
+use block_store::{Config, Width};
+use heap_pictures::{Needs, Picture, ReadError, decode};
+use std::alloc::Global;
+
+/// A configuration for one thread with room beyond its limits, as each has that can be opened, is
+/// enough for a picture once it is raised to what the picture needs (`Needs::raise`).
+pub fn raised_is_enough()
+    ensures { (c d : Config) (p : Content) → HasRoom c → is_sound p ≡ true
+        → IsRaised c (needs_of c.width c.shared p) d → IsEnough d p }
+{}
+
+/// The smallest configuration in which a picture can be built, with blocks of this width and an
+/// empty shared array. Its rate is the highest; more blocks lower it.
+///
+/// None exactly where there is none of this width.
+pub fn least_config(picture: &Picture, width: Width) -> Option<Config>
+    ensures width { IfSome result (λ c. c.width ≡ width) }
+    ensures enough { IfSome result (λ c. IsEnough c (content_of picture.now)) }
+    ensures none { IfNone result
+        ((c : Config) → c.width ≡ width → IsEnough c (content_of picture.now) → ⊥) }
+{
+    raised_is_enough();
+    tree_counts();
+    let needs = picture.needs(width, 0)?;
+    needs.raise(Config {
+        width,
+        threads: 1,
+        blocks: 4,
+        live: 0,
+        object: 1,
+        shared: 0,
+    })
+}
+
+/// Whether some configuration is enough for a picture.
+pub(crate) fn can_be_loaded(picture: &Picture) -> bool
+    ensures yes { result ≡ true → CanBeLoaded (content_of picture.now) }
+    ensures no { result ≡ false → CanBeLoaded (content_of picture.now) → ⊥ }
+{
+    match least_config(picture, Width::Eight) {
+        Some(_) => true,
+        None => match least_config(picture, Width::Four) {
+            Some(_) => true,
+            None => false,
+        },
+    }
+}
+
+/// What a heap with blocks of this width and a shared array of this many elements has to allow, so
+/// that bytes can be loaded.
+///
+/// # Errors
+///
+/// `Bytes` with the first fault of the bytes; `Build` with `TooManyObjects`, which no heap allows,
+/// or with `NoMemory`.
+pub fn needs_of(alloc: Global, bytes: &[u8], width: Width, shared: u32) -> Result<Needs, LoadFault>
+    requires { shared ≤ 65535 }
+    ensures needs { IfOk result (λ n. (p : Content) × (picture_at bytes.now ≡ Ok p)
+        × (is_sound p ≡ true) × (n ≡ needs_of width shared p)) }
+    ensures refused { IfErr result (IsNeedsFault bytes.now) }
+{
+    let picture = match decode(alloc, bytes) {
+        Ok(picture) => picture,
+        Err(ReadError::Memory) => return Err(LoadFault::Build(RenewFault::NoMemory)),
+        Err(ReadError::Fault(fault)) => return Err(LoadFault::Bytes(fault)),
+    };
+    match picture.needs(width, shared) {
+        Some(needs) => Ok(needs),
+        None => Err(LoadFault::Build(RenewFault::TooManyObjects {
+            objects: picture.objects.len() as u64,
+        })),
+    }
+}
