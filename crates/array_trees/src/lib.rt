@@ -152,6 +152,3 @@ pub fn registers_are_arrays()
     ensures root { (w : Width) (j : ℕ) → j < payloads w
         → array_part w REGISTERS 0 j ≡ link_below (1 + j) (register_blocks w) }
 {}
-
-#[cfg(test)]
-mod tests;

@@ -12,8 +12,6 @@ ghost use Rattle.block_store.specs.Widths.{payloads, register_blocks};
 mod colours;
 mod laws;
 mod places;
-#[cfg(test)]
-mod tests;
 mod words;
 
 pub use colours::{black, colour_word, phase_word, read_colour, read_phase, white};

@@ -46,7 +46,7 @@ use Rattle.build_steps.specs.Naming.{
   row_build,
 }
 use Rattle.build_steps.specs.Rows.{BuildState, build_over, row_holding, build_holding}
-use Rattle.build_steps.specs.Standing.{IsWhole, IsSpawned, Stands, left_of, begun_of}
+use Rattle.build_steps.specs.Standing.{IsWhole, IsBegun, Stands, left_of, begun_of}
 use Rattle.build_steps.proofs.Once.{row_holds}
 use Rattle.build_steps.proofs.Parts.{has_blocks}
 use Rattle.build_steps.proofs.Shapes.{made_blocks, payload_made, shape_made}
@@ -86,7 +86,7 @@ module _ (c : Config) (h : Heap) (s : BuildState) (f : BuildFits c s) where
   -- the ordinals from left on are whole, and of the one before it so many words are written
   record IsStanding (left step : ℕ) : Type 0 where
     whole : (o : ℕ) → left ≤ o → o < s.blocks → IsWhole c.width h s o
-    begun : (o : ℕ) → suc o ≡ left → IsSpawned c.width h s o step
+    begun : (o : ℕ) → suc o ≡ left → IsBegun c.width h s o step
 
   none_stands : IsStanding s.blocks 0
   none_stands = record {

@@ -18,7 +18,7 @@ use Rattle.build_steps.specs.Objects.{block_at}
 use Rattle.build_steps.specs.Rows.{BuildState, built_at, built_owner, built_shape, built_payload, row_want, row_got, held_got, after_count, after_reserve, after_take, after_last, after_collect, after_payload, after_colour, build_want, build_got, building}
 use Rattle.build_steps.specs.Fits.{RowFits, BuildFits}
 use Rattle.build_steps.specs.LinearizationPoints.{is_publishing}
-use Rattle.build_steps.specs.Standing.{IsWhole, IsSpawned, left_of, begun_of, Stands, HeldOnce, is_of_block, IsElsewhere}
+use Rattle.build_steps.specs.Standing.{IsWhole, IsBegun, left_of, begun_of, Stands, HeldOnce, is_of_block, IsElsewhere}
 
 twice : (xs : List ℕ) (i j : ℕ) → i < j → j < length xs → block_at xs i ≡ block_at xs j
     → 2 ≤ times (block_at xs j) xs
@@ -79,8 +79,8 @@ module _ (w : Width) (h : Heap) (s : BuildState) (p : Place) (v : ℕ) where
     black = rw off.colour k.black;
   }
 
-  begun_off : (o n : ℕ) → Off p (built_at s o) → IsSpawned w h s o n
-      → IsSpawned w (put_at h p v) s o n
+  begun_off : (o n : ℕ) → Off p (built_at s o) → IsBegun w h s o n
+      → IsBegun w (put_at h p v) s o n
   begun_off o n off k = record {
     owned = λ some. rw off.owner (k.owned some);
     shaped = λ some. rw off.shape (k.shaped some);
@@ -141,8 +141,8 @@ pub whole_row : (w : Width) (h : Heap) (s : BuildState) (o : ℕ) (r : BuildRow)
 whole_row w h s o r k =
     record { owned = k.owned; shaped = k.shaped; links = k.links; black = k.black }
 
-begun_row : (w : Width) (h : Heap) (s : BuildState) (o n : ℕ) (r : BuildRow) → IsSpawned w h s o n
-    → IsSpawned w h (at_row s r) o n
+begun_row : (w : Width) (h : Heap) (s : BuildState) (o n : ℕ) (r : BuildRow) → IsBegun w h s o n
+    → IsBegun w h (at_row s r) o n
 begun_row w h s o n r k = record { owned = k.owned; shaped = k.shaped; links = k.links }
 
 -- rows with nothing written: all ordinals are left, and no word of the last is written
@@ -198,7 +198,7 @@ module _ (w : Width) (h : Heap) (s : BuildState) (o : ℕ) (once : HeldOnce s.he
   goes_on : (p : Place) (v : ℕ) (r r' : BuildRow) → left_of s.blocks r ≡ suc o
       → left_of s.blocks r' ≡ suc o
       → ((q : ℕ) → q < s.blocks → (o ≡ q → ⊥) → is_of_block (built_at s q) p ≡ false)
-      → IsSpawned w (put_at h p v) s o (begun_of (payloads w) r')
+      → IsBegun w (put_at h p v) s o (begun_of (payloads w) r')
       → Stands w h (at_row s r) → Stands w (put_at h p v) (at_row s r')
   goes_on p v r r' left left' away begun k = record {
     whole = λ q from low.
@@ -206,12 +206,12 @@ module _ (w : Width) (h : Heap) (s : BuildState) (o : ℕ) (once : HeldOnce s.he
         (off_place p (built_at s q) (away q low (λ z. omega arith))) (k.whole q (omega arith) low));
     begun = λ q last.
         let same : o ≡ q = omega arith in
-        subst (λ z. IsSpawned w (put_at h p v) (at_row s r') z (begun_of (payloads w) r')) same
+        subst (λ z. IsBegun w (put_at h p v) (at_row s r') z (begun_of (payloads w) r')) same
         (begun_row w (put_at h p v) s o (begun_of (payloads w) r') r' begun);
   }
 
   begun_here : (r : BuildRow) → left_of s.blocks r ≡ suc o → Stands w h (at_row s r)
-      → IsSpawned w h s o (begun_of (payloads w) r)
+      → IsBegun w h s o (begun_of (payloads w) r)
   begun_here r left k =
       begun_row w h (at_row s r) o (begun_of (payloads w) r) s.row (k.begun o (sym left))
 
@@ -240,8 +240,8 @@ module _ (w : Width) (h : Heap) (s : BuildState) (o : ℕ) (once : HeldOnce s.he
       }) k
 
   -- payload j is the next, and stands among the first n words then
-  payload_begun : (j n : ℕ) → n ≡ j + 3 → IsSpawned w h s o (j + 2)
-      → IsSpawned w (put_at h (PayloadOf (built_at s o) j) (built_payload w s o j)) s o n
+  payload_begun : (j n : ℕ) → n ≡ j + 3 → IsBegun w h s o (j + 2)
+      → IsBegun w (put_at h (PayloadOf (built_at s o) j) (built_payload w s o j)) s o n
   payload_begun j n many b = record {
     owned = λ some. b.owned (omega arith);
     shaped = λ some. b.shaped (omega arith);

@@ -60,7 +60,7 @@ pub record IsWhole (w : Width) (h : Heap) (s : BuildState) (o : ℕ) : Type 0 wh
   pub black : h (ColourOf (built_at s o)) ≡ black_word s.cycle
 
 -- the first n words of the block of ordinal o are written: its owner, its shape, its payloads
-pub record IsSpawned (w : Width) (h : Heap) (s : BuildState) (o n : ℕ) : Type 0 where
+pub record IsBegun (w : Width) (h : Heap) (s : BuildState) (o n : ℕ) : Type 0 where
   pub owned : 0 < n → h (OwnerOf (built_at s o)) ≡ built_owner s o
   pub shaped : 1 < n → h (ShapeOf (built_at s o)) ≡ built_shape s
   pub links : (j : ℕ) → j < payloads w → j + 2 < n
@@ -94,7 +94,7 @@ IsNextWord many k r r' =
 pub record Stands (w : Width) (h : Heap) (s : BuildState) : Type 0 where
   pub whole : (o : ℕ) → left_of s.blocks s.row ≤ o → o < s.blocks → IsWhole w h s o
   pub begun : (o : ℕ) → suc o ≡ left_of s.blocks s.row
-      → IsSpawned w h s o (begun_of (payloads w) s.row)
+      → IsBegun w h s o (begun_of (payloads w) s.row)
 
 -- no block is held twice
 abbrev pub HeldOnce : List ℕ → Type 0

@@ -10,10 +10,6 @@ mod laws;
 pub mod outcomes;
 mod readings;
 mod store;
-#[cfg(test)]
-mod tests;
-#[cfg(test)]
-mod watch_tests;
 
 pub use control::{ControlHeap, OpenFault, Refused, Seen, Snapshot};
 pub use counted::{Counted, operations_of};

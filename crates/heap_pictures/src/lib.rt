@@ -8,8 +8,6 @@ mod needs;
 mod picture;
 mod plans;
 mod reading;
-#[cfg(test)]
-mod tests;
 mod writing;
 
 pub use command_laws::{commands_keep_names, names_take_no_blocks};

@@ -1,28 +1,16 @@
 //! Structures for programs on a `ControlHeap`: each shows a plain list of values.
 #![tactic(auto)]
 
-#[cfg(test)]
-mod alarm_tests;
 mod alarms;
 mod cells;
-#[cfg(test)]
-mod example_tests;
 mod laws;
 mod map;
-#[cfg(test)]
-mod map_tests;
 mod places;
 mod queue;
-#[cfg(test)]
-mod record_tests;
 mod records;
 mod ring;
 mod table;
-#[cfg(test)]
-mod tests;
 mod trend;
-#[cfg(test)]
-mod trend_tests;
 
 pub use alarms::{Alarm, AlarmList, NUMBERS, Raised, alarms_stand_once};
 pub use cells::Cells;

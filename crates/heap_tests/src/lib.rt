@@ -8,6 +8,8 @@ mod drawn;
 #[cfg(test)]
 mod judging;
 #[cfg(test)]
+mod locked;
+#[cfg(test)]
 mod lone;
 #[cfg(test)]
 mod ordered;

@@ -14,9 +14,6 @@ use std::marker::Model;
 use std::sync::{Mutex, Wait};
 use std::thread;
 
-#[cfg(test)]
-mod tests;
-
 // A system that keeps no order.
 #[derive(Drop)]
 struct Plain {

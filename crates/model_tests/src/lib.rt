@@ -3,6 +3,10 @@
 #![tactic(auto)]
 
 #[cfg(test)]
+mod accounts;
+#[cfg(test)]
+mod arrays;
+#[cfg(test)]
 mod asking;
 #[cfg(test)]
 mod graphs;
@@ -12,4 +16,10 @@ mod histories;
 mod needs;
 #[cfg(test)]
 mod orders;
+#[cfg(test)]
+mod rates;
+#[cfg(test)]
+mod records;
 mod stored;
+#[cfg(test)]
+mod words;

@@ -14,7 +14,7 @@ use Rattle.graph_relation.proofs.Blocks.{other_block}
 use Rattle.block_store.specs.Counts.{changed}
 use Rattle.block_store.proofs.Functions.{changed_both}
 use Rattle.block_store.proofs.ColourWords.{black_solid}
-use Rattle.name_invariant.specs.Building.{Build, build_blocks, build_owner, build_shape, build_payload, with_owner, with_shape, IsSpawned, IsBuild}
+use Rattle.name_invariant.specs.Building.{Build, build_blocks, build_owner, build_shape, build_payload, with_owner, with_shape, IsBegun, IsBuild}
 use Rattle.name_invariant.specs.Events.{collected}
 use Rattle.name_invariant.proofs.Colours.{differ, changed_here, changed_else}
 
@@ -121,7 +121,7 @@ module _ (W : Width) (n m cycle : ℕ) (colour : ℕ → ℕ) (w : BlockWords) (
 
     -- One more word of it is written.
     one_more : (u : BlockWords) (words : ℕ) → ((y : ℕ) → (b.held o ≡ y → ⊥) → Agrees W w u y)
-        → ((p : ℕ) → suc p ≡ b.left → IsSpawned W u (record b { step = words }) p)
+        → ((p : ℕ) → suc p ≡ b.left → IsBegun W u (record b { step = words }) p)
         → IsBuild W n m cycle colour u (record b { step = words })
     one_more u words same begun = record {
       behind = k.behind;

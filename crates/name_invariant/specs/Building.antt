@@ -61,7 +61,7 @@ abbrev pub with_shape : BlockWords → ℕ → ℕ → BlockWords
 with_shape w x v = record w { shape = changed w.shape x v }
 
 -- of ordinal o the first words are written
-pub record IsSpawned (W : Width) (w : BlockWords) (b : Build) (o : ℕ) : Type 0 where
+pub record IsBegun (W : Width) (w : BlockWords) (b : Build) (o : ℕ) : Type 0 where
   pub owned : 0 < b.step → w.owner (b.held o) ≡ build_owner b o
   pub shaped : 1 < b.step → w.shape (b.held o) ≡ build_shape b
   pub links : (j : ℕ) → j < payloads W → j + 2 < b.step
@@ -77,7 +77,7 @@ pub record IsBuild (W : Width) (n m cycle : ℕ) (colour : ℕ → ℕ) (w : Blo
   pub black : (o : ℕ) → b.left ≤ o → o < build_blocks W b → colour (b.held o) ≡ black_word cycle
   pub written : (o : ℕ) → b.left ≤ o → o < build_blocks W b
       → IsWritten W w b.name b.kind b.size b.held o
-  pub begun : (o : ℕ) → suc o ≡ b.left → IsSpawned W w b o
+  pub begun : (o : ℕ) → suc o ≡ b.left → IsBegun W w b o
   pub some : b.collected ≤ build_blocks W b
   pub few_left : b.left ≤ build_blocks W b
   pub phase : (b.collected ≡ build_blocks W b) ⊎ ((b.left ≡ build_blocks W b) × (b.step ≡ 0))

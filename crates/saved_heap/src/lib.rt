@@ -5,8 +5,6 @@ mod faults;
 mod needs;
 mod renewal;
 mod saves;
-#[cfg(test)]
-mod tests;
 mod walk;
 
 pub use faults::{CopyFault, LoadFault, NotSaved, OnFault, RenewFault};

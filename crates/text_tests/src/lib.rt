@@ -15,6 +15,8 @@ mod reading;
 #[cfg(test)]
 mod refused;
 #[cfg(test)]
+mod short;
+#[cfg(test)]
 mod std_streams;
 mod ten_commands;
 #[cfg(test)]

@@ -10,7 +10,7 @@ use Rattle.trace_text.specs.Jobs.{Job, IsJob}
 use Rattle.trace_text.specs.Reading.{tokenized}
 use Rattle.trace_text.specs.Said.{line_at, header_at}
 use Rattle.trace_text.specs.Refusals.{IsFirstBadLine}
-use Rattle.trace_text.specs.Wholes.{IsSpawned}
+use Rattle.trace_text.specs.Wholes.{IsBegun}
 use Rattle.trace_text.proofs.LineLaws.{place}
 use Rattle.trace_text.proofs.HeaderLaws.{header_sound}
 use Rattle.trace_text.proofs.QuietLaws.{Lines}
@@ -27,12 +27,12 @@ bad bytes line why is = inr (line, why, is)
 abbrev Follows : List ℕ → Config → Lines → Type 0
 Follows bytes c others =
     (done : List (List Command)) (read : ℕ) (left : Lines) (trace : List Command)
-    → IsSpawned c done bytes read left → length done < c.threads → IsSoFar c left trace others
+    → IsBegun c done bytes read left → length done < c.threads → IsSoFar c left trace others
     → Outcome bytes
 
 -- behind the last trace
 behind_last : (bytes : List ℕ) (c : Config) (done : List (List Command)) (read : ℕ)
-    (others : Lines) → IsSpawned c done bytes read others → length done ≡ c.threads → Outcome bytes
+    (others : Lines) → IsBegun c done bytes read others → length done ≡ c.threads → Outcome bytes
 behind_last bytes c done read [] begun last =
     inl (record { config = c; traces = done }, is_whole c done bytes read [] begun last refl)
 behind_last bytes c done read (ps ∷ others) begun last =
@@ -46,7 +46,7 @@ none_so_far c lines = record {
 
 -- behind a trace
 behind_trace : (bytes : List ℕ) (c : Config) (done : List (List Command)) (read : ℕ)
-    (others : Lines) → Follows bytes c others → IsSpawned c done bytes read others → Outcome bytes
+    (others : Lines) → Follows bytes c others → IsBegun c done bytes read others → Outcome bytes
 behind_trace bytes c done read others follows begun =
     elim (cases_eq (length done) c.threads) [
       | inl e ↦ behind_last bytes c done read others begun e
@@ -57,7 +57,7 @@ behind_trace bytes c done read others follows begun =
 behind_line : (bytes : List ℕ) (c : Config) (ps : List (List ℕ)) (others : Lines)
     (done : List (List Command)) (read : ℕ) (left : Lines) (trace : List Command)
     (said : Result Line Why) → Follows bytes c others
-    → IsSpawned c done bytes read left → length done < c.threads
+    → IsBegun c done bytes read left → length done < c.threads
     → IsSoFar c left trace (ps ∷ others)
     → line_at (place c (length done + 1) (length trace)) ps ≡ said → Outcome bytes
 behind_line bytes c ps others done read left trace (Err why) follows begun more so_far is =

@@ -20,7 +20,7 @@ use Rattle.trace_text.specs.Reading.{Gives, tokenized}
 use Rattle.trace_text.specs.Said.{line_at, header_at}
 use Rattle.trace_text.specs.Refusals.{Before, nothing_before, after_lines, later_fault, next_fault, fault_at, IsFirstBadLine}
 use Rattle.never_heap.specs.Jobs.{IsTraceInBounds}
-use Rattle.trace_text.specs.Wholes.{IsLineFault, next_line, IsTrace, IsBadTrace, IsSpawned}
+use Rattle.trace_text.specs.Wholes.{IsLineFault, next_line, IsTrace, IsBadTrace, IsBegun}
 use Rattle.trace_text.proofs.LineLaws.{reason, prior, place, is_told, line_agrees, line_sound}
 use Rattle.trace_text.proofs.HeaderLaws.{header_agrees, header_sound}
 use Rattle.trace_text.proofs.QuietLaws.{Lines, IsQuiet, LeadsThrough, in_turn, quiet_append, after_append, trace_leads, traces_lead, end_is_quiet, all_quiet, header_quiet, header_config, first_bad}
@@ -180,7 +180,7 @@ module _ (bytes : List ℕ) (ps : List (List ℕ)) (others : Lines) (c : Config)
       ∙ ap reason bad)
 
   pub opens : (qs : List (List ℕ)) (more : Lines) (l : Line) → others ≡ qs ∷ more
-      → line_at (place c 0 0) qs ≡ Ok l → IsSpawned c [] bytes 2 more
+      → line_at (place c 0 0) qs ≡ Ok l → IsBegun c [] bytes 2 more
   opens qs more l e is =
       let not_told : is_told l ≡ false =
       elim ((line_sound c 0 0 qs l is).opens refl) [
@@ -215,7 +215,7 @@ behind_end c t k [] = refl
 behind_end c t k (p ∷ ps) = refl
 
 module _ (c : Config) (done : List (List Command)) (bytes : List ℕ) (read : ℕ) (left : Lines)
-    (begun : IsSpawned c done bytes read left) where
+    (begun : IsBegun c done bytes read left) where
   through : LeadsThrough c 0 0 done (length done)
   through = traces_lead c 0 0 done (length done)
       (omega arith) begun.threads begun.config.threads begun.traces
@@ -232,7 +232,7 @@ module _ (c : Config) (done : List (List Command)) (bytes : List ℕ) (read : �
 
     pub goes_on : (trace : List Command) (others : Lines)
         → IsTrace c (length done + 1) left trace others
-        → IsSpawned c (done ++ trace ∷ []) bytes (read + length trace + 1) others
+        → IsBegun c (done ++ trace ∷ []) bytes (read + length trace + 1) others
     goes_on trace others is =
         let count : length (done ++ trace ∷ []) ≡ length done + 1 =
         omega (arith, length-append done (trace ∷ [])) in
@@ -409,14 +409,14 @@ gives_some view (Some x) read g e = (view x, g)
 
 -- with the number of threads as a loop has it
 module _ (c : Config) (done : List (List Command)) (n : ℕ) (bytes : List ℕ) (read : ℕ)
-    (left : Lines) (begun : IsSpawned c done bytes read left) (count : n ≡ length done) where
+    (left : Lines) (begun : IsBegun c done bytes read left) (count : n ≡ length done) where
   pub next_begun : n < c.threads → (trace : List Command) (others : Lines) (now : ℕ)
       → IsTrace c (n + 1) left trace others → now ≡ read + length trace + 1
-      → IsSpawned c (done ++ trace ∷ []) bytes now others
+      → IsBegun c (done ++ trace ∷ []) bytes now others
   next_begun more trace others now is e =
       let on = goes_on c done bytes read left begun (omega (arith, count, more)) trace others
       (subst (λ (m : ℕ). IsTrace c (m + 1) left trace others) count is) in
-      subst (λ (m : ℕ). IsSpawned c (done ++ trace ∷ []) bytes m others) (sym e) on
+      subst (λ (m : ℕ). IsBegun c (done ++ trace ∷ []) bytes m others) (sym e) on
 
   next_bad : n < c.threads → (line : ℕ) (why : Why) → IsBadTrace c (n + 1) left read line why
       → IsFirstBadLine bytes line why

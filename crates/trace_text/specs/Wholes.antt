@@ -44,7 +44,7 @@ pub record IsBadTrace
       (record { threads = t; commands = length trace; ended = false }) others ≡ Some why
 
 -- the lines of an input are those of a job up to the line behind these traces, and others
-pub record IsSpawned
+pub record IsBegun
     (c : Config) (done : List (List Command)) (bytes : List ℕ)
     (read : ℕ) (others : List (List (List ℕ)))
     : Type 0 where

@@ -2,9 +2,6 @@
 //! given for them.
 #![tactic(auto)]
 
-#[cfg(test)]
-mod tests;
-
 ghost use Rattle.std.specs.Prelude.{ℕ, ◌+◌, ◌*◌, ◌/◌, ◌<◌, ◌≤◌, ◌≡◌, ◌^◌};
 ghost use Rattle.block_store.specs.Counts.{total};
 ghost use Rattle.work_account.specs.Accounts.{AccountState, Balance, IsSound, opened, entered, with_unit, with_idle, published, refused, units_in, given_in};

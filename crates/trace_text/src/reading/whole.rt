@@ -4,7 +4,7 @@ ghost use Rattle.std.specs.Prelude.{◌≡◌, ◌+◌, ◌≤◌, [], length, v
 ghost use Rattle.trace_text.specs.Jobs.{IsJob};
 ghost use Rattle.trace_text.specs.Reading.{tokenized};
 ghost use Rattle.trace_text.specs.Refusals.{IsFirstBadLine};
-ghost use Rattle.trace_text.specs.Wholes.{IsLineFault, IsTrace, IsBadTrace, IsSpawned};
+ghost use Rattle.trace_text.specs.Wholes.{IsLineFault, IsTrace, IsBadTrace, IsBegun};
 
 use crate::jobs::Job;
 use crate::reading::header::header_of;
@@ -57,7 +57,7 @@ pub fn job_of(alloc: Global, input: &[u8]) -> Result<Job, TraceFault>
 fn opening_of(input: &[u8]) -> Result<(Config, Rest<'_>), TraceFault>
     requires { length input.now ≤ INPUT_LIMIT }
     ensures begun { MatchResult result
-        (λ x. IsSpawned x.0 [] input.now x.1.read (tokenized x.1.lines.now))
+        (λ x. IsBegun x.0 [] input.now x.1.read (tokenized x.1.lines.now))
         (IsLineFault (IsFirstBadLine input.now)) }
     ensures within { IfOk result (λ x. x.1.read + length x.1.lines.now ≤ INPUT_LIMIT) }
 {

@@ -3,7 +3,7 @@ use Rattle.std.proofs.lemmas.List.{length-map, map-append}
 use Rattle.never_heap.specs.declared.Command.{Command}
 use Rattle.trace_text.specs.Jobs.{IsJob}
 use Rattle.trace_text.specs.Reading.{tokenized}
-use Rattle.trace_text.specs.Wholes.{IsLineFault, IsSpawned}
+use Rattle.trace_text.specs.Wholes.{IsLineFault, IsBegun}
 use Rattle.trace_text.specs.Refusals.{IsFirstBadLine}
 use Rattle.trace_text.proofs.LabelLaws.{parted_some, parted_none}
 use Rattle.trace_text.proofs.WholeLaws.{passed_on, gives_none, gives_some, next_begun, next_fault_is, ends_whole, ends_pending}
@@ -45,7 +45,7 @@ loop-thread-preserved c =
     ∙ map-append (λ v. v.items) traces.items (c.in_ok-trace.trace ∷ []) in
     record {
       begun = subst (λ (ts : List
-          (List Command)). IsSpawned c.in_ok-config.config ts c.args.input.now
+          (List Command)). IsBegun c.in_ok-config.config ts c.args.input.now
           c.in_ok-trace.after.read (tokenized c.in_ok-trace.after.lines.now)) (sym all) begun;
       count = c.in_ok-push.ensures.len ∙ ap (λ (n : ℕ). n + 1) c.loop-thread.invariant.count;
       within = c.in_ok-trace.ensures.within;

@@ -1,6 +1,6 @@
 //! Words and places of worked examples.
 
-use crate::*;
+use block_store::*;
 
 #[test]
 fn words_of_examples(rt: HostRuntime) {

@@ -1,6 +1,6 @@
 //! A thread's account over two cycles.
 
-use super::Account;
+use work_account::Account;
 
 // What the readers answer: paid, cycle, units, given.
 fn readings(a: &Account) -> (u64, u64, u64, u64) {

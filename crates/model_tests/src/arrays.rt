@@ -2,7 +2,7 @@
 
 ghost use Rattle.std.specs.Prelude.{◌<◌, ◌≤◌};
 
-use crate::{blocks_of_array, child_of, depth_of, path_of};
+use array_trees::{blocks_of_array, child_of, depth_of, path_of};
 use block_store::Width::{self, Eight, Four};
 
 #[test]

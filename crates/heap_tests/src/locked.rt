@@ -4,10 +4,10 @@
 ghost use Rattle.std.specs.Prelude.{◌<◌, map};
 ghost use Rattle.heap_system.specs.Machines.{IsJob};
 
-use crate::*;
 use block_store::{Config, OutOfMemory};
 use board_jobs::{MEETING, Meeting, TWO, are_right, have_said, job, two_says};
-use heap_system::{NoPace, Pace};
+use heap_system::{Finished, NoPace, Pace};
+use lock_board::LockBoard;
 use never_heap::{Command, Logs};
 use std::alloc::Global;
 use std::sync::Wait;
