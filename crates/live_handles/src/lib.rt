@@ -2,15 +2,11 @@
 #![tactic(auto)]
 
 mod commands;
-#[cfg(test)]
-mod drawn_tests;
 mod faults;
 mod laws;
 mod note;
 mod request;
 mod slots;
-#[cfg(test)]
-mod tests;
 mod worker;
 
 pub use faults::{OpenFault, Refused};

@@ -6,8 +6,6 @@ mod faults;
 mod laws;
 mod note;
 mod table;
-#[cfg(test)]
-mod tests;
 mod worker;
 
 pub use laws::{
