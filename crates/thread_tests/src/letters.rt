@@ -1,29 +1,10 @@
-//! Letters that are taken before and after the senders are gathered.
+//! Letters of a `mail_post` that are taken before and after the senders are gathered.
 
-ghost use Rattle.std.specs.Prelude.{◌≡◌, length};
+ghost use Rattle.std.specs.Prelude.{◌≡◌};
 
-use crate::{Letter, Post, Taker};
-use std::process::Abort;
-use std::sync::Wait;
+use crate::slim::mail::comes;
+use mail_post::Post;
 use std::test::Fail;
-
-/// Whether the next letter is this one: a thread and a number.
-fn comes<R: Wait + Abort>(
-    rt: &R,
-    post: &Post,
-    who: &mut Taker,
-    wanted: Option<(u32, u64)>,
-) -> Result<(), Fail>
-    requires { who.old.post ≡ post.now.id }
-    ensures post { who.new.post ≡ who.old.post }
-    ensures sent { who.new.sent ≡ who.old.sent }
-    ensures size { length who.new.taken ≡ length who.old.taken }
-{
-    let letter = post.take(rt, who)?;
-    let wanted = wanted.map(|(thread, number)| Letter { thread, number });
-    assert_eq!(rt; letter, wanted);
-    Ok(())
-}
 
 #[test]
 fn a_letter_is_taken_before_its_sender_is_gathered(rt: HostRuntime) -> Result<(), Fail> {

@@ -1,6 +1,6 @@
 //! Whole calls over sources and sinks in memory, by clocks whose readings are known.
 
-use crate::timed;
+use crate::slim::timed_by;
 use std::alloc::Global;
 use std::io;
 use std::process::Abort;
@@ -9,7 +9,6 @@ use std::sync::atomic::{AtomicU64, Ordering};
 use std::test::Fail;
 use std::thread::Threads;
 use std::time::{Clock, CpuClock, Duration};
-use trace_text::{MemSink, MemSource};
 
 /// A clock whose readings are counted.
 #[derive(Drop)]
@@ -198,16 +197,9 @@ fn answers<C: Clock + CpuClock + Sync>(
     status: u8,
     written: &str,
 ) -> Result<(), Fail> {
-    let bytes = Vec::from_slice(alloc, input.as_bytes())?;
-    let mut source = MemSource::new(bytes, 100, Vec::new(alloc));
-    let mut sink = MemSink::new(alloc, 4000, Vec::new(alloc))
-        .ok()
-        .ok_or("memory")?;
-    let exit = timed(rt, clock, alloc, words, &mut source, &mut sink)
-        .ok()
-        .ok_or("memory")?;
+    let (found, sink) = timed_by(rt, alloc, clock, words, input)?;
     let text = std::str::from_utf8(sink.bytes()).ok().ok_or("no text")?;
-    assert_eq!(rt; exit.status, status);
+    assert_eq!(rt; found, status);
     assert_eq!(rt; text, written);
     Ok(())
 }
