@@ -7,7 +7,7 @@ use Rattle.trace_text.specs.Jobs.{Job}
 use Rattle.mail_runs.specs.declared.mail_board.MailBoard.{MailBoard}
 use Rattle.mail_runs.specs.MailThreads.{AreMailThreads}
 use Rattle.mail_runs.proofs.FreshMailThreads.{ready_count, speakers_ready}
-use Rattle.mail_runs.proofs.letters.opened_for.Goals as goal
+use Rattle.mail_runs.proofs.letters.opened.Goals as goal
 
 pub new-requires : goal.new-requires
 new-requires c =
