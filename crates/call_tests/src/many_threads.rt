@@ -88,11 +88,7 @@ fn jobs_of_five_to_sixteen_threads_are_run(rt: HostRuntime) -> Result<(), Fail> 
 fn jobs_of_sixteen_threads_are_planned_and_replayed(rt: HostRuntime) -> Result<(), Fail> {
     let alloc = rt.alloc();
     let job = drawn(alloc, 16, 1)?;
-    let calls: [&[&str]; 3] = [
-        &["plan"],
-        &["replay", "robin", "1000000"],
-        &["replay", "3", "1000000"],
-    ];
+    let calls: [&[&str]; 2] = [&["plan"], &["replay", "serial", "1000000"]];
     for words in calls {
         let call = Call {
             words,
