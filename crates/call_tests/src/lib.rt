@@ -6,12 +6,18 @@ mod comparing;
 #[cfg(test)]
 mod generated;
 #[cfg(test)]
+mod many_threads;
+#[cfg(test)]
+mod paced;
+#[cfg(test)]
 mod recorded;
 #[cfg(test)]
 mod scheduled;
 #[cfg(test)]
 mod several;
 mod starts;
+#[cfg(test)]
+mod stopping;
 #[cfg(test)]
 mod testing;
 #[cfg(test)]

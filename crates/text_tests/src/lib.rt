@@ -18,6 +18,8 @@ mod refused;
 mod short;
 #[cfg(test)]
 mod std_streams;
+#[cfg(test)]
+mod stopping;
 mod ten_commands;
 #[cfg(test)]
 mod testing;
