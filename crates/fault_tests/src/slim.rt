@@ -100,7 +100,7 @@ pub fn record(recorder: &mut Recorder<MemSink>, command: Command) -> Result<Repl
     recorder.ask(command)
 }
 
-pub fn recorded(recorder: &Recorder<MemSink>) -> u64 {
+pub fn recorded(recorder: &Recorder<MemSink>) -> u32 {
     recorder.recorded()
 }
 

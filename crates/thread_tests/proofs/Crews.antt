@@ -2,6 +2,9 @@
 use Rattle.std.proofs.Common.{◌≡◌, ℕ, zero, suc, ◌<◌, ◌-◌, arith, subst, sym, ap, ◌∙◌, List, [], ◌∷◌, length, get_or, inl, inr}
 use Rattle.std.proofs.lemmas.Bool.{cases_eq}
 use Rattle.std.specs.List.{SwappedAt}
+use Rattle.shared_heap.proofs.Stamps.{drawn_same}
+use Rattle.live_tags.specs.Live.{HasDrawn, IsOf, TagWorkerState}
+use Rattle.live_tags.proofs.Crews.{of_same}
 use Rattle.shared_heap.specs.Workers.{AreEachOnce, AreInOrder, AreSome, HasWorker, HeapState, IsWorkerOf, WorkerState}
 
 -- the two workers of a heap, one by one
@@ -78,3 +81,7 @@ exchanged h hs ys a b are swap al bl long = record {
         )
       ]
     ]
+
+-- a worker of a table that has drawn a stamp
+pub of_drawn : (t : HeapState) (a b : TagWorkerState) (n : ℕ) → IsOf t a → HasDrawn a n b → IsOf t b
+of_drawn t a b n is drawn = of_same t a b is (drawn_same a.worker b.worker n drawn.drawn)

@@ -1,4 +1,5 @@
 //! Calls of `live_handles`.
+#![tactic(auto, using(live_handles::proofs::Crews::of_same))]
 
 ghost use Rattle.std.specs.Prelude.{IfOk};
 ghost use Rattle.live_handles.specs.Live.{AreEachOnce, AreInOrder, IsOf, IsSameWorker};

@@ -68,6 +68,7 @@ pub fn pass_note(heap: &SharedHeap, from: &mut Worker, to: &mut Worker)
 }
 
 // Draws a stamp for the first worker, and then for the second.
+#[tactic(auto, using(shared_heap::proofs::Stamps::drawn_same))]
 pub fn stamps(heap: &SharedHeap, first: &mut Worker, second: &mut Worker) -> (u64, u64)
     requires first { first.old.heap ≡ heap.now.id }
     requires second { second.old.heap ≡ heap.now.id }

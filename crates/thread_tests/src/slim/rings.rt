@@ -1,4 +1,5 @@
 //! Calls of `live_rings`.
+#![tactic(auto, using(live_rings::proofs::Crews::of_same))]
 
 ghost use Rattle.std.specs.Prelude.{IfOk};
 ghost use Rattle.live_rings.specs.Live.{AreEachOnce, AreInOrder, IsOf, IsSameWorker};

@@ -1,4 +1,5 @@
 //! Calls of `live_tags`.
+#![tactic(auto, using(live_tags::proofs::Crews::of_same))]
 
 ghost use Rattle.std.specs.Prelude.{IfOk};
 ghost use Rattle.live_tags.specs.Live.{AreEachOnce, AreInOrder, IsOf, IsSameWorker};
@@ -113,6 +114,7 @@ impl<'t> Seat<'t> {
         self.table.learn(&mut self.who, note);
     }
 
+    #[tactic(auto, using(crate::proofs::Crews::of_drawn))]
     pub fn stamp(&mut self) -> u64 {
         self.table.stamp(&mut self.who)
     }
