@@ -4,15 +4,11 @@
 #[cfg(test)]
 mod comparing;
 #[cfg(test)]
-mod generated;
+mod faults;
 #[cfg(test)]
 mod recorded;
-#[cfg(test)]
-mod scheduled;
 #[cfg(test)]
 mod several;
 mod starts;
 #[cfg(test)]
 mod testing;
-#[cfg(test)]
-mod tests;
