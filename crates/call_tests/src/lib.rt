@@ -4,7 +4,7 @@
 #[cfg(test)]
 mod comparing;
 #[cfg(test)]
-mod generated;
+mod faults;
 #[cfg(test)]
 mod many_threads;
 #[cfg(test)]
@@ -12,13 +12,9 @@ mod paced;
 #[cfg(test)]
 mod recorded;
 #[cfg(test)]
-mod scheduled;
-#[cfg(test)]
 mod several;
 mod starts;
 #[cfg(test)]
 mod stopping;
 #[cfg(test)]
 mod testing;
-#[cfg(test)]
-mod tests;

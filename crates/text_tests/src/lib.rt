@@ -13,8 +13,6 @@ mod printing;
 #[cfg(test)]
 mod reading;
 #[cfg(test)]
-mod refused;
-#[cfg(test)]
 mod short;
 #[cfg(test)]
 mod std_streams;
