@@ -43,10 +43,10 @@ module _ (c : Config) (ws : List WorkerState) (cycles : ℕ) (is : HaveOneHistor
   seen_start = subst (λ h. IsStartOf h is.order) (sym did.sound.ordered) (subst (λ o. IsStartOf (history_of y.timeline) o) (sym is.ordered) (history_start y.timeline is.timeline lined))
 
   -- a command that was invoked after all that a worker had seen
-  pub behind : (v : WorkerState) → HasSeenIts v → IsStartOf v.timeline did.past → StandsBehind v.seen did.entry is.order
+  pub behind : (v : WorkerState) → HasSeenIts v → IsStartOf v.timeline did.past → StandsBehind v.seen x.thread.log did.entry is.order
   behind v sound line =
       let begun : IsStartOf v.seen did.start = subst (λ h. IsStartOf h did.start) (sym sound.ordered) (subst (λ h. IsStartOf (history_of v.timeline) h) (sym did.started) (history_start v.timeline did.past line)) in
-      stands_still v.seen y.seen is.order did.entry (stands_after v.seen x y m b did begun) seen_start
+      stands_still v.seen y.seen is.order x.thread.log did.entry (stands_after x y m b did v.seen begun) seen_start
 
   abbrev call : Moment
   call = moments.Invoked x.thread.thread m

@@ -54,7 +54,8 @@ pub fn commands_keep_real_time()
     ensures behind { (c : Config) (ws : List WorkerState) (cycles : ℕ)
         (is : HaveOneHistory c ws cycles) (v x y : WorkerState) (m : Command) (b : Reply)
         (did : HasAnswered x m b y) → HasSeenIts v → IsStartOf y.timeline is.timeline
-        → IsStartOf v.timeline did.past → StandsBehind v.seen did.entry is.order }
+        → IsStartOf v.timeline did.past
+        → StandsBehind v.seen x.thread.log did.entry is.order }
     ensures either { (c : Config) (ws : List WorkerState) (cycles : ℕ) (is : HaveOneHistory c ws cycles)
         (u v x y : WorkerState) (k m : Command) (a b : Reply) (first : HasAnswered u k a v)
         (second : HasAnswered x m b y)
@@ -88,12 +89,15 @@ pub fn commands_alone_end_in_time()
 /// In the history that a worker has seen after a command, the command's entry comes after
 /// everything that the worker had seen before it (`seen`), and after everything in the notes that
 /// it had learned (`noted`). The same holds in each longer history (`still`), such as the one of
-/// the closed heap.
+/// the closed heap. The entry is known by its place: before it the worker's thread has the entries
+/// of its earlier commands, and no others.
 pub fn commands_stand_behind_what_was_seen()
     ensures seen { (old new : WorkerState) (k : Command) (a : Reply)
-        (is : HasAnswered old k a new) → StandsBehind old.seen is.entry new.seen }
+        (is : HasAnswered old k a new)
+        → StandsBehind old.seen old.thread.log is.entry new.seen }
     ensures noted { (old new : WorkerState) (k : Command) (a : Reply)
-        (is : HasAnswered old k a new) → StandsBehindAll old.notes is.entry new.seen }
-    ensures still { (first h order : List HistoryItem) (e : Entry) → StandsBehind first e h
-        → IsStartOf h order → StandsBehind first e order }
+        (is : HasAnswered old k a new)
+        → StandsBehindAll old.notes old.thread.log is.entry new.seen }
+    ensures still { (first h order : List HistoryItem) (log : List Entry) (e : Entry)
+        → StandsBehind first log e h → IsStartOf h order → StandsBehind first log e order }
 {}
