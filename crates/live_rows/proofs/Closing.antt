@@ -185,9 +185,9 @@ module _ {Op Row Answer S : Type 0} (a : Rows Op Row Answer S) (law : Lawful a)
               (script_had t low (get_or ws j.0 nobody) (j.2 nobody)),
         ));
     ordered = one.ordered;
-    follow = one.follow;
+    formed = one.formed;
     real_time = keeps_real_time a law scripts one.order orders.0 orders.1.deciding one.timeline
-        one.ordered one.follow;
+        one.ordered one.formed;
     starts = one.starts;
     least_units = one.least_units;
     most_units = one.most_units;

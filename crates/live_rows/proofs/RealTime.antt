@@ -6,7 +6,7 @@ use Rattle.never_heap.specs.Histories.{HistoryItem, part}
 use Rattle.operations.specs.Applications.{ops_in, op_by}
 use Rattle.operations.specs.Linearizations.{Call, decided_behind}
 use Rattle.shared_heap.specs.declared.rules.Moment.{Moment}
-use Rattle.shared_heap.specs.Shared.{EntriesFollow, IsStartOf, history_of}
+use Rattle.shared_heap.specs.Shared.{IsWellFormed, IsStartOf, history_of}
 use Rattle.shared_heap.proofs.Timelines.{history_start}
 use Rattle.live_rows.specs.Behind.{operations_in}
 use Rattle.live_rows.specs.RealTime.{ComeBefore, KeepsRealTime}
@@ -99,9 +99,9 @@ module _ {Op Row Answer S : Type 0} (a : Rows Op Row Answer S) (law : Lawful a)
       few = has_few u m few;
     }
 
-  pub keeps_real_time : (timeline : List Moment) → h ≡ history_of timeline → EntriesFollow timeline
+  pub keeps_real_time : (timeline : List Moment) → h ≡ history_of timeline → IsWellFormed timeline
       → KeepsRealTime a scripts timeline order
-  keeps_real_time timeline is follow p begins t n u m many few =
+  keeps_real_time timeline is formed p begins t n u m many few =
       let s = history_start p timeline begins in
       come_before (history_of p) (s.0, is ∙ s.1) t n u m many
-      (omega (arith, follow p begins u, few))
+      (omega (arith, (formed p begins u).0, few))

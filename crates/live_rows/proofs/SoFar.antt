@@ -383,9 +383,9 @@ module _ {Op Row Answer S : Type 0} (a : Rows Op Row Answer S) (law : Lawful a) 
         all_invoked v.threads (kept.each id v at).0,
       );
       ordered = kept.lined.ordered;
-      follow = kept.lined.follow;
+      formed = kept.lined.formed;
       real_time = keeps_real_time a law scripts history orders.0 orders.1.deciding kept.timeline
-          kept.lined.ordered kept.lined.follow;
+          kept.lined.ordered kept.lined.formed;
     }
 
   -- ---- a moment at which all workers are between two operations

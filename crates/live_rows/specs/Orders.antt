@@ -8,7 +8,7 @@ use Rattle.never_heap.specs.Runs.{IsRun}
 use Rattle.operations.specs.Linearizations.{Call, IsLinearization, traces_of}
 use Rattle.shared_heap.specs.declared.rules.Moment.{Moment}
 use Rattle.shared_heap.specs.declared.rules.Moment.TheVariants as moments
-use Rattle.shared_heap.specs.Shared.{EntriesFollow, IsStartOf, history_of, invoked_in, stamps_in}
+use Rattle.shared_heap.specs.Shared.{IsWellFormed, IsStartOf, history_of, invoked_in, stamps_in}
 use Rattle.shared_heap.specs.Workers.{HasSeenIts, IsOfMachine}
 use Rattle.live_rows.specs.Behind.{StandsBehind, answers_in}
 use Rattle.live_rows.specs.RealTime.{KeepsRealTime}
@@ -53,7 +53,7 @@ pub record HaveOneOrder {Op Row Answer S : Type 0} (a : Rows Op Row Answer S) (c
       × ((d : RowWorkerState Op Answer)
       → HasScript scripts timeline history order t (slice_index_or ws j d))
   pub ordered : history ≡ history_of timeline
-  pub follow : EntriesFollow timeline
+  pub formed : IsWellFormed timeline
   pub real_time : KeepsRealTime a scripts timeline order
   pub starts : cycles ≡ starts_in history
   pub least_units : (cycles - 1) * c.blocks ≤ work_in history

@@ -15,7 +15,7 @@ use Rattle.operations.specs.SoFar.{IsRunSoFar, IsLinearizationSoFar}
 use Rattle.shared_heap.specs.declared.rules.Held.{Held}
 use Rattle.shared_heap.specs.declared.rules.View.{View}
 use Rattle.shared_heap.specs.declared.rules.Moment.{Moment}
-use Rattle.shared_heap.specs.Shared.{AllSeenIn, AllNotedIn, EntriesFollow, history_of, invoked_in}
+use Rattle.shared_heap.specs.Shared.{AllSeenIn, AllNotedIn, IsWellFormed, history_of, invoked_in}
 use Rattle.shared_heap.specs.Turns.{MadeTurns}
 use Rattle.shared_heap.specs.Workers.{WorkerState}
 use Rattle.live_rows.specs.Life.{Executes}
@@ -124,5 +124,5 @@ module _ {Op Row Answer S : Type 0} (a : Rows Op Row Answer S) where
         → AllHaveCalls order v.threads × AllSeenIn timeline v.threads
         × AllNotedIn timeline v.notes × AllThreads (HaveInvoked timeline) v.threads
     pub ordered : history ≡ history_of timeline
-    pub follow : EntriesFollow timeline
+    pub formed : IsWellFormed timeline
     pub real_time : KeepsRealTime a scripts timeline order

@@ -72,7 +72,7 @@ sound_of id h ns told done = record {
   asked = its_said h.local.config h.past h.local told done;
   ordered = refl;
   invoked = told.lined.invoked h.local.thread told.there ∙ sym (ap (λ (l : LocalState). l.trace) told.local);
-  follow = told.lined.follow;
+  formed = told.lined.formed;
 }
 
 -- a worker: what its seat knows, and what it has in memory

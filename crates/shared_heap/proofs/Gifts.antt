@@ -96,7 +96,7 @@ module _ (k : Whole) (s : table.State Command View) (kept : SharedKept k s) (id 
   then_line = now ++ moments.Invoked t m ∷ []
 
   lined : IsTimelineOf c (run_grown t m r) then_line
-  lined = timeline_grown c t f.0 r kept.by.after now kept.lined m
+  lined = timeline_grown c t f.0 r kept.by.after now kept.lined m (ap is_done (sym is) ∙ done)
 
   -- what the seat knows then, where the step found this phase word
   abbrev pub past : ℕ → Past

@@ -93,8 +93,8 @@ module _ (k : Whole) (s : table.State Command View) (kept : SharedKept k s) wher
     others = all.foreign;
     ordered = kept.lined.ordered;
     uninvoked = kept.lined.others;
-    follow = kept.lined.follow;
-    real_time = keeps_real_time kept.timeline r.order kept.lined.ordered kept.lined.follow;
+    formed = kept.lined.formed;
+    real_time = keeps_real_time kept.timeline r.order kept.lined.ordered kept.lined.formed;
   }
 
   pub fits_order : fits_one.order ≡ r.order

@@ -1,9 +1,12 @@
 -- What was seen comes before what is invoked later.
-use Rattle.std.proofs.Common.{◌≡◌, ℕ, ◌≤◌, refl, arith, subst, sym, ap, ◌∙◌, List, [], ◌∷◌, ◌++◌, length, get_or, inl, inr, ◌⊎◌, append_assoc}
+use Rattle.std.proofs.Common.{◌≡◌, ℕ, ◌≤◌, refl, arith, subst, sym, ap, ◌∙◌, List, [], ◌∷◌, ◌++◌, length, length-append, get_or, drop, eq-eqb, inl, inr, ◌⊎◌, append_assoc}
+use Rattle.std.proofs.lemmas.List.{length-map}
 use Rattle.atomic_table.specs.Table as table
 use Rattle.block_store.specs.declared.Config.{Config}
 use Rattle.never_heap.specs.declared.Command.{Command}
+use Rattle.never_heap.specs.declared.Entry.{Entry}
 use Rattle.never_heap.specs.declared.Reply.{Reply}
+use Rattle.never_heap.specs.Histories.{part}
 use Rattle.heap_system.specs.Locals.{LocalState}
 use Rattle.heap_system.specs.Machines.{local_in}
 use Rattle.heap_system.specs.Systems.{Whole}
@@ -15,9 +18,9 @@ use Rattle.shared_heap.specs.Behind.{StandsBehind}
 use Rattle.shared_heap.specs.RealTime.{ComesBeforeTheNext, HasSeat, WasSeen}
 use Rattle.shared_heap.specs.Shared.{Fits, IsStartOf, SharedKept, history_of, invoked_in}
 use Rattle.shared_heap.specs.Workers.{HasAnswered, HasSeenIts, HaveOneHistory, WorkerState}
-use Rattle.shared_heap.proofs.Behind.{stands_after, stands_still}
+use Rattle.shared_heap.proofs.Behind.{part_before, stands_after, stands_still, still_thread}
 use Rattle.shared_heap.proofs.Grown.{here}
-use Rattle.shared_heap.proofs.Timelines.{before_or_after, history_start, invoked_start, keeps_real_time}
+use Rattle.shared_heap.proofs.Timelines.{before_or_after, history_start, invoked_append, invoked_start, keeps_real_time}
 use Rattle.shared_heap.proofs.Views.{starts_on}
 
 -- what a seat has seen is a prefix of the timeline
@@ -35,8 +38,52 @@ has_invoked k s kept h seat =
 
 pub comes_before : (k : Whole) (s later : table.State Command View) (now : SharedKept k s) (then : SharedKept k later) (p : List Moment) → WasSeen s p → WasSeen later p → (h : Held) → HasSeat s h → ComesBeforeTheNext p h then.run.order
 comes_before k s later now then p was still h seat t n many =
-    keeps_real_time then.timeline then.run.order then.lined.ordered then.lined.follow p (line_of k later then p still) t n h.local.thread (length h.local.trace) many
+    keeps_real_time then.timeline then.run.order then.lined.ordered then.lined.formed p (line_of k later then p still) t n h.local.thread (length h.local.trace) many
     (omega (arith, invoked_start h.local.thread p now.timeline (line_of k s now p was), ap length (has_invoked k s now h seat)))
+
+-- lists with appended ends that are equal have equal fronts, if these are as long
+same_front : {A : Type 0} (xs ys us vs : List A) → length xs ≡ length ys → xs ++ us ≡ ys ++ vs → xs ≡ ys
+same_front [] [] us vs long e = refl
+same_front [] (y ∷ ys) us vs long e = absurd (omega (arith, long))
+same_front (x ∷ xs) [] us vs long e = absurd (omega (arith, long))
+same_front (x ∷ xs) (y ∷ ys) us vs long e =
+    let head : x ≡ y = ap (λ l. get_or l 0 x) e in
+    let rest : xs ≡ ys = same_front xs ys us vs (omega (arith, long)) (ap (drop 1) e) in
+    λ i. head i ∷ rest i
+
+-- the timeline has the worker's earlier commands before the command's invocation, and no others of it
+pub invoked_before : (old new : WorkerState) (k : Command) (a : Reply) (is : HasAnswered old k a new) → invoked_in old.thread.thread is.past ≡ old.thread.trace
+invoked_before old new k a is =
+    let t : ℕ = old.thread.thread in
+    let rest : List Moment = moments.Invoked t k ∷ is.later in
+    let one : invoked_in t rest ≡ k ∷ invoked_in t is.later = rw (eq-eqb t t refl) refl in
+    let whole : invoked_in t is.past ++ k ∷ invoked_in t is.later ≡ old.thread.trace ++ k ∷ [] =
+    ap (λ l. invoked_in t is.past ++ l) (sym one)
+    ∙ sym (invoked_append t is.past rest)
+    ∙ ap (invoked_in t) (sym is.timeline)
+    ∙ ap (λ u. invoked_in u new.timeline) (sym (still_thread old new k a is))
+    ∙ is.sound.invoked ∙ is.asked in
+    let entries : part t (history_of is.past) ≡ old.thread.log = ap (part t) (sym is.started) ∙ part_before old new k a is in
+    let least : length (part t (history_of is.past)) ≤ length (invoked_in t is.past) = (is.sound.formed is.past (rest, is.timeline) t).0 in
+    let counts : length old.thread.log ≡ length old.thread.trace =
+    omega (
+      arith,
+      ap length is.told,
+      length-append old.thread.log (is.entry ∷ []),
+      ap length is.asked,
+      length-append old.thread.trace (k ∷ []),
+      ap length is.sound.asked,
+      length-map new.thread.log (λ (e : Entry). e.command),
+    ) in
+    same_front (invoked_in t is.past) old.thread.trace (k ∷ invoked_in t is.later) (k ∷ []) (omega (
+      arith,
+      ap length whole,
+      length-append (invoked_in t is.past) (k ∷ invoked_in t is.later),
+      length-append old.thread.trace (k ∷ []),
+      ap length entries,
+      least,
+      counts,
+    )) whole
 
 module _ (c : Config) (ws : List WorkerState) (cycles : ℕ) (is : HaveOneHistory c ws cycles) (x y : WorkerState) (m : Command) (b : Reply) (did : HasAnswered x m b y) (lined : IsStartOf y.timeline is.timeline) where
   seen_start : IsStartOf y.seen is.order

@@ -142,8 +142,8 @@ module _ (k : Whole) (s : table.State Command View) (kept : SharedKept k s) (id 
       others = all.foreign;
       ordered = kept.lined.ordered;
       uninvoked = kept.lined.others;
-      follow = kept.lined.follow;
-      real_time = keeps_real_time kept.timeline r.order kept.lined.ordered kept.lined.follow;
+      formed = kept.lined.formed;
+      real_time = keeps_real_time kept.timeline r.order kept.lined.ordered kept.lined.formed;
       starts = read ∙ ap cycle_of (phase_is k s kept) ∙ sym all.names.ordered.started;
       run = r;
       by = kept.by;

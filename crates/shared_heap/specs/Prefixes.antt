@@ -18,7 +18,7 @@ use Rattle.shared_heap.specs.declared.rules.Held.{Held}
 use Rattle.shared_heap.specs.declared.rules.Moment.{Moment}
 use Rattle.shared_heap.specs.declared.rules.View.{View}
 use Rattle.shared_heap.specs.RealTime.{KeepsRealTime}
-use Rattle.shared_heap.specs.Shared.{AllNotedIn, AllSeenIn, EntriesFollow, history_of, invoked_in, seats_of}
+use Rattle.shared_heap.specs.Shared.{AllNotedIn, AllSeenIn, IsWellFormed, history_of, invoked_in, seats_of}
 
 -- The part of a thread in a history is its log, and at most one entry more, which it has not yet
 -- logged; none if it is done. The entries of the log are those of its first commands, and the entry
@@ -56,7 +56,7 @@ pub record FitsOneHistory (c : Config) (s : table.State Command View) : Type 0 w
   pub others : (u : ℕ) → c.threads ≤ u → part u order ≡ []
   pub ordered : order ≡ history_of timeline
   pub uninvoked : (u : ℕ) → c.threads ≤ u → invoked_in u timeline ≡ []
-  pub follow : EntriesFollow timeline
+  pub formed : IsWellFormed timeline
   pub real_time : KeepsRealTime timeline order
 
 -- each thread has finished its commands

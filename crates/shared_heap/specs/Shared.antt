@@ -60,11 +60,14 @@ Counts n count = (n ≡ count) ⊎ (2 ^ 64 ≤ count)
 abbrev pub IsStartOf : {A : Type 0} → List A → List A → Type 0
 IsStartOf {A} start whole = (more : List A) × (whole ≡ start ++ more)
 
--- Each entry comes after the invocation of its command: every prefix has at most as many entries of
--- a thread as invocations of it. The n-th entry of a thread is that of its n-th command.
-abbrev pub EntriesFollow : List Moment → Type 0
-EntriesFollow timeline = (p : List Moment) → IsStartOf p timeline
-    → (t : ℕ) → length (part t (history_of p)) ≤ length (invoked_in t p)
+-- A thread has at most one command that is invoked and has no entry yet: every prefix has as many
+-- entries of a thread as invocations of it, or one fewer. The n-th entry of a thread is that of its
+-- n-th command. So each entry comes after the invocation of its command, and before that of the
+-- thread's next one.
+abbrev pub IsWellFormed : List Moment → Type 0
+IsWellFormed timeline = (p : List Moment) → IsStartOf p timeline → (t : ℕ)
+    → (length (part t (history_of p)) ≤ length (invoked_in t p))
+    × (length (invoked_in t p) ≤ length (part t (history_of p)) + 1)
 
 -- what each of these threads has seen, and each of these notes, is a prefix of this timeline
 abbrev pub AllSeenIn : List Moment → List Held → Type 0
@@ -78,12 +81,12 @@ AllNotedIn timeline (n ∷ ns) = IsStartOf n timeline × AllNotedIn timeline ns
 -- ---- the rule
 
 -- A timeline of a run: its history is the run's order, the commands of each thread were invoked in
--- the order of its trace, and each entry comes after the invocation of its command.
+-- the order of its trace, and it is well-formed.
 pub record IsTimelineOf (c : Config) (r : Run) (timeline : List Moment) : Type 0 where
   pub ordered : r.order ≡ history_of timeline
   pub invoked : (t : ℕ) → t < c.threads → invoked_in t timeline ≡ (local_in c r t).trace
   pub others : (u : ℕ) → c.threads ≤ u → invoked_in u timeline ≡ []
-  pub follow : EntriesFollow timeline
+  pub formed : IsWellFormed timeline
 
 -- a thread is the run's
 abbrev pub Fits : Config → Run → Held → Type 0

@@ -28,7 +28,7 @@ use Rattle.shared_heap.specs.declared.rules.Moment.TheVariants as moments
 use Rattle.shared_heap.specs.declared.rules.Span.{Span}
 use Rattle.shared_heap.specs.declared.rules.View.{View}
 use Rattle.shared_heap.specs.RealTime.{KeepsRealTime}
-use Rattle.shared_heap.specs.Shared.{EntriesFollow, IsOfRun, IsStartOf, SharedKept, first_held, first_past, held_of, history_of, invoked_in, one_view, unasked}
+use Rattle.shared_heap.specs.Shared.{IsWellFormed, IsOfRun, IsStartOf, SharedKept, first_held, first_past, held_of, history_of, invoked_in, one_view, unasked}
 use Rattle.shared_heap.specs.Turns.{MadeTurns}
 
 -- which table it is, and its configuration
@@ -132,7 +132,7 @@ pub record HasSeenIts (w : WorkerState) : Type 0 where
   pub asked : map (λ (e : Entry). e.command) (told w) ≡ asked w
   pub ordered : w.seen ≡ history_of w.timeline
   pub invoked : invoked_in w.thread.thread w.timeline ≡ w.thread.trace
-  pub follow : EntriesFollow w.timeline
+  pub formed : IsWellFormed w.timeline
 
 -- The worker has executed one more command, with this reply: the command is appended to its
 -- commands, and an entry to its entries. What it had seen, and each note that it had learned, is a
@@ -218,7 +218,7 @@ pub record HaveOneHistory (c : Config) (ws : List WorkerState) (cycles : ℕ) : 
   pub others : (u : ℕ) → c.threads ≤ u → part u order ≡ []
   pub ordered : order ≡ history_of timeline
   pub uninvoked : (u : ℕ) → c.threads ≤ u → invoked_in u timeline ≡ []
-  pub follow : EntriesFollow timeline
+  pub formed : IsWellFormed timeline
   pub real_time : KeepsRealTime timeline order
   pub starts : cycles ≡ starts_in order
   pub least_units : (cycles - 1) * c.blocks ≤ work_in order
@@ -255,7 +255,7 @@ pub record HaveHistoryOfSome (c : Config) (ws : List WorkerState) (cycles : ℕ)
   pub others : (u : ℕ) → c.threads ≤ u → part u order ≡ []
   pub ordered : order ≡ history_of timeline
   pub uninvoked : (u : ℕ) → c.threads ≤ u → invoked_in u timeline ≡ []
-  pub follow : EntriesFollow timeline
+  pub formed : IsWellFormed timeline
   pub real_time : KeepsRealTime timeline order
   pub starts : cycles ≡ starts_in order
   pub run : Run
