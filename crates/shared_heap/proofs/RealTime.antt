@@ -2,11 +2,10 @@
 use Rattle.std.proofs.Common.{◌≡◌, ℕ, ◌≤◌, refl, arith, subst, sym, ap, ◌∙◌, List, [], ◌∷◌, ◌++◌, length, length-append, get_or, drop, eq-eqb, inl, inr, ◌⊎◌, append_assoc}
 use Rattle.std.proofs.lemmas.List.{length-map}
 use Rattle.atomic_table.specs.Table as table
-use Rattle.block_store.specs.declared.Config.{Config}
 use Rattle.never_heap.specs.declared.Command.{Command}
 use Rattle.never_heap.specs.declared.Entry.{Entry}
 use Rattle.never_heap.specs.declared.Reply.{Reply}
-use Rattle.never_heap.specs.Histories.{part}
+use Rattle.never_heap.specs.Histories.{HistoryItem, part}
 use Rattle.heap_system.specs.Locals.{LocalState}
 use Rattle.heap_system.specs.Machines.{local_in}
 use Rattle.heap_system.specs.Systems.{Whole}
@@ -17,7 +16,7 @@ use Rattle.shared_heap.specs.declared.rules.View.{View}
 use Rattle.shared_heap.specs.Behind.{StandsBehind}
 use Rattle.shared_heap.specs.RealTime.{ComesBeforeTheNext, HasSeat, WasSeen}
 use Rattle.shared_heap.specs.Shared.{Fits, IsStartOf, SharedKept, history_of, invoked_in}
-use Rattle.shared_heap.specs.Workers.{HasAnswered, HasSeenIts, HaveOneHistory, WorkerState}
+use Rattle.shared_heap.specs.Workers.{HasAnswered, HasSeenIts, WorkerState}
 use Rattle.shared_heap.proofs.Behind.{part_before, stands_after, stands_still, still_thread}
 use Rattle.shared_heap.proofs.Grown.{here}
 use Rattle.shared_heap.proofs.Timelines.{before_or_after, history_start, invoked_append, invoked_start, keeps_real_time}
@@ -85,25 +84,27 @@ invoked_before old new k a is =
       counts,
     )) whole
 
-module _ (c : Config) (ws : List WorkerState) (cycles : ℕ) (is : HaveOneHistory c ws cycles) (x y : WorkerState) (m : Command) (b : Reply) (did : HasAnswered x m b y) (lined : IsStartOf y.timeline is.timeline) where
-  seen_start : IsStartOf y.seen is.order
-  seen_start = subst (λ h. IsStartOf h is.order) (sym did.sound.ordered) (subst (λ o. IsStartOf (history_of y.timeline) o) (sym is.ordered) (history_start y.timeline is.timeline lined))
+-- a command whose worker has seen a prefix of this timeline
+module _ (timeline : List Moment) (x y : WorkerState) (m : Command) (b : Reply) (did : HasAnswered x m b y) (seen : IsStartOf y.timeline timeline) where
+  -- it comes after what was seen before it was invoked
+  module _ (order : List HistoryItem) (ordered : order ≡ history_of timeline) where
+    seen_start : IsStartOf y.seen order
+    seen_start = subst (λ h. IsStartOf h order) (sym did.sound.ordered) (subst (λ o. IsStartOf (history_of y.timeline) o) (sym ordered) (history_start y.timeline timeline seen))
 
-  -- a command that was invoked after all that a worker had seen
-  pub behind : (v : WorkerState) → HasSeenIts v → IsStartOf v.timeline did.past → StandsBehind v.seen x.thread.log did.entry is.order
-  behind v sound line =
-      let begun : IsStartOf v.seen did.start = subst (λ h. IsStartOf h did.start) (sym sound.ordered) (subst (λ h. IsStartOf (history_of v.timeline) h) (sym did.started) (history_start v.timeline did.past line)) in
-      stands_still v.seen y.seen is.order x.thread.log did.entry (stands_after x y m b did v.seen begun) seen_start
+    pub after : (v : WorkerState) → HasSeenIts v → IsStartOf v.timeline did.past → StandsBehind v.seen x.thread.log did.entry order
+    after v sound line =
+        let begun : IsStartOf v.seen did.start = subst (λ h. IsStartOf h did.start) (sym sound.ordered) (subst (λ h. IsStartOf (history_of v.timeline) h) (sym did.started) (history_start v.timeline did.past line)) in
+        stands_still v.seen y.seen order x.thread.log did.entry (stands_after x y m b did v.seen begun) seen_start
 
   abbrev call : Moment
   call = moments.Invoked x.thread.thread m
 
   -- the timeline, with the invocation of the command
-  whole : (v : WorkerState) → (line : IsStartOf v.timeline is.timeline) → did.past ++ call ∷ (did.later ++ lined.0) ≡ v.timeline ++ line.0
+  whole : (v : WorkerState) → (line : IsStartOf v.timeline timeline) → did.past ++ call ∷ (did.later ++ seen.0) ≡ v.timeline ++ line.0
   whole v line =
-      sym (append_assoc did.past (call ∷ did.later) lined.0)
-      ∙ ap (λ l. l ++ lined.0) (sym did.timeline)
-      ∙ sym lined.1 ∙ line.1
+      sym (append_assoc did.past (call ∷ did.later) seen.0)
+      ∙ ap (λ l. l ++ seen.0) (sym did.timeline)
+      ∙ sym seen.1 ∙ line.1
 
-  pub either_way : (v : WorkerState) → IsStartOf v.timeline is.timeline → IsStartOf v.timeline did.past ⊎ IsStartOf (did.past ++ call ∷ []) v.timeline
-  either_way v line = before_or_after v.timeline line.0 did.past call (did.later ++ lined.0) (whole v line)
+  pub either_way : (v : WorkerState) → IsStartOf v.timeline timeline → IsStartOf v.timeline did.past ⊎ IsStartOf (did.past ++ call ∷ []) v.timeline
+  either_way v line = before_or_after v.timeline line.0 did.past call (did.later ++ seen.0) (whole v line)

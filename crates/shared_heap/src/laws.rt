@@ -5,7 +5,6 @@ ghost use Rattle.std.specs.Prelude.{◌≡◌, ◌≤◌, ◌^◌, ◌⊎◌, �
 ghost use mathlib.Core.Option.{some};
 ghost use lib.ListN.{get_elem?};
 ghost use Rattle.atomic_table.specs.Table as table;
-ghost use Rattle.block_store.specs.declared.Config.{Config};
 ghost use Rattle.never_heap.specs.declared.Command.{Command};
 ghost use Rattle.never_heap.specs.declared.Entry.{Entry};
 ghost use Rattle.never_heap.specs.declared.Reply.{Reply};
@@ -16,9 +15,9 @@ ghost use Rattle.shared_heap.specs.declared.rules.Held.{Held};
 ghost use Rattle.shared_heap.specs.declared.rules.Moment.{Moment};
 ghost use Rattle.shared_heap.specs.declared.rules.Moment.TheVariants as moments;
 ghost use Rattle.shared_heap.specs.declared.rules.View.{View};
-ghost use Rattle.shared_heap.specs.Shared.{IsStartOf, SharedKept, one_view, stamps_in};
+ghost use Rattle.shared_heap.specs.Shared.{IsStartOf, SharedKept, history_of, one_view, stamps_in};
 ghost use Rattle.shared_heap.specs.RealTime.{ComesBeforeTheNext, HasSeat, WasSeen};
-ghost use Rattle.shared_heap.specs.Workers.{HasAnswered, HasRoom, HasSeenIts, HaveOneHistory, WorkerState};
+ghost use Rattle.shared_heap.specs.Workers.{HasAnswered, HasRoom, HasSeenIts, WorkerState};
 ghost use Rattle.shared_heap.specs.Stamps.{HasDrawn};
 ghost use Rattle.shared_heap.specs.Behind.{StandsBehind, StandsBehindAll};
 ghost use Rattle.shared_heap.specs.Prefixes.{FitsOneHistory, AllAreDone, EndsInTime};
@@ -45,21 +44,20 @@ pub fn what_was_seen_comes_before_what_is_invoked_later()
         → (h : Held) → HasSeat s h → ComesBeforeTheNext p h then.run.order }
 {}
 
-/// Real-time order, of commands of a closed heap. If a command was invoked after all that some
-/// worker had seen, then its entry comes behind all of that (`behind`). Of two commands, either the
-/// second was invoked after all that the worker of the first had seen when the first returned, its
-/// entry included; or the invocation of the second stands among what that worker had seen then, so
-/// that it was invoked before the first returned (`either`).
+/// Real-time order, of commands of a heap that was closed, by `close` or `close_some`, with this
+/// timeline and history. If a command was invoked after all that some worker had seen, then its
+/// entry comes after all of that (`after`). Of two commands, either the second was invoked after
+/// all that the worker of the first had seen when the first returned, its entry included; or the
+/// invocation of the second is in what that worker had seen then, so that it was invoked before
+/// the first returned (`either`).
 pub fn commands_keep_real_time()
-    ensures behind { (c : Config) (ws : List WorkerState) (cycles : ℕ)
-        (is : HaveOneHistory c ws cycles) (v x y : WorkerState) (m : Command) (b : Reply)
-        (did : HasAnswered x m b y) → HasSeenIts v → IsStartOf y.timeline is.timeline
-        → IsStartOf v.timeline did.past
-        → StandsBehind v.seen x.thread.log did.entry is.order }
-    ensures either { (c : Config) (ws : List WorkerState) (cycles : ℕ) (is : HaveOneHistory c ws cycles)
-        (u v x y : WorkerState) (k m : Command) (a b : Reply) (first : HasAnswered u k a v)
-        (second : HasAnswered x m b y)
-        → IsStartOf v.timeline is.timeline → IsStartOf y.timeline is.timeline
+    ensures after { (timeline : List Moment) (order : List HistoryItem)
+        → order ≡ history_of timeline → (v x y : WorkerState) (m : Command) (b : Reply)
+        (did : HasAnswered x m b y) → HasSeenIts v → IsStartOf y.timeline timeline
+        → IsStartOf v.timeline did.past → StandsBehind v.seen x.thread.log did.entry order }
+    ensures either { (timeline : List Moment) (u v x y : WorkerState) (k m : Command)
+        (a b : Reply) (first : HasAnswered u k a v) (second : HasAnswered x m b y)
+        → IsStartOf v.timeline timeline → IsStartOf y.timeline timeline
         → IsStartOf v.timeline second.past
         ⊎ IsStartOf (second.past ++ moments.Invoked x.thread.thread m ∷ []) v.timeline }
 {}
@@ -67,7 +65,7 @@ pub fn commands_keep_real_time()
 /// Of two stamps of one heap, the worker of the one that is no less had seen all that the other had
 /// seen when it drew its own: the timeline that the first had seen is a prefix of what the second
 /// had. So the commands that the second worker executed from then on come behind all of that
-/// (`commands_keep_real_time`, `behind`). Or 2^64 stamps were drawn. The timeline is that of the
+/// (`commands_keep_real_time`, `after`). Or 2^64 stamps were drawn. The timeline is that of the
 /// heap, as `close` has it.
 pub fn stamps_are_in_order()
     ensures { (timeline : List Moment) (u v x y : WorkerState) (n m : ℕ) → HasDrawn u n v
