@@ -8,7 +8,7 @@ ghost use Rattle.heap_system.specs.Systems.{Whole};
 ghost use Rattle.shared_heap.specs.declared.rules.View.{View};
 ghost use Rattle.shared_heap.specs.Shared.{SharedKept};
 ghost use Rattle.handle_table.specs.Handles.{Deed};
-ghost use Rattle.live_rows.specs.Orders.{OperationsAreInOrder, OperationsComeBehind, StandBehindWhatWasSeen};
+ghost use Rattle.live_rows.specs.Orders.{OperationsAreInOrder, OperationsComeAfter, StandBehindWhatWasSeen};
 ghost use Rattle.live_rows.specs.SoFar.{WorkAllAlong};
 ghost use Rattle.live_handles.specs.Live.{IsHandleHeap, handles};
 ghost use Rattle.live_handles.specs.SoFar.{AllSeats, Execute, FitsOneTable, IsBetween, IsWorking};
@@ -20,13 +20,13 @@ pub fn deeds_stand_behind_what_was_seen()
     ensures { StandBehindWhatWasSeen handles }
 {}
 
-/// Real-time order, of deeds that are closed. One that began after all that some worker had seen
-/// comes, in the order, behind all that that worker had done (`behind`). Of two, either the second
-/// began after all that the worker of the first had seen when the first returned, or the invocation
-/// of its first command stands among what that worker had seen then, so that it began before the
-/// first returned (`either`).
+/// Real-time order, of deeds of closed slots. One that began after all that some worker had seen
+/// comes, in the order, after all that that worker had done (`after`). Of two, either the second
+/// began after all that the worker of the first had seen when the first returned, or the
+/// invocation of its first command is in what that worker had seen then, so that it began before
+/// the first returned (`either`).
 pub fn deeds_keep_real_time()
-    ensures behind { OperationsComeBehind handles }
+    ensures after { OperationsComeAfter handles }
     ensures either { OperationsAreInOrder handles }
 {}
 

@@ -8,7 +8,7 @@ ghost use Rattle.heap_system.specs.Systems.{Whole};
 ghost use Rattle.shared_heap.specs.declared.rules.View.{View};
 ghost use Rattle.shared_heap.specs.Shared.{SharedKept};
 ghost use Rattle.number_rings.specs.Rings.{Operation};
-ghost use Rattle.live_rows.specs.Orders.{OperationsAreInOrder, OperationsComeBehind, StandBehindWhatWasSeen};
+ghost use Rattle.live_rows.specs.Orders.{OperationsAreInOrder, OperationsComeAfter, StandBehindWhatWasSeen};
 ghost use Rattle.live_rows.specs.SoFar.{WorkAllAlong};
 ghost use Rattle.live_rings.specs.Live.{IsRingHeap, rings};
 ghost use Rattle.live_rings.specs.SoFar.{AllSeats, Execute, FitsOneArray, IsBetween, IsWorking};
@@ -20,13 +20,13 @@ pub fn operations_stand_behind_what_was_seen()
     ensures { StandBehindWhatWasSeen rings }
 {}
 
-/// Real-time order, of operations that are closed. One that began after all that some worker had seen
-/// comes, in the order, behind all that that worker had done (`behind`). Of two, either the second
-/// began after all that the worker of the first had seen when the first returned, or the invocation
-/// of its first command stands among what that worker had seen then, so that it began before the
-/// first returned (`either`).
+/// Real-time order, of operations of closed rings. One that began after all that some worker had seen
+/// comes, in the order, after all that that worker had done (`after`). Of two, either the second
+/// began after all that the worker of the first had seen when the first returned, or the
+/// invocation of its first command is in what that worker had seen then, so that it began before
+/// the first returned (`either`).
 pub fn operations_keep_real_time()
-    ensures behind { OperationsComeBehind rings }
+    ensures after { OperationsComeAfter rings }
     ensures either { OperationsAreInOrder rings }
 {}
 

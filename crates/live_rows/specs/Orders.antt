@@ -72,9 +72,9 @@ module _ {Op Row Answer S : Type 0} (a : Rows Op Row Answer S) where
       → StandsBehind is.order (thread_of other) other.done (thread_of old) old.done
 
   -- An operation of a closed table that began after all that some worker had seen comes, in the
-  -- order, behind all operations that that worker had done.
-  abbrev pub OperationsComeBehind : Type 0
-  OperationsComeBehind =
+  -- order, after all operations that that worker had done.
+  abbrev pub OperationsComeAfter : Type 0
+  OperationsComeAfter =
       (c : Config) (ws : List (RowWorkerState Op Answer)) (cycles : ℕ)
       (is : HaveOneOrder a c ws cycles) (v x y : RowWorkerState Op Answer) (op : Op)
       (answer : Answer) (did : HasDone a x op answer y) → HasSeenIts v.worker → HasSeenAll a v
@@ -82,8 +82,8 @@ module _ {Op Row Answer S : Type 0} (a : Rows Op Row Answer S) where
       → StandsBehind is.order (thread_of v) v.done (thread_of x) x.done
 
   -- Of two operations of a closed table, either the second began after all that the worker of the
-  -- first had seen when the first returned, or the invocation of its first command stands among what
-  -- that worker had seen then, so that it began before the first returned.
+  -- first had seen when the first returned, or the invocation of its first command is in what that
+  -- worker had seen then, so that it began before the first returned.
   abbrev pub OperationsAreInOrder : Type 0
   OperationsAreInOrder =
       (c : Config) (ws : List (RowWorkerState Op Answer)) (cycles : ℕ)
@@ -94,14 +94,15 @@ module _ {Op Row Answer S : Type 0} (a : Rows Op Row Answer S) where
       ⊎ IsStartOf (second.past ++ moments.Invoked (thread_of x) second.command ∷ [])
       v.worker.timeline
 
-  -- An operation of a worker whose stamp is no less than another's comes behind all operations that
-  -- that one had done when it drew its own. Or 2^64 stamps were drawn.
-  abbrev pub OperationsComeBehindStamps : Type 0
-  OperationsComeBehindStamps =
+  -- A worker drew a stamp that is no less than another's. Each operation that began after its stamp
+  -- comes after all operations that the other had done at its own. Or 2^64 stamps were drawn. Each
+  -- later operation of the worker that drew the stamp is such a one, as `HasDone` says (`began`).
+  abbrev pub OperationsComeAfterStamps : Type 0
+  OperationsComeAfterStamps =
       (c : Config) (ws : List (RowWorkerState Op Answer)) (cycles : ℕ)
-      (is : HaveOneOrder a c ws cycles) (u v x y z : RowWorkerState Op Answer) (n m : ℕ) (op : Op)
+      (is : HaveOneOrder a c ws cycles) (u v x y w z : RowWorkerState Op Answer) (n m : ℕ) (op : Op)
       (answer : Answer) → HasDrawn u n v → HasSeenAll a v → HasDrawn x m y → n ≤ m
-      → HasDone a y op answer z → IsStartOf v.worker.timeline is.timeline
-      → IsStartOf z.worker.timeline is.timeline
-      → StandsBehind is.order (thread_of v) v.done (thread_of y) y.done
+      → (did : HasDone a w op answer z) → IsStartOf y.worker.timeline did.past
+      → IsStartOf v.worker.timeline is.timeline → IsStartOf z.worker.timeline is.timeline
+      → StandsBehind is.order (thread_of v) v.done (thread_of w) w.done
       ⊎ (2 ^ 64 ≤ stamps_in is.timeline)

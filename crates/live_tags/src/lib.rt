@@ -9,7 +9,7 @@ mod table;
 mod worker;
 
 pub use laws::{
-    operations_come_behind_stamps, operations_keep_real_time,
+    operations_come_after_stamps, operations_keep_real_time,
     operations_stand_behind_what_was_seen, what_was_answered_is_a_tables,
 };
 pub use note::TagNote;
