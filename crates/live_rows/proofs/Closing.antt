@@ -159,7 +159,7 @@ module _ {Op Row Answer S : Type 0} (a : Rows Op Row Answer S) (law : Lawful a)
         script = its;
         answers = (λ i. answers_of a (its i) (replies (p.told i))) ∙ sym (orders.1.told t);
         invoked = p.invoked;
-        lined = p.lined;
+        on_timeline = p.on_timeline;
         seen = p.seen;
       }
 

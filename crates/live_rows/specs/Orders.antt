@@ -25,7 +25,7 @@ pub record HasScript {Op Answer : Type 0} (scripts : List (List Op)) (timeline :
   pub script : w.done ≡ slice_index_or scripts t []
   pub answers : w.answers ≡ answers_in t order
   pub invoked : invoked_in t timeline ≡ w.worker.thread.trace
-  pub lined : IsStartOf w.worker.timeline timeline
+  pub on_timeline : IsStartOf w.worker.timeline timeline
   pub seen : IsStartOf w.worker.seen history
 
 -- There is a history of the job of some scripts, with a linearization and with no allocation that

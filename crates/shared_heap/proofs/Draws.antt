@@ -58,7 +58,7 @@ module _ (k : Whole) (s : table.State Command View) (kept : SharedKept k s) (id 
   line = kept.timeline ++ moments.Stamped ∷ []
 
   lined : IsTimelineOf c r line
-  lined = timeline_stamped c l.thread f.0 r kept.by.after kept.timeline kept.lined
+  lined = timeline_stamped c l.thread f.0 r kept.by.after kept.timeline kept.timeline_of
 
   abbrev past : Past
   past = later_past line (length kept.by.after.turns) h.past.span.own h.past
@@ -88,7 +88,7 @@ module _ (k : Whole) (s : table.State Command View) (kept : SharedKept k s) (id 
     after = kept.by.after;
     there = f.0;
     local = is;
-    lined = lined;
+    timeline_of = lined;
     counted = refl;
   })
 
@@ -100,7 +100,7 @@ module _ (k : Whole) (s : table.State Command View) (kept : SharedKept k s) (id 
     words = ap (λ ws. set ws place next) kept.words ∙ set_last r.state.words kept.drawn place next at_end;
     timeline = line;
     counts = counts_on (get_or s.words place 0) kept.timeline (subst (λ n. Counts n (stamps_in kept.timeline)) (sym found_is) kept.counts);
-    lined = lined;
+    timeline_of = lined;
     each = λ j u e. ⊎_elim
         (λ p. subst (λ (x : View). AllFit c r x.threads × AllNotedIn line x.notes × AllTimed c r (length kept.by.after.turns) x.threads × AllSeenIn line x.threads) p.1 ((f, tt), noted_more kept.timeline (moments.Stamped ∷ []) ns (kept.each id (one_view h ns) at).1, (still_timed, tt), (starts_itself line, tt)))
         (λ p. ((kept.each j u p.1).0, noted_more kept.timeline (moments.Stamped ∷ []) u.notes (kept.each j u p.1).1, (kept.each j u p.1).2, seen_more kept.timeline (moments.Stamped ∷ []) u.threads (kept.each j u p.1).3))

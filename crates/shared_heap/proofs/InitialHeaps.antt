@@ -176,7 +176,7 @@ opens k traces job start =
       words = refl;
       timeline = moments.Began ∷ [];
       counts = inl refl;
-      lined = idle_timeline c traces job k.state start;
+      timeline_of = idle_timeline c traces job k.state start;
       each = each (opened c (idle c traces job k.state start)) (all_fit c traces job k.state start) (all_timed c traces job k.state start);
       once = λ t tl. omega (arith, each_once c traces job k.state start t tl);
     }
@@ -225,7 +225,7 @@ module _ (c : Config) (traces : List (List Command)) (job : IsJob c traces) (s :
     run = opened c (idle c traces job s start);
     after = (idle_run c traces job s start).after;
     there = low;
-    lined = idle_timeline c traces job s start;
+    timeline_of = idle_timeline c traces job s start;
     counted = refl;
     local = sym (idle_at c traces job s start i low);
   }

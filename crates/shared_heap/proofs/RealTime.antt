@@ -33,11 +33,11 @@ has_invoked : (k : Whole) (s : table.State Command View) (kept : SharedKept k s)
 has_invoked k s kept h seat =
     let f : Fits k.config kept.run h = (kept.each seat.0 _ seat.2).0.0 in
     let is : h.local ≡ local_in k.config kept.run h.local.thread = here k.config h.local.thread f.0 kept.run kept.by.after h.local f.1 in
-    kept.lined.invoked h.local.thread f.0 ∙ sym (ap (λ (l : LocalState). l.trace) is)
+    kept.timeline_of.invoked h.local.thread f.0 ∙ sym (ap (λ (l : LocalState). l.trace) is)
 
 pub comes_before : (k : Whole) (s later : table.State Command View) (now : SharedKept k s) (then : SharedKept k later) (p : List Moment) → WasSeen s p → WasSeen later p → (h : Held) → HasSeat s h → ComesBeforeTheNext p h then.run.order
 comes_before k s later now then p was still h seat t n many =
-    keeps_real_time then.timeline then.run.order then.lined.ordered then.lined.formed p (line_of k later then p still) t n h.local.thread (length h.local.trace) many
+    keeps_real_time then.timeline then.run.order then.timeline_of.ordered then.timeline_of.formed p (line_of k later then p still) t n h.local.thread (length h.local.trace) many
     (omega (arith, invoked_start h.local.thread p now.timeline (line_of k s now p was), ap length (has_invoked k s now h seat)))
 
 -- lists with appended ends that are equal have equal fronts, if these are as long

@@ -63,7 +63,7 @@ module _ (k : Whole) (s : table.State Command View) (kept : SharedKept k s) (id 
   firsts t tl =
       let own = all.locals t tl in
       let first = first_commands (replay c r.order) (local_in c r t) (part t r.order) own.told own.fits own.said in
-      (first.0, kept.lined.invoked t tl ∙ first.1)
+      (first.0, kept.timeline_of.invoked t tl ∙ first.1)
 
   module _ (j : ℕ) (d : WorkerState) (low : j < length ws) where
     abbrev w : WorkerState
@@ -108,9 +108,9 @@ module _ (k : Whole) (s : table.State Command View) (kept : SharedKept k s) (id 
       thread = named;
       told = ap (λ (l : LocalState). l.log) its.0 ∙ ap (λ (l : LocalState). l.log) is ∙ sym log;
       asked = ap (map (λ (e : Entry). e.command)) log ∙ said_when_done c t fit.0 r after over ∙ sym (ap (λ (l : LocalState). l.trace) is) ∙ sym (ap (λ (l : LocalState). l.trace) its.0);
-      invoked = kept.lined.invoked t fit.0 ∙ sym (ap (λ (l : LocalState). l.trace) is) ∙ sym (ap (λ (l : LocalState). l.trace) its.0);
-      lined = subst (λ x. IsStartOf x kept.timeline) (sym its.3) seen;
-      seen = subst (λ x. IsStartOf x r.order) (sym its.1) (subst (λ o. IsStartOf (history_of own.past.seen) o) (sym kept.lined.ordered) (history_start own.past.seen kept.timeline seen));
+      invoked = kept.timeline_of.invoked t fit.0 ∙ sym (ap (λ (l : LocalState). l.trace) is) ∙ sym (ap (λ (l : LocalState). l.trace) its.0);
+      on_timeline = subst (λ x. IsStartOf x kept.timeline) (sym its.3) seen;
+      seen = subst (λ x. IsStartOf x r.order) (sym its.1) (subst (λ o. IsStartOf (history_of own.past.seen) o) (sym kept.timeline_of.ordered) (history_start own.past.seen kept.timeline seen));
     }
 
     some_part : HasPart kept.timeline r.order w.thread.thread w
@@ -140,10 +140,10 @@ module _ (k : Whole) (s : table.State Command View) (kept : SharedKept k s) (id 
       apart = λ i j d less low same. apart i j d less low same;
       firsts = firsts;
       others = all.foreign;
-      ordered = kept.lined.ordered;
-      uninvoked = kept.lined.others;
-      formed = kept.lined.formed;
-      real_time = keeps_real_time kept.timeline r.order kept.lined.ordered kept.lined.formed;
+      ordered = kept.timeline_of.ordered;
+      uninvoked = kept.timeline_of.others;
+      formed = kept.timeline_of.formed;
+      real_time = keeps_real_time kept.timeline r.order kept.timeline_of.ordered kept.timeline_of.formed;
       starts = read ∙ ap cycle_of (phase_is k s kept) ∙ sym all.names.ordered.started;
       run = r;
       by = kept.by;

@@ -30,7 +30,7 @@ history_append [] ys = refl
 history_append (moments.Began ∷ xs) ys = ap (λ o. Started ∷ o) (history_append xs ys)
 history_append (moments.Invoked t k ∷ xs) ys = history_append xs ys
 history_append (moments.Stamped ∷ xs) ys = history_append xs ys
-history_append (moments.Ended e ∷ xs) ys = ap (λ o. Did e ∷ o) (history_append xs ys)
+history_append (moments.TookEffect e ∷ xs) ys = ap (λ o. Did e ∷ o) (history_append xs ys)
 
 cons_if : (b : Bool) (k : Command) (xs ys zs : List Command) → xs ≡ ys ++ zs → cond b (k ∷ xs) xs ≡ cond b (k ∷ ys) ys ++ zs
 cons_if true k xs ys zs e = ap (λ l. k ∷ l) e
@@ -41,14 +41,14 @@ invoked_append t [] ys = refl
 invoked_append t (moments.Began ∷ xs) ys = invoked_append t xs ys
 invoked_append t (moments.Invoked u k ∷ xs) ys = cons_if (eqb u t) k _ _ _ (invoked_append t xs ys)
 invoked_append t (moments.Stamped ∷ xs) ys = invoked_append t xs ys
-invoked_append t (moments.Ended e ∷ xs) ys = invoked_append t xs ys
+invoked_append t (moments.TookEffect e ∷ xs) ys = invoked_append t xs ys
 
 pub stamps_append : (xs ys : List Moment) → stamps_in (xs ++ ys) ≡ stamps_in xs + stamps_in ys
 stamps_append [] ys = omega arith
 stamps_append (moments.Began ∷ xs) ys = stamps_append xs ys
 stamps_append (moments.Invoked t k ∷ xs) ys = stamps_append xs ys
 stamps_append (moments.Stamped ∷ xs) ys = omega (arith, stamps_append xs ys)
-stamps_append (moments.Ended e ∷ xs) ys = stamps_append xs ys
+stamps_append (moments.TookEffect e ∷ xs) ys = stamps_append xs ys
 
 -- the same count of stamps
 pub counts_same : (n : ℕ) (xs ys : List Moment) → stamps_in ys ≡ 0 → Counts n (stamps_in xs) → Counts n (stamps_in (xs ++ ys))

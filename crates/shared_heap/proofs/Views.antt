@@ -84,7 +84,7 @@ starts_on x y z f g = (f.0 ++ g.0, g.1 ∙ ap (λ o. o ++ g.0) f.1 ∙ append_as
 pub moments_of : List HistoryItem → List Moment
 moments_of [] = []
 moments_of (Started ∷ xs) = moments.Began ∷ moments_of xs
-moments_of (Did e ∷ xs) = moments.Ended e ∷ moments_of xs
+moments_of (Did e ∷ xs) = moments.TookEffect e ∷ moments_of xs
 
 pub history_is : (xs : List HistoryItem) → history_of (moments_of xs) ≡ xs
 unfolding moments_of

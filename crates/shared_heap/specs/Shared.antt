@@ -33,7 +33,7 @@ history_of [] = []
 history_of (moments.Began ∷ ms) = Started ∷ history_of ms
 history_of (moments.Invoked t k ∷ ms) = history_of ms
 history_of (moments.Stamped ∷ ms) = history_of ms
-history_of (moments.Ended e ∷ ms) = Did e ∷ history_of ms
+history_of (moments.TookEffect e ∷ ms) = Did e ∷ history_of ms
 
 -- the commands of thread t that were invoked, in the order of the timeline
 abbrev pub invoked_in : ℕ → List Moment → List Command
@@ -42,7 +42,7 @@ invoked_in t (moments.Began ∷ ms) = invoked_in t ms
 invoked_in t (moments.Invoked u k ∷ ms) =
     if u == t then k ∷ invoked_in t ms else invoked_in t ms
 invoked_in t (moments.Stamped ∷ ms) = invoked_in t ms
-invoked_in t (moments.Ended e ∷ ms) = invoked_in t ms
+invoked_in t (moments.TookEffect e ∷ ms) = invoked_in t ms
 
 -- how many stamps were drawn
 abbrev pub stamps_in : List Moment → ℕ
@@ -50,7 +50,7 @@ stamps_in [] = 0
 stamps_in (moments.Began ∷ ms) = stamps_in ms
 stamps_in (moments.Invoked u k ∷ ms) = stamps_in ms
 stamps_in (moments.Stamped ∷ ms) = stamps_in ms + 1
-stamps_in (moments.Ended e ∷ ms) = stamps_in ms
+stamps_in (moments.TookEffect e ∷ ms) = stamps_in ms
 
 -- The number is this count, unless that exceeds a word.
 abbrev pub Counts : ℕ → ℕ → Type 0
@@ -121,7 +121,7 @@ pub record SharedKept (k : Whole) (s : table.State Command View) : Type 0 where
   pub words : s.words ≡ run.state.words ++ drawn ∷ []
   pub timeline : List Moment
   pub counts : Counts drawn (stamps_in timeline)
-  pub lined : IsTimelineOf k.config run timeline
+  pub timeline_of : IsTimelineOf k.config run timeline
   pub each : (id : ℕ) (v : View) → get_elem? s.views id ≡ some v
       → AllFit k.config run v.threads × AllNotedIn timeline v.notes
       × AllTimed k.config run (length by.after.turns) v.threads × AllSeenIn timeline v.threads
@@ -202,7 +202,7 @@ pub record IsOfRun (c : Config) (p : Past) (l : LocalState) : Type 0 where
   pub after : IsAfterTurns c run
   pub there : l.thread < c.threads
   pub local : l ≡ local_in c run l.thread
-  pub lined : IsTimelineOf c run p.seen
+  pub timeline_of : IsTimelineOf c run p.seen
   pub counted : p.span.last ≡ length after.turns
 
 abbrev pub AllOfRuns : List Held → Type 0

@@ -183,7 +183,7 @@ pub record HasPart (timeline : List Moment) (order : List HistoryItem) (t : ℕ)
   pub told : told w ≡ part t order
   pub asked : map (λ (e : Entry). e.command) (part t order) ≡ asked w
   pub invoked : invoked_in t timeline ≡ w.thread.trace
-  pub lined : IsStartOf w.timeline timeline
+  pub on_timeline : IsStartOf w.timeline timeline
   pub seen : IsStartOf w.seen order
 
 -- The history is the order of a run of the machine, each turn of which was an event. At its end

@@ -17,7 +17,7 @@ pub enum Moment {
     /// A worker drew a stamp.
     Stamped,
     /// A command took effect, with this entry.
-    Ended(Entry),
+    TookEffect(Entry),
 }
 
 /// The turns of a thread's last command. It is used in proofs only.
