@@ -169,6 +169,10 @@ HasSeenAll w = workers.HasSeenAll handles w
 abbrev pub HasDone : HandleWorkerState → Deed → Answer → HandleWorkerState → Type 0
 HasDone old op a new = workers.HasDone handles old op a new
 
+-- the worker drew a stamp with this number, and executed nothing
+abbrev pub HasDrawn : HandleWorkerState → ℕ → HandleWorkerState → Type 0
+HasDrawn old n new = workers.HasDrawn old n new
+
 -- the same worker of the same slots
 abbrev pub IsSameWorker : HandleWorkerState → HandleWorkerState → Type 0
 IsSameWorker old new = workers.IsSameWorker old new

@@ -8,7 +8,7 @@ ghost use Rattle.heap_system.specs.Systems.{Whole};
 ghost use Rattle.shared_heap.specs.declared.rules.View.{View};
 ghost use Rattle.shared_heap.specs.Shared.{SharedKept};
 ghost use Rattle.handle_table.specs.Handles.{Deed};
-ghost use Rattle.live_rows.specs.Orders.{OperationsAreInOrder, OperationsComeAfter, StandBehindWhatWasSeen};
+ghost use Rattle.live_rows.specs.Orders.{OperationsAreInOrder, OperationsComeAfter, OperationsComeAfterStamps, StandBehindWhatWasSeen};
 ghost use Rattle.live_rows.specs.SoFar.{WorkAllAlong};
 ghost use Rattle.live_handles.specs.Live.{IsHandleHeap, handles};
 ghost use Rattle.live_handles.specs.SoFar.{AllSeats, Execute, FitsOneTable, IsBetween, IsWorking};
@@ -28,6 +28,13 @@ pub fn deeds_stand_behind_what_was_seen()
 pub fn deeds_keep_real_time()
     ensures after { OperationsComeAfter handles }
     ensures either { OperationsAreInOrder handles }
+{}
+
+/// In the order of closed slots, a deed that began after a worker's stamp, such as each later one of
+/// that worker, comes after all deeds that another had done at a stamp that is no greater. Or
+/// 2^64 stamps were drawn (`shared_heap::stamps_are_in_order`).
+pub fn deeds_come_after_stamps()
+    ensures { OperationsComeAfterStamps handles }
 {}
 
 /// Suppose that the rule of the heap's table holds, as it does between any two steps of any

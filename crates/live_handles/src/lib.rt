@@ -11,7 +11,8 @@ mod worker;
 
 pub use faults::{OpenFault, Refused};
 pub use laws::{
-    deeds_keep_real_time, deeds_stand_behind_what_was_seen, what_was_answered_is_the_slots,
+    deeds_come_after_stamps, deeds_keep_real_time, deeds_stand_behind_what_was_seen,
+    what_was_answered_is_the_slots,
 };
 pub use note::HandleNote;
 pub use slots::LiveHandles;

@@ -154,6 +154,10 @@ HasSeenAll w = workers.HasSeenAll rings w
 abbrev pub HasDone : RingWorkerState → Operation → Cell → RingWorkerState → Type 0
 HasDone old op a new = workers.HasDone rings old op a new
 
+-- the worker drew a stamp with this number, and executed nothing
+abbrev pub HasDrawn : RingWorkerState → ℕ → RingWorkerState → Type 0
+HasDrawn old n new = workers.HasDrawn old n new
+
 -- the same worker of the same rings
 abbrev pub IsSameWorker : RingWorkerState → RingWorkerState → Type 0
 IsSameWorker old new = workers.IsSameWorker old new

@@ -8,7 +8,7 @@ ghost use Rattle.heap_system.specs.Systems.{Whole};
 ghost use Rattle.shared_heap.specs.declared.rules.View.{View};
 ghost use Rattle.shared_heap.specs.Shared.{SharedKept};
 ghost use Rattle.number_rings.specs.Rings.{Operation};
-ghost use Rattle.live_rows.specs.Orders.{OperationsAreInOrder, OperationsComeAfter, StandBehindWhatWasSeen};
+ghost use Rattle.live_rows.specs.Orders.{OperationsAreInOrder, OperationsComeAfter, OperationsComeAfterStamps, StandBehindWhatWasSeen};
 ghost use Rattle.live_rows.specs.SoFar.{WorkAllAlong};
 ghost use Rattle.live_rings.specs.Live.{IsRingHeap, rings};
 ghost use Rattle.live_rings.specs.SoFar.{AllSeats, Execute, FitsOneArray, IsBetween, IsWorking};
@@ -28,6 +28,13 @@ pub fn operations_stand_behind_what_was_seen()
 pub fn operations_keep_real_time()
     ensures after { OperationsComeAfter rings }
     ensures either { OperationsAreInOrder rings }
+{}
+
+/// In the order of closed rings, an operation that began after a worker's stamp, such as each later one of
+/// that worker, comes after all operations that another had done at a stamp that is no greater. Or
+/// 2^64 stamps were drawn (`shared_heap::stamps_are_in_order`).
+pub fn operations_come_after_stamps()
+    ensures { OperationsComeAfterStamps rings }
 {}
 
 /// Suppose that the rule of the heap's table holds, as it does between any two steps of any
