@@ -30,8 +30,8 @@ pub fn deeds_keep_real_time()
     ensures either { OperationsAreInOrder handles }
 {}
 
-/// In the order of closed slots, a deed that began after a worker's stamp, such as each later one of
-/// that worker, comes after all deeds that another had done at a stamp that is no greater. Or
+/// In the order of closed slots, a deed that began after a worker's stamp, such as each later one
+/// of that worker, comes after all deeds that another had done at a stamp that is no greater. Or
 /// 2^64 stamps were drawn (`shared_heap::stamps_are_in_order`).
 pub fn deeds_come_after_stamps()
     ensures { OperationsComeAfterStamps handles }

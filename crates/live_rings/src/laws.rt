@@ -20,9 +20,9 @@ pub fn operations_stand_behind_what_was_seen()
     ensures { StandBehindWhatWasSeen rings }
 {}
 
-/// Real-time order, of operations of closed rings. One that began after all that some worker had seen
-/// comes, in the order, after all that that worker had done (`after`). Of two, either the second
-/// began after all that the worker of the first had seen when the first returned, or the
+/// Real-time order, of operations of closed rings. One that began after all that some worker had
+/// seen comes, in the order, after all that that worker had done (`after`). Of two, either the
+/// second began after all that the worker of the first had seen when the first returned, or the
 /// invocation of its first command is in what that worker had seen then, so that it began before
 /// the first returned (`either`).
 pub fn operations_keep_real_time()
@@ -30,9 +30,9 @@ pub fn operations_keep_real_time()
     ensures either { OperationsAreInOrder rings }
 {}
 
-/// In the order of closed rings, an operation that began after a worker's stamp, such as each later one of
-/// that worker, comes after all operations that another had done at a stamp that is no greater. Or
-/// 2^64 stamps were drawn (`shared_heap::stamps_are_in_order`).
+/// In the order of closed rings, an operation that began after a worker's stamp, such as each later
+/// one of that worker, comes after all operations that another had done at a stamp that is no
+/// greater. Or 2^64 stamps were drawn (`shared_heap::stamps_are_in_order`).
 pub fn operations_come_after_stamps()
     ensures { OperationsComeAfterStamps rings }
 {}
@@ -58,8 +58,9 @@ pub fn what_was_answered_is_the_arrays()
         → FitsOneArray k.config s scripts kept.run.order }
 {}
 
-/// At each moment of an operation its worker's thread is in the middle of it, or between two of them:
-/// before the first command, after each event that the worker's code makes, and after the last.
+/// At each moment of an operation its worker's thread is in the middle of it, or between two of
+/// them: before the first command, after each event that the worker's code makes, and after the
+/// last.
 pub fn workers_are_at_work_all_along()
     ensures { WorkAllAlong rings }
 {}

@@ -1,4 +1,4 @@
--- The operations that are complete at a moment come before those that begin after it.
+-- The operations that are complete in a prefix of the timeline come before those that begin after it.
 use Rattle.std.proofs.Common.{◌≡◌, ℕ, zero, suc, ◌-◌, ◌≤◌, Option, Some, None, List, [], ◌∷◌, ◌++◌, length, map, take, drop, slice_index_or, sym, refl, ap, ◌∙◌, arith}
 use Rattle.std.specs.Prelude.{flat_map}
 use Rattle.std.proofs.lemmas.List.{append-nil, length-map, take-append-drop}

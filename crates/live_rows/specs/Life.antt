@@ -46,11 +46,11 @@ pub record HasRun (old : WorkerState) (ks : List Command) (p : Reply × Reply ×
   pub commands : map (λ (e : Entry). e.command) entries ≡ ks
   pub last : p ≡ last_three replies.Null replies.Null replies.Null (map (λ (e : Entry). e.reply) entries)
 
--- What the worker had seen before these commands, and each note that it had learned, is a prefix
--- of a history `start`, in which it did nothing more. That is a prefix of what it has seen now. The
--- timeline that it has seen now has the invocation of the first command directly after `past`, whose
--- history is `start`. The timeline that it had seen is a prefix of `past`, which has the invocations
--- of the worker's earlier commands and no others of it.
+-- What the worker had seen before these commands, and each note that it had learned, is a prefix of
+-- a history `start`, in which it did nothing more. That is a prefix of what it has seen now. The
+-- timeline that it has seen now has the invocation of the first command directly after `past`,
+-- whose history is `start`. The timeline that it had seen is a prefix of `past`, which has the
+-- invocations of the worker's earlier commands and no others of it.
 pub record HasBegun (old new : WorkerState) : Type 0 where
   pub start : List HistoryItem
   pub before : IsStartOf old.seen start

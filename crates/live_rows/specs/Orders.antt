@@ -32,9 +32,8 @@ pub record HasScript {Op Answer : Type 0} (scripts : List (List Op)) (timeline :
 -- was answered full. Each worker did the operations of one script, in its order. Its answers are
 -- those of a plain table in the order of the linearization. The number of cycles is that of the
 -- history, whose units of work are within the bounds of so many cycles, and which is that of a run
--- of the machine. It is the history of a timeline that has the invocations of all commands, each
--- before its entry and after all that its worker had seen, and the order keeps the real-time order
--- of that timeline.
+-- of the machine. It is the history of a well-formed timeline that has the invocations of all
+-- commands, and the order keeps the real-time order of that timeline.
 pub record HaveOneOrder {Op Row Answer S : Type 0} (a : Rows Op Row Answer S) (c : Config)
     (ws : List (RowWorkerState Op Answer)) (cycles : ℕ) : Type 0 where
   pub scripts : List (List Op)

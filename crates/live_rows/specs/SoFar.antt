@@ -104,11 +104,11 @@ module _ {Op Row Answer S : Type 0} (a : Rows Op Row Answer S) where
       ((w : WorkerState) → w.thread ≡ h.local → IsRowWorker a w → HasCalls order (row_worker a w))
       × AllHaveCalls order hs
 
-  -- The history is a run of the first commands of the scripts, with no allocation answered full. Its
-  -- operations so far have one order, in which each was answered as by a plain table. The calls of
-  -- each worker between two operations are those that it did, with the answers that it got. It is the
-  -- history of a timeline, of which what the threads have seen, and every note, is a prefix. The
-  -- timeline has the invocations of all commands, each before its entry, and the order keeps its
+  -- The history is a run of the first commands of the scripts, with no allocation answered full.
+  -- Its operations so far have one order, in which each was answered as by a plain table. The calls
+  -- of each worker between two operations are those that it did, with the answers that it got. It
+  -- is the history of a well-formed timeline, of which what the threads have seen, and every note,
+  -- is a prefix. The timeline has the invocations of all commands, and the order keeps its
   -- real-time order.
   pub record FitsOneOrder (c : Config) (s : table.State Command View) (scripts : List (List Op))
       (history : List HistoryItem) : Type 0 where

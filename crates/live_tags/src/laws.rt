@@ -28,9 +28,9 @@ pub fn operations_stand_behind_what_was_seen()
         → StandsBehind is.order (thread_of a) a.done (thread_of old) old.done }
 {}
 
-/// Real-time order, of operations of a closed table. One that began after all that some worker had seen
-/// comes, in the order, after all that that worker had done (`after`). Of two, either the second
-/// began after all that the worker of the first had seen when the first returned, or the
+/// Real-time order, of operations of a closed table. One that began after all that some worker had
+/// seen comes, in the order, after all that that worker had done (`after`). Of two, either the
+/// second began after all that the worker of the first had seen when the first returned, or the
 /// invocation of its first command is in what that worker had seen then, so that it began before
 /// the first returned (`either`).
 pub fn operations_keep_real_time()
@@ -66,8 +66,9 @@ pub fn what_was_answered_is_a_tables()
         → FitsOneTable k.config s scripts kept.run.order }
 {}
 
-/// At each moment of an operation its worker's thread is in the middle of it, or between two of them:
-/// before the first command, after each event that the worker's code makes, and after the last.
+/// At each moment of an operation its worker's thread is in the middle of it, or between two of
+/// them: before the first command, after each event that the worker's code makes, and after the
+/// last.
 pub fn workers_are_at_work_all_along()
     ensures { WorkAllAlong tags }
 {}

@@ -56,6 +56,7 @@ module _ (me : table.Me Command View) (id : TableId) (l : LocalState) (n o : ℕ
     heap = same;
     thread = refl;
     notes = refl;
+    events = refl;
     past = draws.now;
     timeline = refl;
     before = seen_then;

@@ -5,8 +5,8 @@ use Rattle.never_heap.specs.Histories.{HistoryItem, Did, part}
 use Rattle.shared_heap.specs.Shared.{IsStartOf}
 
 -- History h has the entry after a prefix, in which its thread has the entries `log` and no others:
--- so it is the thread's next entry, and not an equal one later. That prefix begins with all items of
--- the first history.
+-- so it is the thread's next entry, and not an equal one later. That prefix begins with all items
+-- of the first history.
 pub record StandsBehind (first : List HistoryItem) (log : List Entry) (e : Entry)
     (h : List HistoryItem) : Type 0 where
   pub before : List HistoryItem

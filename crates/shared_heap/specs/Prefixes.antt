@@ -22,8 +22,8 @@ use Rattle.shared_heap.specs.Shared.{AllNotedIn, AllSeenIn, IsWellFormed, histor
 
 -- The part of a thread in a history is its log, and at most one entry more, which it has not yet
 -- logged; none if it is done. The entries of the log are those of its first commands, and the entry
--- more is of the command in hand, the next one of the trace. The timeline has the invocations of its
--- trace.
+-- more is of the command in hand, the next one of the trace. The timeline has the invocations of
+-- its trace.
 pub record HasPartOf (timeline : List Moment) (order : List HistoryItem) (l : LocalState) : Type 0
   where
     pub more : List Entry
@@ -41,8 +41,8 @@ AllHaveParts timeline order (h ∷ hs) =
 
 -- There is one history in which the threads of all seats have their parts, and there are no other
 -- entries: each thread of the heap is in exactly one seat, and no other thread has an entry. It is
--- the history of a timeline, of which what they have seen, and every note, is a prefix. The timeline
--- has the invocations of all commands, each before its entry, and it keeps real-time order.
+-- the history of a well-formed timeline, of which what they have seen, and every note, is a prefix.
+-- The timeline has the invocations of all commands, and the history keeps real-time order.
 pub record FitsOneHistory (c : Config) (s : table.State Command View) : Type 0 where
   pub timeline : List Moment
   pub order : List HistoryItem

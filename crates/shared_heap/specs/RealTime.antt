@@ -19,15 +19,15 @@ pub record ComeBefore (order : List HistoryItem) (t n u m : ℕ) : Type 0 where
   pub many : n ≤ length (part t first)
   pub few : length (part u first) ≤ m
 
--- Take any moment of the timeline. The entries that stand before it come, in the order, before the
--- entries of all commands that are invoked after it.
+-- Take any prefix of the timeline. Its entries come, in the order, before the entries of all
+-- commands that are invoked after it.
 abbrev pub KeepsRealTime : List Moment → List HistoryItem → Type 0
 KeepsRealTime timeline order =
     (p : List Moment) → IsStartOf p timeline → (t n u m : ℕ)
     → n ≤ length (part t (history_of p)) → length (invoked_in u p) ≤ m
     → ComeBefore order t n u m
 
--- ---- two moments of a table
+-- ---- two states of a table
 
 -- in this state of the table, this is what the seat of a worker knows
 abbrev pub HasSeat : table.State Command View → Held → Type 0

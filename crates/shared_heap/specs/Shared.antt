@@ -56,7 +56,7 @@ stamps_in (moments.TookEffect e ∷ ms) = stamps_in ms
 abbrev pub Counts : ℕ → ℕ → Type 0
 Counts n count = (n ≡ count) ⊎ (2 ^ 64 ≤ count)
 
--- the first list is a prefix of the second
+-- The first list is a prefix of the second.
 abbrev pub IsStartOf : {A : Type 0} → List A → List A → Type 0
 IsStartOf {A} start whole = (more : List A) × (whole ≡ start ++ more)
 
@@ -110,10 +110,10 @@ abbrev pub AllTimed : Config → Run → ℕ → List Held → Type 0
 AllTimed c r turns [] = Unit {0}
 AllTimed c r turns (h ∷ hs) = IsTimed c r turns h × AllTimed c r turns hs
 
--- There is a run of some job, each turn of which was an event. Its words are those of the table,
--- followed by one that counts the stamps. Each of its threads is in exactly one view, with all of its commands and entries so far. It has a
--- timeline, of which what each thread has seen, and each note, is a prefix. The seats count its
--- turns.
+-- There is a run of some job, each turn of which was an event. The words of the table are its
+-- words, followed by one that counts the stamps. Each of its threads is in exactly one view, with
+-- all of its commands and entries so far. It has a timeline, of which what each thread has seen,
+-- and each note, is a prefix. The seats count its turns.
 pub record SharedKept (k : Whole) (s : table.State Command View) : Type 0 where
   pub run : Run
   pub by : IsByEvents k.config run
@@ -303,9 +303,9 @@ abbrev pub drawn_of : List Moment → ℕ → table.Me Command View → table.Me
 drawn_of now turns me =
     (record { threads = map (drawn_by now turns) me.0.threads; notes = me.0.notes }, me.1)
 
--- What a step ensures that draws a stamp: the number found counts the stamps of a timeline `now`, to
--- which one is appended. The seat knows that timeline and the turns of a run of which it is a thread.
--- What it had seen before is a prefix of `now`.
+-- What a step ensures that draws a stamp: the number found counts the stamps of a timeline `now`,
+-- to which one is appended. The seat knows that timeline and the turns of a run of which it is a
+-- thread. What it had seen before is a prefix of `now`.
 pub record Draws (found : ℕ) (me after : table.Me Command View) : Type 0 where
   pub now : List Moment
   pub turns : ℕ

@@ -121,8 +121,7 @@ AllStart (n ∷ ns) order = IsStartOf n order × AllStart ns order
 
 -- What a worker has seen is a history of the heap that never frees, with licensed fulls and the
 -- work that is owed. The worker's part of it is its entries, and these are of its commands. It is
--- the history of a timeline, which has the invocations of the worker's commands, and in which each
--- entry comes after the invocation of its command.
+-- the history of a well-formed timeline, which has the invocations of the worker's commands.
 pub record HasSeenIts (w : WorkerState) : Type 0 where
   pub legal : Legal w.thread.config w.seen
   pub licensed : Licensed w.thread.config w.seen
@@ -138,8 +137,8 @@ pub record HasSeenIts (w : WorkerState) : Type 0 where
 -- commands, and an entry to its entries. What it had seen, and each note that it had learned, is a
 -- prefix of a history `start`. What it has seen now is `start` followed by items, among which the
 -- entry is the only one of this worker. In the timeline that it has seen, the command's invocation
--- stands right behind `past`, whose history is `start` and of which the timeline that it had seen is
--- a prefix.
+-- comes directly after `past`, whose history is `start` and of which the timeline that it had seen
+-- is a prefix.
 pub record HasAnswered (old : WorkerState) (k : Command) (a : Reply) (new : WorkerState) : Type 0
   where
     pub asked : new.thread.trace ≡ old.thread.trace ++ k ∷ []
@@ -202,10 +201,9 @@ pub record IsOfMachine (c : Config) (ws : List WorkerState) (order : List Histor
 -- within the limit. Each entry has the work that its command owes. The entries of each thread are,
 -- in order, those of its worker, and there are no other entries. The number of cycles is that of
 -- its starts. On m blocks, all entries of C cycles together have at least (C - 1) m units of work
--- and at most 2 m C. The history is that of a run of the machine, and of a timeline that has the
--- invocations of all commands, each before its entry and after all that its worker had seen. It
--- keeps real-time order: what stands in the timeline before the invocation of a command comes in
--- the history before the command's entry.
+-- and at most 2 m C. The history is that of a run of the machine, and of a well-formed timeline
+-- that has the invocations of all commands. It keeps real-time order: what the timeline has before
+-- the invocation of a command comes in the history before the command's entry.
 pub record HaveOneHistory (c : Config) (ws : List WorkerState) (cycles : ℕ) : Type 0 where
   pub timeline : List Moment
   pub order : List HistoryItem
@@ -230,16 +228,18 @@ abbrev pub AreSome : HeapState → List WorkerState → Type 0
 AreSome h ws = (0 < length ws)
     × ((i : ℕ) (d : WorkerState) → i < length ws → (slice_index_or ws i d).heap ≡ h.id)
 
--- The commands of thread t that have an entry are the first that it was given.
+-- The commands of thread t that have an entry are the first that the timeline has invocations of.
 abbrev pub HasFirst : List Moment → List HistoryItem → ℕ → Type 0
 HasFirst timeline order t = (rest : List Command)
     × (invoked_in t timeline ≡ map (λ (e : Entry). e.command) (part t order) ++ rest)
 
--- There is one history of the heap, as of one that is closed with all of its workers. The entries of
--- each of these workers are, in order, its thread's part. Those of any other thread are of the first
--- commands that it was given, and no thread beyond those of the heap has an entry. The history is
--- that of a run of the machine, each turn of which was an event, and of which these workers have
--- their threads. It keeps real-time order.
+-- There is one history of the heap, as of one that is closed with all of its workers, but without
+-- the bounds of the work. The entries of each of these workers are, in order, its thread's part.
+-- Those of any other thread are of the first commands that the timeline has invocations of, and no
+-- thread beyond those of the heap has an entry. Nothing ties these to the replies that a lost
+-- worker had, but what the other workers saw of them. The history is that of a run of the machine,
+-- each turn of which was an event, and of which these workers have their threads. It keeps
+-- real-time order.
 pub record HaveHistoryOfSome (c : Config) (ws : List WorkerState) (cycles : ℕ) : Type 0 where
   pub timeline : List Moment
   pub order : List HistoryItem
@@ -334,8 +334,8 @@ pub record KnowsAll (me : table.Me Command View) (ws : List WorkerState) : Type 
   pub knows : me ≡ (record { threads = threads; notes = notes }, [])
   pub all : AreOfWorkers ws threads
 
--- The last state of a table, in which its rule holds. A seat knows the threads of these workers, and
--- the phase word has this cycle.
+-- The last state of a table, in which its rule holds. A seat knows the threads of these workers,
+-- and the phase word has this cycle.
 pub record WasClosedWith (c : Config) (ws : List WorkerState) (cycles : ℕ) : Type 0 where
   pub whole : Whole
   pub last : table.State Command View

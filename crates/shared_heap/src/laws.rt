@@ -33,8 +33,9 @@ pub fn what_was_answered_fits_one_history()
 {}
 
 /// Real-time order, of two states of one table, in which the rule holds: what a worker had seen in
-/// the first comes before the entries of all commands that were invoked after it. So an operation
-/// that has returned comes before each operation that begins later.
+/// the first comes before the entries of all commands that were invoked after it. A command that
+/// has returned is in what its worker has seen (`HasAnswered`). So it comes before each command
+/// that is invoked later.
 ///
 /// A seat's step appends to what its worker has seen, and no other step changes that. So a worker
 /// that has seen `p` in the first state has seen it in each later one.
@@ -64,9 +65,12 @@ pub fn commands_keep_real_time()
 
 /// Of two stamps of one heap, the worker of the one that is no less had seen all that the other had
 /// seen when it drew its own: the timeline that the first had seen is a prefix of what the second
-/// had. So the commands that the second worker executed from then on come behind all of that
-/// (`commands_keep_real_time`, `after`). Or 2^64 stamps were drawn. The timeline is that of the
-/// heap, as `close` has it.
+/// had. So the commands that the second worker executed from then on come after all of that
+/// (`commands_keep_real_time`, `after`). The timeline is that of the heap, as `close` and
+/// `close_some` have it.
+///
+/// Or 2^64 stamps were drawn, so that the numbers began again. No clause bounds how many are drawn,
+/// so a program can't exclude this case; at one each nanosecond it takes 584 years.
 pub fn stamps_are_in_order()
     ensures { (timeline : List Moment) (u v x y : WorkerState) (n m : ℕ) → HasDrawn u n v
         → HasDrawn x m y → n ≤ m → IsStartOf v.timeline timeline → IsStartOf y.timeline timeline
