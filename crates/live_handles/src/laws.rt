@@ -9,7 +9,7 @@ ghost use Rattle.shared_heap.specs.declared.rules.View.{View};
 ghost use Rattle.shared_heap.specs.Shared.{SharedKept};
 ghost use Rattle.handle_table.specs.Handles.{Deed};
 ghost use Rattle.live_rows.specs.Orders.{OperationsAreInOrder, OperationsComeAfter, OperationsComeAfterStamps, StandBehindWhatWasSeen};
-ghost use Rattle.live_rows.specs.SoFar.{WorkAllAlong};
+ghost use Rattle.live_rows.specs.SoFar.{SeenComesBeforeLater, WorkAllAlong};
 ghost use Rattle.live_handles.specs.Live.{IsHandleHeap, handles};
 ghost use Rattle.live_handles.specs.SoFar.{AllSeats, Execute, FitsOneTable, IsBetween, IsWorking};
 
@@ -56,6 +56,16 @@ pub fn what_was_answered_is_the_slots()
     ensures meanwhile { (k : Whole) (s : table.State Command View) (kept : SharedKept k s)
         → IsHandleHeap k.config → (scripts : List (List Deed)) → Execute k.config s scripts
         → FitsOneTable k.config s scripts kept.run.order }
+{}
+
+/// Real-time order, of two states of one table, in the first of which its rule holds. The
+/// deeds that are complete in what a worker had seen in the first come, in the order that the
+/// second has, before all that any thread began later.
+///
+/// What a worker has seen in the first state it has seen in each later one, since only its own
+/// steps change that, and they append to it.
+pub fn deeds_seen_come_before_later_ones()
+    ensures { SeenComesBeforeLater handles }
 {}
 
 /// At each moment of a deed its worker's thread is in the middle of it, or between two of them:

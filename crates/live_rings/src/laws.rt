@@ -9,7 +9,7 @@ ghost use Rattle.shared_heap.specs.declared.rules.View.{View};
 ghost use Rattle.shared_heap.specs.Shared.{SharedKept};
 ghost use Rattle.number_rings.specs.Rings.{Operation};
 ghost use Rattle.live_rows.specs.Orders.{OperationsAreInOrder, OperationsComeAfter, OperationsComeAfterStamps, StandBehindWhatWasSeen};
-ghost use Rattle.live_rows.specs.SoFar.{WorkAllAlong};
+ghost use Rattle.live_rows.specs.SoFar.{SeenComesBeforeLater, WorkAllAlong};
 ghost use Rattle.live_rings.specs.Live.{IsRingHeap, rings};
 ghost use Rattle.live_rings.specs.SoFar.{AllSeats, Execute, FitsOneArray, IsBetween, IsWorking};
 
@@ -56,6 +56,16 @@ pub fn what_was_answered_is_the_arrays()
     ensures meanwhile { (k : Whole) (s : table.State Command View) (kept : SharedKept k s)
         → IsRingHeap k.config → (scripts : List (List Operation)) → Execute k.config s scripts
         → FitsOneArray k.config s scripts kept.run.order }
+{}
+
+/// Real-time order, of two states of one table, in the first of which its rule holds. The
+/// operations that are complete in what a worker had seen in the first come, in the order that the
+/// second has, before all that any thread began later.
+///
+/// What a worker has seen in the first state it has seen in each later one, since only its own
+/// steps change that, and they append to it.
+pub fn operations_seen_come_before_later_ones()
+    ensures { SeenComesBeforeLater rings }
 {}
 
 /// At each moment of an operation its worker's thread is in the middle of it, or between two of

@@ -11,7 +11,7 @@ ghost use Rattle.shared_heap.specs.Shared.{IsStartOf, SharedKept};
 ghost use Rattle.tag_table.specs.declared.operation.Operation.{Operation};
 ghost use Rattle.tag_table.specs.Tables.{Tag};
 ghost use Rattle.live_rows.specs.Orders.{OperationsAreInOrder, OperationsComeAfter, OperationsComeAfterStamps};
-ghost use Rattle.live_rows.specs.SoFar.{WorkAllAlong};
+ghost use Rattle.live_rows.specs.SoFar.{SeenComesBeforeLater, WorkAllAlong};
 ghost use Rattle.live_tags.specs.Behind.{StandsBehind};
 ghost use Rattle.live_tags.specs.Live.{HasDone, HasSeenAll, HaveOneTable, IsTagHeap, TagWorkerState, tags, thread_of};
 ghost use Rattle.live_tags.specs.SoFar.{AllSeats, Execute, FitsOneTable, IsBetween, IsWorking};
@@ -64,6 +64,16 @@ pub fn what_was_answered_is_a_tables()
     ensures meanwhile { (k : Whole) (s : table.State Command View) (kept : SharedKept k s)
         → IsTagHeap k.config → (scripts : List (List Operation)) → Execute k.config s scripts
         → FitsOneTable k.config s scripts kept.run.order }
+{}
+
+/// Real-time order, of two states of one table, in the first of which its rule holds. The
+/// operations that are complete in what a worker had seen in the first come, in the order that the
+/// second has, before all that any thread began later.
+///
+/// What a worker has seen in the first state it has seen in each later one, since only its own
+/// steps change that, and they append to it.
+pub fn operations_seen_come_before_later_ones()
+    ensures { SeenComesBeforeLater tags }
 {}
 
 /// At each moment of an operation its worker's thread is in the middle of it, or between two of

@@ -23,13 +23,13 @@ use Rattle.shared_heap.proofs.Timelines.{before_or_after, history_start, invoked
 use Rattle.shared_heap.proofs.Views.{starts_on}
 
 -- what a seat has seen is a prefix of the timeline
-line_of : (k : Whole) (s : table.State Command View) (kept : SharedKept k s) (p : List Moment) → WasSeen s p → IsStartOf p kept.timeline
+pub line_of : (k : Whole) (s : table.State Command View) (kept : SharedKept k s) (p : List Moment) → WasSeen s p → IsStartOf p kept.timeline
 line_of k s kept p was =
     let seat = was.seat in
     starts_on p was.worker.past.seen kept.timeline was.seen (kept.each seat.0 _ seat.2).3.0
 
 -- a thread's commands are those that the timeline has invocations of
-has_invoked : (k : Whole) (s : table.State Command View) (kept : SharedKept k s) (h : Held) → HasSeat s h → invoked_in h.local.thread kept.timeline ≡ h.local.trace
+pub has_invoked : (k : Whole) (s : table.State Command View) (kept : SharedKept k s) (h : Held) → HasSeat s h → invoked_in h.local.thread kept.timeline ≡ h.local.trace
 has_invoked k s kept h seat =
     let f : Fits k.config kept.run h = (kept.each seat.0 _ seat.2).0.0 in
     let is : h.local ≡ local_in k.config kept.run h.local.thread = here k.config h.local.thread f.0 kept.run kept.by.after h.local f.1 in
