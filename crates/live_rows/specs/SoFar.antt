@@ -16,7 +16,7 @@ use Rattle.operations.specs.SoFar.{IsRunSoFar, IsLinearizationSoFar}
 use Rattle.shared_heap.specs.declared.rules.Held.{Held}
 use Rattle.shared_heap.specs.declared.rules.View.{View}
 use Rattle.shared_heap.specs.declared.rules.Moment.{Moment}
-use Rattle.shared_heap.specs.RealTime.{HasSeat, WasSeen}
+use Rattle.shared_heap.specs.RealTime.{IsSeatOf, HadSeen}
 use Rattle.shared_heap.specs.Shared.{AllSeenIn, AllNotedIn, IsWellFormed, SharedKept, history_of, invoked_in}
 use Rattle.shared_heap.specs.Turns.{MadeTurns}
 use Rattle.shared_heap.specs.Workers.{WorkerState}
@@ -136,7 +136,7 @@ module _ {Op Row Answer S : Type 0} (a : Rows Op Row Answer S) where
   abbrev pub SeenComesBeforeLater : Type 0
   SeenComesBeforeLater =
       (k : Whole) (s later : table.State Command View) (now : SharedKept k s) (p : List Moment)
-      → WasSeen s p → WasSeen later p → (h : Held) → HasSeat s h
+      → HadSeen s p → HadSeen later p → (h : Held) → IsSeatOf s h
       → (scripts : List (List Op)) (history : List HistoryItem)
       (fits : FitsOneOrder k.config later scripts history) (t n m : ℕ)
       → AreComplete a scripts p t n

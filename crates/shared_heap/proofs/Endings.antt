@@ -147,7 +147,7 @@ module _ (k : Whole) (s : table.State Command View) (kept : SharedKept k s) (id 
         parts = λ t tl. (t, omega (arith, tl, count), λ d. its_part t tl d);
         others = all.foreign;
         ordered = kept.timeline_of.ordered;
-        uninvoked = kept.timeline_of.others;
+        no_others = kept.timeline_of.others;
         formed = kept.timeline_of.formed;
         real_time = keeps_real_time kept.timeline r.order kept.timeline_of.ordered kept.timeline_of.formed;
         starts = started;

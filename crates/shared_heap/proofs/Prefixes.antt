@@ -92,7 +92,7 @@ module _ (k : Whole) (s : table.State Command View) (kept : SharedKept k s) wher
     once = kept.once;
     others = all.foreign;
     ordered = kept.timeline_of.ordered;
-    uninvoked = kept.timeline_of.others;
+    no_others = kept.timeline_of.others;
     formed = kept.timeline_of.formed;
     real_time = keeps_real_time kept.timeline r.order kept.timeline_of.ordered kept.timeline_of.formed;
   }

@@ -18,7 +18,7 @@ use Rattle.shared_heap.specs.declared.rules.Moment.{Moment}
 use Rattle.shared_heap.specs.declared.rules.Moment.TheVariants as moments
 use Rattle.shared_heap.specs.RealTime.{KeepsRealTime}
 use Rattle.shared_heap.specs.Workers.{AllStart}
-use Rattle.shared_heap.specs.Shared.{AllNotedIn, Counts, IsWellFormed, IsStartOf, IsTimelineOf, history_of, invoked_in, stamps_in}
+use Rattle.shared_heap.specs.Shared.{AllNotedIn, IsCountUnlessWrapped, IsWellFormed, IsStartOf, IsTimelineOf, history_of, invoked_in, stamps_in}
 use Rattle.shared_heap.proofs.FirstCommands.{as_many_commands}
 use Rattle.shared_heap.proofs.Rests.{told_at_rest}
 use Rattle.shared_heap.proofs.Views.{history_is, moments_of, none_invoked, starts_itself}
@@ -51,8 +51,8 @@ stamps_append (moments.Stamped ∷ xs) ys = omega (arith, stamps_append xs ys)
 stamps_append (moments.TookEffect e ∷ xs) ys = stamps_append xs ys
 
 -- the same count of stamps
-pub counts_same : (n : ℕ) (xs ys : List Moment) → stamps_in ys ≡ 0 → Counts n (stamps_in xs) → Counts n (stamps_in (xs ++ ys))
-counts_same n xs ys none is = subst (Counts n) (let e : stamps_in xs ≡ stamps_in (xs ++ ys) = omega (arith, stamps_append xs ys, none) in e) is
+pub counts_same : (n : ℕ) (xs ys : List Moment) → stamps_in ys ≡ 0 → IsCountUnlessWrapped n (stamps_in xs) → IsCountUnlessWrapped n (stamps_in (xs ++ ys))
+counts_same n xs ys none is = subst (IsCountUnlessWrapped n) (let e : stamps_in xs ≡ stamps_in (xs ++ ys) = omega (arith, stamps_append xs ys, none) in e) is
 
 -- an invocation is no item of the history
 pub invoked_history : (xs : List Moment) (t : ℕ) (k : Command) → history_of (xs ++ moments.Invoked t k ∷ []) ≡ history_of xs
@@ -112,9 +112,9 @@ pub formed_more : (xs ys : List Moment) → IsWellFormed xs
 formed_more xs ys formed few p is t = elim (start_cases p xs ys is) [
   | inl s ↦ formed p s t
   | inr s ↦ (
-      omega (arith, part_start t p (xs ++ ys) is, (few t).0, invoked_start t xs p s),
-      omega (arith, invoked_start t p (xs ++ ys) is, (few t).1, part_start t xs p s),
-    )
+    omega (arith, part_start t p (xs ++ ys) is, (few t).0, invoked_start t xs p s),
+    omega (arith, invoked_start t p (xs ++ ys) is, (few t).1, part_start t xs p s),
+  )
 ]
 
 -- a well-formed timeline keeps real-time order

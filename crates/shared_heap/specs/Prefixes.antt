@@ -55,7 +55,7 @@ pub record FitsOneHistory (c : Config) (s : table.State Command View) : Type 0 w
   pub once : (t : ℕ) → t < c.threads → seats_of t s.views ≡ 1
   pub others : (u : ℕ) → c.threads ≤ u → part u order ≡ []
   pub ordered : order ≡ history_of timeline
-  pub uninvoked : (u : ℕ) → c.threads ≤ u → invoked_in u timeline ≡ []
+  pub no_others : (u : ℕ) → c.threads ≤ u → invoked_in u timeline ≡ []
   pub formed : IsWellFormed timeline
   pub real_time : KeepsRealTime timeline order
 

@@ -53,8 +53,8 @@ stamps_in (moments.Stamped ∷ ms) = stamps_in ms + 1
 stamps_in (moments.TookEffect e ∷ ms) = stamps_in ms
 
 -- The number is this count, unless that exceeds a word.
-abbrev pub Counts : ℕ → ℕ → Type 0
-Counts n count = (n ≡ count) ⊎ (2 ^ 64 ≤ count)
+abbrev pub IsCountUnlessWrapped : ℕ → ℕ → Type 0
+IsCountUnlessWrapped n count = (n ≡ count) ⊎ (2 ^ 64 ≤ count)
 
 -- The first list is a prefix of the second.
 abbrev pub IsStartOf : {A : Type 0} → List A → List A → Type 0
@@ -120,7 +120,7 @@ pub record SharedKept (k : Whole) (s : table.State Command View) : Type 0 where
   pub drawn : ℕ
   pub words : s.words ≡ run.state.words ++ drawn ∷ []
   pub timeline : List Moment
-  pub counts : Counts drawn (stamps_in timeline)
+  pub counts : IsCountUnlessWrapped drawn (stamps_in timeline)
   pub timeline_of : IsTimelineOf k.config run timeline
   pub each : (id : ℕ) (v : View) → get_elem? s.views id ≡ some v
       → AllFit k.config run v.threads × AllNotedIn timeline v.notes
@@ -312,7 +312,7 @@ pub record Draws (found : ℕ) (me after : table.Me Command View) : Type 0 where
   pub moved : after ≡ drawn_of now turns me
   pub told : AllOfRuns after.0.threads
   pub seen : AllSeenIn now me.0.threads
-  pub counts : Counts found (stamps_in now)
+  pub counts : IsCountUnlessWrapped found (stamps_in now)
 
 -- the word that a thread's next event finds
 abbrev pub found_by : LocalState → table.State Command View → ℕ

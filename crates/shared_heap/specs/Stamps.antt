@@ -2,7 +2,7 @@
 use Rattle.std.specs.Prelude.{ℕ, ◌≡◌, ◌++◌, List, [], ◌∷◌}
 use Rattle.shared_heap.specs.declared.rules.Moment.{Moment}
 use Rattle.shared_heap.specs.declared.rules.Moment.TheVariants as moments
-use Rattle.shared_heap.specs.Shared.{Counts, IsStartOf, stamps_in}
+use Rattle.shared_heap.specs.Shared.{IsCountUnlessWrapped, IsStartOf, stamps_in}
 use Rattle.shared_heap.specs.Workers.{HasSeenIts, WorkerState}
 
 -- The worker drew a stamp with this number, and executed nothing. The timeline that it has seen now
@@ -16,5 +16,5 @@ pub record HasDrawn (old : WorkerState) (n : ℕ) (new : WorkerState) : Type 0 w
   pub past : List Moment
   pub timeline : new.timeline ≡ past ++ moments.Stamped ∷ []
   pub before : IsStartOf old.timeline past
-  pub counts : Counts n (stamps_in past)
+  pub counts : IsCountUnlessWrapped n (stamps_in past)
   pub sound : HasSeenIts new

@@ -215,7 +215,7 @@ pub record HaveOneHistory (c : Config) (ws : List WorkerState) (cycles : ℕ) : 
       × ((d : WorkerState) → HasPart timeline order t (slice_index_or ws j d))
   pub others : (u : ℕ) → c.threads ≤ u → part u order ≡ []
   pub ordered : order ≡ history_of timeline
-  pub uninvoked : (u : ℕ) → c.threads ≤ u → invoked_in u timeline ≡ []
+  pub no_others : (u : ℕ) → c.threads ≤ u → invoked_in u timeline ≡ []
   pub formed : IsWellFormed timeline
   pub real_time : KeepsRealTime timeline order
   pub starts : cycles ≡ starts_in order
@@ -229,8 +229,8 @@ AreSome h ws = (0 < length ws)
     × ((i : ℕ) (d : WorkerState) → i < length ws → (slice_index_or ws i d).heap ≡ h.id)
 
 -- The commands of thread t that have an entry are the first that the timeline has invocations of.
-abbrev pub HasFirst : List Moment → List HistoryItem → ℕ → Type 0
-HasFirst timeline order t = (rest : List Command)
+abbrev pub HasFirstCommands : List Moment → List HistoryItem → ℕ → Type 0
+HasFirstCommands timeline order t = (rest : List Command)
     × (invoked_in t timeline ≡ map (λ (e : Entry). e.command) (part t order) ++ rest)
 
 -- There is one history of the heap, as of one that is closed with all of its workers, but without
@@ -249,12 +249,12 @@ pub record HaveHistoryOfSome (c : Config) (ws : List WorkerState) (cycles : ℕ)
   pub right : (rate : ℕ) → IsRate c rate → RightWork c.width rate order
   pub parts : (j : ℕ) (d : WorkerState) → j < length ws
       → HasPart timeline order (slice_index_or ws j d).thread.thread (slice_index_or ws j d)
-  pub apart : (i j : ℕ) (d : WorkerState) → i < j → j < length ws
+  pub distinct : (i j : ℕ) (d : WorkerState) → i < j → j < length ws
       → ¬ ((slice_index_or ws i d).thread.thread ≡ (slice_index_or ws j d).thread.thread)
-  pub firsts : (t : ℕ) → t < c.threads → HasFirst timeline order t
+  pub first_commands : (t : ℕ) → t < c.threads → HasFirstCommands timeline order t
   pub others : (u : ℕ) → c.threads ≤ u → part u order ≡ []
   pub ordered : order ≡ history_of timeline
-  pub uninvoked : (u : ℕ) → c.threads ≤ u → invoked_in u timeline ≡ []
+  pub no_others : (u : ℕ) → c.threads ≤ u → invoked_in u timeline ≡ []
   pub formed : IsWellFormed timeline
   pub real_time : KeepsRealTime timeline order
   pub starts : cycles ≡ starts_in order

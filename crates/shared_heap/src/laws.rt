@@ -16,7 +16,7 @@ ghost use Rattle.shared_heap.specs.declared.rules.Moment.{Moment};
 ghost use Rattle.shared_heap.specs.declared.rules.Moment.TheVariants as moments;
 ghost use Rattle.shared_heap.specs.declared.rules.View.{View};
 ghost use Rattle.shared_heap.specs.Shared.{IsStartOf, SharedKept, history_of, one_view, stamps_in};
-ghost use Rattle.shared_heap.specs.RealTime.{ComesBeforeTheNext, HasSeat, WasSeen};
+ghost use Rattle.shared_heap.specs.RealTime.{PrecedesLaterCommands, IsSeatOf, HadSeen};
 ghost use Rattle.shared_heap.specs.Workers.{HasAnswered, HasRoom, HasSeenIts, WorkerState};
 ghost use Rattle.shared_heap.specs.Stamps.{HasDrawn};
 ghost use Rattle.shared_heap.specs.Behind.{StandsBehind, StandsBehindAll};
@@ -41,8 +41,8 @@ pub fn what_was_answered_fits_one_history()
 /// that has seen `p` in the first state has seen it in each later one.
 pub fn what_was_seen_comes_before_what_is_invoked_later()
     ensures { (k : Whole) (s later : table.State Command View) (now : SharedKept k s)
-        (then : SharedKept k later) (p : List Moment) → WasSeen s p → WasSeen later p
-        → (h : Held) → HasSeat s h → ComesBeforeTheNext p h then.run.order }
+        (then : SharedKept k later) (p : List Moment) → HadSeen s p → HadSeen later p
+        → (h : Held) → IsSeatOf s h → PrecedesLaterCommands p h then.run.order }
 {}
 
 /// Real-time order, of commands of a heap that was closed, by `close` or `close_some`, with this
