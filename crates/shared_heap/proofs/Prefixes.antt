@@ -1,4 +1,4 @@
--- What holds at every moment: one history, and the bounds of a command that runs alone.
+-- What holds in every state: one history, and the bounds of a command that runs alone.
 use Rattle.std.proofs.Common.{◌≡◌, ℕ, suc, ◌<◌, ◌≤◌, ◌+◌, Bool, true, false, eqb, eqb-true, Option, Some, None, refl, arith, subst, sym, ap, ◌∙◌, List, [], ◌∷◌, ◌++◌, length, length-append, get_or, map, take, inl, inr}
 use Rattle.std.proofs.lemmas.Bool.{cases_Bool, cases_lt}
 use mathlib.Core.Option.{some}

@@ -1,4 +1,4 @@
--- What holds at every moment, between any two steps of any threads.
+-- What holds in every state, between any two steps of any threads.
 use Rattle.std.specs.Prelude.{ℕ, ◌<◌, ◌≤◌, ◌≡◌, ◌++◌, true, List, [], ◌∷◌, length, map, take}
 use mathlib.Core.Option.{some}
 use lib.ListN.{get_elem?}
