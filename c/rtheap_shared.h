@@ -15,8 +15,9 @@
        status = rtheap_group_attach(&group, &worker);  the first time: the worker of thread 0
        status = rtheap_worker_ask(&worker, rtheap_cmd_new(1, 2), pause, NULL);
 
-   The replies of all workers are those of one order of all commands, in which each worker's
-   commands have the order in which it was given them.
+   The replies of all workers are those of one order of all commands. In it each worker's commands
+   have the order in which it was given them, and a command whose reply was returned comes before
+   each command, of any worker, that is started later.
 
    The program has to ensure what rtheap.h asks for a handle, of these two kinds of handles as well.
    It also has to poll each command to its end: while one is not done, the others may not get on. A

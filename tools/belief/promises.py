@@ -71,20 +71,23 @@ are refused.""",
              "saved_heap::save", "saved_heap::load"]),
     Promise("shared", "Heap of several threads", """
 Between any two steps the answers so far fit one legal history with exact work, in which each `full`
-is licensed; at `close` there is that of the whole life. A command comes after all that its worker
-had seen or learned by notes. If all workers are at rest, and one is then asked and alone has turns,
-its command ends within the bound of a lone thread.""",
+is licensed; at `close` there is that of the whole life. What a worker has seen comes before each
+command that is invoked later; a command comes after what its worker learned by notes. If all
+workers are at rest, and one is then asked and alone has turns, its command ends within the bound of
+a lone thread.""",
             ["shared_heap::SharedHeap::open", "shared_heap::SharedHeap::ask",
              "shared_heap::SharedHeap::request", "shared_heap::SharedHeap::note",
-             "shared_heap::SharedHeap::learn", "shared_heap::SharedHeap::close",
+             "shared_heap::SharedHeap::learn", "shared_heap::SharedHeap::stamp",
+             "shared_heap::SharedHeap::close", "shared_heap::SharedHeap::close_some",
              "shared_heap::laws"]),
     Promise("live_tags", "Table of tags", """
-Every operation is answered as on a plain table, in one order that keeps each worker's; an operation
-comes after all that its worker had seen or learned by notes.""",
+At `close` every operation was answered as on a plain table, in one order that keeps each worker's
+and real time; an operation comes after all that each worker had done whose view its own had seen or
+learned.""",
             ["live_tags::LiveTags::open", "live_tags::LiveTags::write",
              "live_tags::LiveTags::clear", "live_tags::LiveTags::read",
              "live_tags::LiveTags::note", "live_tags::LiveTags::learn",
-             "live_tags::LiveTags::close", "live_tags::laws"]),
+             "live_tags::LiveTags::stamp", "live_tags::LiveTags::close", "live_tags::laws"]),
     Promise("live_handles", "Handles in slots", """
 The same of requests, on a plain list of slots.""",
             ["live_handles::LiveHandles::open", "live_handles::LiveHandles::make",

@@ -132,8 +132,8 @@ fn is_first(commands: u64, cycle: u64) -> bool
     commands == 0 && cycle == 1
 }
 
-// Begins a command and makes its first events. One that owes nothing has code of its own, which makes
-// all of them where there is no block to shade.
+// Begins a command and makes its next events. A command that owes nothing has code of its own,
+// which makes all of them if no block is to be shaded. `serve_short` calls this for such alone.
 #[inline(always)]
 fn begins<M: Store>(memory: &mut M, thread: &mut Local, command: Command) -> Turn
     requires begins { MayBegin command thread.old }
@@ -144,16 +144,16 @@ fn begins<M: Store>(memory: &mut M, thread: &mut Local, command: Command) -> Tur
     use Command::*;
 
     match command {
-        Set { d, value } => thread.sets(d, value, memory, &()),
-        Nil { d } => thread.nils(d, memory, &()),
-        Mov { d, s } => thread.moves(d, s, memory, &()),
-        Get { d, s, i } => thread.gets(d, s, i, memory, &()),
-        Put { s, i, v } => thread.puts(s, i, v, memory, &()),
-        Len { s } => thread.lens(s, memory, &()),
-        Same { a, b } => thread.sames(a, b, memory, &()),
-        Say { s } => thread.says(s, memory, &()),
-        Swap { s, i, v } => thread.swaps(s, i, v, memory, &()),
-        Cas { s, i, a, v } => thread.cases(s, i, a, v, memory, &()),
+        Set { d, value } => thread.run_set(d, value, memory, &()),
+        Nil { d } => thread.run_nil(d, memory, &()),
+        Mov { d, s } => thread.run_mov(d, s, memory, &()),
+        Get { d, s, i } => thread.run_get(d, s, i, memory, &()),
+        Put { s, i, v } => thread.run_put(s, i, v, memory, &()),
+        Len { s } => thread.run_len(s, memory, &()),
+        Same { a, b } => thread.run_same(a, b, memory, &()),
+        Say { s } => thread.run_say(s, memory, &()),
+        Swap { s, i, v } => thread.run_swap(s, i, v, memory, &()),
+        Cas { s, i, a, v } => thread.run_cas(s, i, a, v, memory, &()),
         New { .. } | Arr { .. } | Idle { .. } => begins_any(memory, thread, command),
     }
 }
@@ -170,7 +170,8 @@ fn begins_any<M: Store>(memory: &mut M, thread: &mut Local, command: Command) ->
     goes_on(memory, thread)
 }
 
-// Makes events of a thread that is not done. It keeps them out of the code of what owes nothing.
+// Makes events of a thread that is not done. It is a call, so that this code is no part of that of
+// the short commands.
 #[inline(never)]
 fn goes_on<M: Store>(memory: &mut M, thread: &mut Local) -> Turn
     requires open { is_done thread.old ≡ false }

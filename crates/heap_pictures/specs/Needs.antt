@@ -42,7 +42,7 @@ pub record Meets (c : Config) (n : Needs) : Type 0 where
   pub live : n.live ≤ c.live
   pub few : n.objects ≤ 65534
 
--- a configuration that was raised as little as is needed; it has as much room beyond its limits
+-- a configuration raised no further than needed, with as many blocks beyond its limits as before
 pub record IsRaised (c : Config) (n : Needs) (d : Config) : Type 0 where
   pub meets : Meets d n
   pub width : d.width ≡ c.width

@@ -21,7 +21,8 @@ pub struct Needs {
     pub width: Width,
     /// The least `object`: the blocks of the largest object, or of the table of all objects.
     pub object: u32,
-    /// The least `live`: the blocks of the registers, the shared array, the table and the objects.
+    /// A `live` that is enough: the blocks of the registers, the shared array, the table and the
+    /// objects.
     pub live: u64,
     /// How many objects there are. At most 65,534 can be built.
     pub objects: u64,
@@ -115,9 +116,9 @@ impl Needs {
             && self.objects <= 65_534
     }
 
-    /// The configuration with `object` and `live` raised as far as this needs, and with as many more
-    /// blocks as keep the room beyond them. Its rate then grows at most as the number of its blocks
-    /// does; more blocks lower it.
+    /// The configuration with `object` and `live` raised to this, and with as many blocks beyond them
+    /// as before. Its rate is then at most the old one times the new number of blocks over the old
+    /// one, rounded up; more blocks lower it.
     ///
     /// None exactly where there is no such configuration: a number would be too large, there are
     /// more than 65,534 objects, or this was computed for another width.

@@ -31,7 +31,7 @@ use Rattle.heap_machine.proofs.HeapAfter.{op_place-at}
 use Rattle.work_account.specs.Accounts.{entered}
 use Rattle.heap_system.specs.declared.Turn.{Turn}
 use Rattle.heap_system.specs.declared.Turn.TheVariants.{Went, Waited}
-use Rattle.heap_system.specs.AtOnce.{GoesIn, HasGoneIn, HasRunUpTo, OwesNothing, come_to, entering_by, from_gate, if_answered, inside_by, serving_at}
+use Rattle.heap_system.specs.AtOnce.{GoesIn, HasEntered, HasRunUpTo, OwesNothing, come_to, entering_by, HasRunFromGate, if_answered, inside_by, serving_at}
 use Rattle.heap_system.specs.ThreadMemories.{HasRunOn, IsGoing, MakesTheNextEvent, MayRun, TellsLast, longest}
 use Rattle.heap_system.specs.Locals.{Errand, IsLocal, LocalState, LocalReads, answered, balance_in, balance_paid, command_of, entries_of, errand_of, first_part, if_entered, if_replied, is_done, local_got, made_got, op_wanted, owed, part_step, pass_by, pass_got, spent_got, turn_of}
 use Rattle.heap_system.specs.Parts.{Build, Enter, Mark, Rest, Serve, Sweep}
@@ -355,7 +355,7 @@ module _ {M S : Type 0} (may : M → S → Op → Type 0) (acts : Acts M S) (s :
           ap (λ b. turn_of (cond b steps.Over steps.Waited)) (sym wins) in
           (run_first acts s 62 m T w o by tried_reads trying went (inside_by l p) went_in after new turn run).0
 
-      pub gone_in : SeenOpen seen × (1 ≤ cycle_of seen) → HasGoneIn may acts s (from_gate acts s m l seen) l o p
+      pub gone_in : SeenOpen seen × (1 ≤ cycle_of seen) → HasEntered may acts s (HasRunFromGate acts s m l seen) l o p
       gone_in good =
           let cycle : p.cycle ≡ cycle_of seen = ap (λ (q : Pass). q.cycle) mine in
           let last = good.0.word.cycle in
@@ -447,7 +447,7 @@ module _ {M S : Type 0} (may : M → S → Op → Type 0) (acts : Acts M S) (s :
 pub gone_earlier : {M S : Type 0} (may : M → S → Op → Type 0) (acts : Acts M S) (s : S)
     (on from : M → LocalState → Turn → Type 0)
     → ((after : M) (new : LocalState) (turn : Turn) → on after new turn → from after new turn)
-    → (l : LocalState) (o : M) (p : Pass) → HasGoneIn may acts s on l o p → HasGoneIn may acts s from l o p
+    → (l : LocalState) (o : M) (p : Pass) → HasEntered may acts s on l o p → HasEntered may acts s from l o p
 gone_earlier may acts s on from back l o p is = record {
   cycle = is.cycle;
   later = is.later;
@@ -459,7 +459,7 @@ gone_earlier may acts s on from back l o p is = record {
 -- from the first row of a command that owes nothing
 module _ {M S : Type 0} (may : M → S → Op → Type 0) (acts : Acts M S) (s : S)
     (on : M → LocalState → Turn → Type 0) (l : LocalState) (o : M) (p : Pass)
-    (is : HasGoneIn may acts s on l o p) (k : Command) (r : FieldRow) (owes : OwesNothing k r)
+    (is : HasEntered may acts s on l o p) (k : Command) (r : FieldRow) (owes : OwesNothing k r)
     (goes : GoesIn l p k) (j : ℕ) (few : j ≤ 62) where
   pub row_may : MayRun may acts j o s (come_to l p r)
   row_may = may_fewer may acts j 62 few o s (come_to l p r)

@@ -76,9 +76,9 @@ abbrev pub HasRunUpTo : {M S : Type 0} → ℕ → Acts M S → S → M → Loca
 HasRunUpTo most acts s before old after new turn =
     (run : HasRun acts s before old after new turn) × (length run.words ≤ most)
 
--- A thread that began so has gone in, in this pass. So many events may follow inside, and with those
--- before them they lead on as `on` says.
-pub record HasGoneIn {M S : Type 0} (may : M → S → Op → Type 0) (acts : Acts M S) (s : S)
+-- A thread has entered, with this pass. At most 62 events may follow, and any run of them, with the
+-- events before, is one that `on` describes.
+pub record HasEntered {M S : Type 0} (may : M → S → Op → Type 0) (acts : Acts M S) (s : S)
     (on : M → LocalState → Turn → Type 0) (l : LocalState) (now : M) (p : Pass) : Type 0 where
   pub cycle : (1 ≤ p.cycle) × (p.cycle ≤ 2 ^ 54 - 2)
   pub later : l.balance.cycle ≤ p.cycle
@@ -87,18 +87,18 @@ pub record HasGoneIn {M S : Type 0} (may : M → S → Op → Type 0) (acts : Ac
   pub leads : (after : M) (new : LocalState) (turn : Turn)
       → HasRunUpTo 62 acts s now (inside_by l p) after new turn → on after new turn
 
--- it has not gone in, and looks at the gate again
-abbrev pub HasStayedOut : {M : Type 0} → (M → LocalState → Turn → Type 0) → LocalState → M → Type 0
-HasStayedOut on l now = on now (record l { part = Enter GateRow.Look }) Waited
+-- it has not entered, and looks at the gate again
+abbrev pub HasNotEntered : {M : Type 0} → (M → LocalState → Turn → Type 0) → LocalState → M → Type 0
+HasNotEntered on l now = on now (record l { part = Enter GateRow.Look }) Waited
 
--- from rest, and from where it has seen this phase word
-abbrev pub from_rest : {M S : Type 0} → Acts M S → S → M → LocalState → M → LocalState → Turn
+-- a run from rest, and a run from a phase word that it has read
+abbrev pub HasRunFromRest : {M S : Type 0} → Acts M S → S → M → LocalState → M → LocalState → Turn
     → Type 0
-from_rest acts s before l after new turn = HasRunOn acts s before l after new turn
+HasRunFromRest acts s before l after new turn = HasRunOn acts s before l after new turn
 
-abbrev pub from_gate : {M S : Type 0} → Acts M S → S → M → LocalState → ℕ → M → LocalState → Turn
+abbrev pub HasRunFromGate : {M S : Type 0} → Acts M S → S → M → LocalState → ℕ → M → LocalState → Turn
     → Type 0
-from_gate acts s before l seen after new turn =
+HasRunFromGate acts s before l seen after new turn =
     HasRunUpTo 63 acts s before (entering_by l seen) after new turn
 
 -- A thread that is alone and at rest, and has one command, may begin this one in its place.

@@ -19,8 +19,6 @@ mod replays;
 mod tests;
 #[cfg(test)]
 mod threads;
-#[cfg(test)]
-mod three_threads;
 mod traces;
 #[cfg(test)]
 mod ways;

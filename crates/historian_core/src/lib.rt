@@ -15,8 +15,6 @@ ghost use Rattle.historian_core.specs.Kept.{Fits, IsGiven, Keeps, counted, count
 ghost use Rattle.historian_core.specs.Windows as windows;
 
 mod stops;
-#[cfg(test)]
-mod tests;
 mod texts;
 
 use block_store::{Config, Width};

@@ -49,32 +49,44 @@ pub fn deliver<R: Threads + Wait + Sync, Q: Pace>(
     ensures taken { IfOk result (λ r. r.1.taken ≡ map numbers_said r.0.logs) }
     ensures sent { IfOk result (λ r. r.1.sent ≡ map numbers_said r.0.logs) }
 {
+    let room = room_for(&job);
+    deliver_through(rt, alloc, job, room, pace)
+}
+
+/// The same through a queue that has room for so many letters, at least 1. Where it is full, a thread
+/// waits until the caller has taken one.
+///
+/// # Errors
+///
+/// `OutOfMemory` where there is no room for the heap, the logs, the queue or the letters.
+pub fn deliver_through<R: Threads + Wait + Sync, Q: Pace>(
+    rt: &R,
+    alloc: Global,
+    job: Job,
+    room: usize,
+    pace: &Q,
+) -> Result<(Closed, Taken), OutOfMemory>
+    requires bounds { IsJobInBounds job }
+    requires admitted { IsAdmitted job.config }
+    requires few { job.config.threads ≤ 2 }
+    requires room { 1 ≤ room }
+    ensures job { IfOk result (λ r. job_of r.0 ≡ job) }
+    ensures ran { IfOk result (λ r. HasHistory r.0) }
+    ensures turns { IfOk result (λ r. HasTurns r.0) }
+    ensures taken { IfOk result (λ r. r.1.taken ≡ map numbers_said r.0.logs) }
+    ensures sent { IfOk result (λ r. r.1.sent ≡ map numbers_said r.0.logs) }
+{
     fulls_are_licensed();
     cycles_give_few_blocks();
     cycles_cost_few_units();
-    let (mail_board, mail_threads, taker) = opened(alloc, job)?;
+    let (mail_board, mail_threads, taker) = opened(alloc, job, room)?;
     let (mutators, taker) = delivered(rt, alloc, &mail_board, pace, mail_threads, taker)?;
     Ok(closed(mail_board, mutators, taker))
 }
 
 /// The board of a job and its post, with a mail thread for each thread, before the first turn. The
-/// queue has room for all letters of the job.
-fn opened(alloc: Global, job: Job) -> Result<(MailBoard, Vec<MailThread>, Taker), OutOfMemory>
-    requires bounds { IsJobInBounds job }
-    requires admitted { IsAdmitted job.config }
-    requires few { job.config.threads ≤ 2 }
-    ensures board { IfOk result (λ r. (r.0.board.config ≡ job.config)
-        × (r.0.board.traces ≡ job.traces)) }
-    ensures mail_threads { IfOk result (λ r. AreMailThreads r.0 r.1.items) }
-    ensures taker { IfOk result (λ r. IsFirst r.0 r.2) }
-    ensures room { IfOk result (λ r. r.0.post.room ≡ room_of job.traces) }
-{
-    let room = room_for(&job);
-    opened_for(alloc, job, room)
-}
-
-/// The same with so much room, at least 1.
-pub(crate) fn opened_for(
+/// queue has room for so many letters, at least 1.
+fn opened(
     alloc: Global,
     job: Job,
     room: usize,

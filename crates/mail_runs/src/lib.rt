@@ -6,7 +6,5 @@ mod mail_board;
 mod mail_thread;
 mod receiving;
 mod spawned;
-#[cfg(test)]
-mod tests;
 
-pub use letters::deliver;
+pub use letters::{deliver, deliver_through};

@@ -8,10 +8,6 @@ mod limits;
 mod printing;
 mod reading;
 mod running;
-#[cfg(test)]
-mod testing;
-#[cfg(test)]
-mod tests;
 mod top;
 
 pub use exit::MailExit;

@@ -38,7 +38,7 @@ use Rattle.saved_heap.specs.declared.faults.CopyFault.{CopyFault}
 use Rattle.saved_heap.specs.declared.faults.CopyFault.TheVariants as copy_faults
 use Rattle.saved_heap.specs.declared.faults.RenewFault.{RenewFault}
 use Rattle.saved_heap.specs.declared.faults.RenewFault.TheVariants as renew_faults
-use Rattle.saved_heap.specs.Enough.{IsEnough, IsOfMemory}
+use Rattle.saved_heap.specs.Enough.{IsEnough, IsOutOfMemory}
 use Rattle.saved_heap.specs.Faults.{CannotBuild, AreAllowed, IsRenewFault, StopsBuilding}
 use Rattle.saved_heap.specs.Renewals.{HasBuilt, IsOpened}
 use Rattle.saved_heap.proofs.PlanTakes.{Takes, plan_blocks, plan_takes, planned_low}
@@ -158,7 +158,7 @@ module _ (lives : Lives) (heaps : Heaps) (c : Config) (p : Content) (is : IsEnou
       full_not heaps c s.first s.stops.last s.new ks s.done (commands.Nil 0) y (start_graph c) s.opened.config (met s.first s.opened) small s.stops.low
       s.stops.built.done fault.0.config fault.1
 
-  pub enough : (f : RenewFault) → CannotBuild c p f → IsOfMemory f
+  pub enough : (f : RenewFault) → CannotBuild c p f → IsOutOfMemory f
   enough renew_faults.NoMemory cannot = tt
   enough (renew_faults.Open opening.OutOfBounds) cannot = absurd (cannot is.can.bounds)
   enough (renew_faults.Open opening.NotOneThread) cannot = absurd (cannot.1 is.can.single)
@@ -169,7 +169,8 @@ module _ (lives : Lives) (heaps : Heaps) (c : Config) (p : Content) (is : IsEnou
   enough (renew_faults.TooManyObjects n) cannot = absurd (let few = is.meets.few in let many = cannot.0 in omega (arith, few, many))
   enough (renew_faults.ObjectTooLarge needed most) cannot = absurd (cannot.0 (takes 0).bounds)
   enough (renew_faults.LiveTooSmall needed live cycle) cannot = absurd (stops_not (copy_faults.Full cycle) cannot.0)
-  enough (renew_faults.Copy f) cannot = absurd (stops_not f cannot)
+  enough (renew_faults.Copy (copy_faults.Full y)) cannot = absurd cannot
+  enough (renew_faults.Copy (copy_faults.Refused r)) cannot = absurd (stops_not (copy_faults.Refused r) cannot)
 
 -- ---- so where something is too large or too small, it is so by its number
 

@@ -12,7 +12,7 @@ use Rattle.heap_pictures.specs.declared.needs.Needs.{Needs}
 use Rattle.heap_pictures.specs.Needs.{IsRaised, Meets, needs_of, table_blocks}
 use Rattle.heap_pictures.specs.Pictures.{Content, is_sound}
 use Rattle.control_heap.specs.Controls.{CanOpen}
-use Rattle.saved_heap.specs.Enough.{CanBeLoaded, HasRoom, IsEnough}
+use Rattle.saved_heap.specs.Enough.{SomeIsEnough, HasRoom, IsEnough, IsNoLarger}
 
 pub raised_enough : (c d : Config) (p : Content) → HasRoom c → is_sound p ≡ true → IsRaised c (needs_of c.width c.shared p) d → IsEnough d p
 raised_enough c d p room sound is =
@@ -48,6 +48,17 @@ raised_enough c d p room sound is =
       };
       sound = sound;
       meets = subst (λ w. Meets d (needs_of w d.shared p)) (sym is.width) (subst (λ s. Meets d (needs_of c.width s p)) (sym is.shared) m);
+    }
+
+pub opened_room : (c : Config) → CanOpen c → HasRoom c
+opened_room c is =
+    let room = is.plan.room in
+    let product : c.threads * c.object ≡ 1 * c.object = ap (λ t. t * c.object) is.single in
+    record {
+      single = is.single;
+      shared = is.bounds.shared;
+      object = is.bounds.some_object;
+      room = omega (arith, room, product);
     }
 
 -- the smallest of this width
@@ -119,3 +130,35 @@ module _ (equations : (w : ℕ) → 1 < w → IsTree w) (all_levels : (w q : ℕ
       → IfNone x ((c : Config) → c.width ≡ w → IsEnough c p → ⊥)
   least_none w p n x is none =
       none_on x (λ each. least_not w p (λ d r. each d (subst (λ m. IsRaised (least w) m d) (sym is) r))) none
+
+  some_on : {P Q : Config → Type 0} → (x : Option Config) → ((c : Config) → P c → Q c) → IfSome x P → IfSome x Q
+  some_on (Some c) f some = f c some
+  some_on None f some = tt
+
+  -- what was raised from the smallest is no larger than any that is enough
+  is_least : (w : Width) (p : Content) (c : Config) → IsRaised (least w) (needs_of w 0 p) c
+      → (d : Config) → d.width ≡ w → IsEnough d p → IsNoLarger c d
+  is_least w p c raised d same is =
+      let n = needs_of w 0 p in
+      let m : Meets d (needs_of w d.shared p) = subst (λ v. Meets d (needs_of v d.shared p)) same is.meets in
+      let low = empty_low w d.shared in
+      let live = m.live in
+      let object = m.object in
+      let some_object = is.can.bounds.some_object in
+      let room = is.can.plan.room in
+      let product : d.threads * d.object ≡ 1 * d.object = ap (λ t. t * d.object) is.can.single in
+      let low_live : n.live ≤ d.live = omega (arith, low, live) in
+      let low_object : max 1 n.object ≤ d.object = omega (arith, object, some_object) in
+      let live_is : c.live ≡ max 0 n.live = raised.live in
+      let object_is : c.object ≡ max 1 n.object = raised.object in
+      let room_is : c.blocks + 0 + 2 * 1 ≡ 4 + c.live + 2 * c.object = raised.room in
+      record {
+        live = omega (arith, low_live, live_is);
+        object = omega (arith, low_object, object_is);
+        blocks = omega (arith, low_live, low_object, live_is, object_is, room_is, room, product);
+      }
+
+  pub least_of : (w : Width) (p : Content) (n : Needs) (x : Option Config) → n ≡ needs_of w 0 p
+      → IfSome x (IsRaised (least w) n)
+      → IfSome x (λ c. (d : Config) → d.width ≡ w → IsEnough d p → IsNoLarger c d)
+  least_of w p n x is = some_on x (λ c r. is_least w p c (subst (λ m. IsRaised (least w) m c) is r))

@@ -17,19 +17,25 @@ pub record IsEnough (c : Config) (p : Content) : Type 0 where
   pub meets : Meets c (needs_of c.width c.shared p)
 
 -- memory ran out
-abbrev pub IsOfMemory : RenewFault → Type 0
-IsOfMemory renew_faults.NoMemory = Unit {0}
-IsOfMemory (renew_faults.Open opening.NoMemory) = Unit {0}
-IsOfMemory _ = ⊥
+abbrev pub IsOutOfMemory : RenewFault → Type 0
+IsOutOfMemory renew_faults.NoMemory = Unit {0}
+IsOutOfMemory (renew_faults.Open opening.NoMemory) = Unit {0}
+IsOutOfMemory _ = ⊥
 
 -- bytes were those of a picture, and memory ran out
-abbrev pub IsOfMemoryAlone : LoadFault → Type 0
-IsOfMemoryAlone (load_faults.Build f) = IsOfMemory f
-IsOfMemoryAlone _ = ⊥
+abbrev pub IsLoadOutOfMemory : LoadFault → Type 0
+IsLoadOutOfMemory (load_faults.Build f) = IsOutOfMemory f
+IsLoadOutOfMemory _ = ⊥
 
 -- some configuration is enough
-abbrev pub CanBeLoaded : Content → Type 0
-CanBeLoaded p = (c : Config) × IsEnough c p
+abbrev pub SomeIsEnough : Content → Type 0
+SomeIsEnough p = (c : Config) × IsEnough c p
+
+-- a configuration has no more blocks than another, and its limits are no higher
+pub record IsNoLarger (c d : Config) : Type 0 where
+  pub live : c.live ≤ d.live
+  pub object : c.object ≤ d.object
+  pub blocks : c.blocks ≤ d.blocks
 
 -- a configuration for one thread has room for a cycle beyond its limits
 pub record HasRoom (c : Config) : Type 0 where

@@ -26,7 +26,7 @@ use Rattle.saved_heap.specs.declared.faults.OnFault.{OnFault}
 use Rattle.saved_heap.specs.declared.faults.OnFault.TheVariants as on_faults
 use Rattle.saved_heap.specs.declared.faults.RenewFault.{RenewFault}
 use Rattle.saved_heap.specs.declared.faults.RenewFault.TheVariants as renew_faults
-use Rattle.saved_heap.specs.Enough.{CanBeLoaded}
+use Rattle.saved_heap.specs.Enough.{SomeIsEnough}
 use Rattle.saved_heap.specs.Orders.{IsInOrder}
 use Rattle.saved_heap.specs.Renewals.{HasBuilt, IsOpened, IsPictureOf}
 
@@ -72,13 +72,15 @@ pub record StopsBuilding (c : Config) (ks : List Command) (f : CopyFault) : Type
   pub new : Control
   pub stops : StopsAt first ks done new f
 
--- Why this picture cannot be built: the same, or one of its commands stopped. Where it was answered
--- `Full`, the live limit is lower than the picture needs.
+-- Why this picture cannot be built: the same, or one of its commands was refused, or was answered
+-- `Full`; then the live limit is lower than the picture needs.
 abbrev pub CannotBuild : Config → Content → RenewFault → Type 0
 CannotBuild c p (renew_faults.LiveTooSmall needed live cycle) =
     StopsBuilding c (plan_of p) (copy_faults.Full cycle) × (live < needed)
     × (needed ≡ (needs_of c.width c.shared p).live) × (live ≡ c.live)
-CannotBuild c p (renew_faults.Copy f) = StopsBuilding c (plan_of p) f
+CannotBuild c p (renew_faults.Copy (copy_faults.Full y)) = ⊥
+CannotBuild c p (renew_faults.Copy (copy_faults.Refused r)) =
+    StopsBuilding c (plan_of p) (copy_faults.Refused r)
 CannotBuild c p f = IsRenewFault c p f
 
 -- why a heap cannot be renewed: its picture, which has no other objects, cannot be built
@@ -86,11 +88,13 @@ abbrev pub CannotRenew : Control → Config → RenewFault → Type 0
 CannotRenew from c renew_faults.NoMemory = Unit {0}
 CannotRenew from c f = (p : Content) × IsPictureOf from p × IsInOrder p × CannotBuild c p f
 
--- why a heap is not saved: of memory nothing is said, or no configuration is enough for its picture
+-- Why a heap is not saved: of memory nothing is said, or no configuration is enough for its picture,
+-- which has no other objects.
 abbrev pub IsNotSaved : Control → NotSaved → Type 0
 IsNotSaved h not_saved.NoMemory = Unit {0}
 IsNotSaved h (not_saved.TooLarge n) =
-    (p : Content) × IsPictureOf h p × (n ≡ length p.objects) × (CanBeLoaded p → ⊥)
+    (p : Content) × IsPictureOf h p × IsInOrder p × (n ≡ length p.objects)
+    × (SomeIsEnough p → ⊥)
 
 -- why bytes cannot be loaded
 abbrev pub IsLoadFault : List ℕ → Config → LoadFault → Type 0
@@ -118,7 +122,7 @@ behind_text = codes "no room to note a command; make room and note it, or begin 
 abbrev pub on_fault_text : OnFault → List ℕ
 on_fault_text on_faults.Used = codes "the heap was used before; open another"
 on_fault_text on_faults.NotAllowed =
-    codes "the heap does not allow the plan; open one that needs allow"
+    codes "the heap does not allow the planned commands; open one that does"
 
 abbrev pub renew_fault_text : RenewFault → List ℕ
 renew_fault_text renew_faults.NoMemory = codes "memory ran out; free memory"
@@ -129,13 +133,13 @@ renew_fault_text (renew_faults.TooManyObjects n) =
 renew_fault_text (renew_faults.ObjectTooLarge needed most) =
     codes "an object, or the table of all, is too large; raise `object` (at most 1024)"
 renew_fault_text (renew_faults.LiveTooSmall needed live cycle) =
-    codes "the registers, the objects and their table exceed the live limit; raise `live`"
+    codes "more is live while the picture is built than the limit; raise `live` and `blocks`"
 renew_fault_text (renew_faults.Copy f) = copy_fault_text f
 
 abbrev pub not_saved_text : NotSaved → List ℕ
 not_saved_text not_saved.NoMemory = codes "memory ran out; free memory"
 not_saved_text (not_saved.TooLarge n) =
-    codes "no heap has room for the objects and their table; keep fewer"
+    codes "no configuration is sure to hold the objects and a table of them; keep fewer"
 
 abbrev pub load_fault_text : LoadFault → List ℕ
 load_fault_text (load_faults.Bytes f) = save_fault_text f

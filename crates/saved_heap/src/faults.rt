@@ -52,7 +52,7 @@ pub enum RenewFault {
     },
     /// An allocation was answered `Full`, and the live limit is lower than the picture needs.
     LiveTooSmall {
-        /// The least `live` that is enough.
+        /// A `live` that is enough.
         needed: u64,
         /// The `live` of the configuration.
         live: u32,
@@ -68,7 +68,7 @@ pub enum RenewFault {
 pub enum NotSaved {
     /// Memory ran out.
     NoMemory,
-    /// No configuration has room for the objects and a table of them, so they could never be loaded.
+    /// No configuration is enough for the objects and a table of them, so loading could fail.
     TooLarge {
         /// How many objects there are.
         objects: u64,
@@ -138,7 +138,8 @@ impl OnFault {
     {
         match self {
             OnFault::Used => "the heap was used before; open another",
-            OnFault::NotAllowed => "the heap does not allow the plan; open one that needs allow",
+            OnFault::NotAllowed =>
+                "the heap does not allow the planned commands; open one that does",
         }
     }
 }
@@ -170,7 +171,7 @@ impl RenewFault {
             RenewFault::ObjectTooLarge { .. } =>
                 "an object, or the table of all, is too large; raise `object` (at most 1024)",
             RenewFault::LiveTooSmall { .. } =>
-                "the registers, the objects and their table exceed the live limit; raise `live`",
+                "more is live while the picture is built than the limit; raise `live` and `blocks`",
             RenewFault::Copy(fault) => fault.text(),
         }
     }
@@ -208,7 +209,7 @@ impl NotSaved {
         match self {
             NotSaved::NoMemory => "memory ran out; free memory",
             NotSaved::TooLarge { .. } =>
-                "no heap has room for the objects and their table; keep fewer",
+                "no configuration is sure to hold the objects and a table of them; keep fewer",
         }
     }
 }

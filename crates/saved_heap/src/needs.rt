@@ -5,7 +5,8 @@ ghost use Rattle.block_store.specs.declared.Config.{Config};
 ghost use Rattle.heap_pictures.specs.Needs.{IsRaised, needs_of};
 ghost use Rattle.heap_pictures.specs.Pictures.{Content, content_of, is_sound};
 ghost use Rattle.heap_pictures.specs.Reading.{picture_at};
-ghost use Rattle.saved_heap.specs.Enough.{CanBeLoaded, HasRoom, IsEnough};
+ghost use Rattle.control_heap.specs.Controls.{CanOpen};
+ghost use Rattle.saved_heap.specs.Enough.{SomeIsEnough, HasRoom, IsEnough, IsNoLarger};
 ghost use Rattle.saved_heap.specs.Faults.{IsNeedsFault};
 
 use crate::{LoadFault, RenewFault};
@@ -14,20 +15,24 @@ use block_store::{Config, Width};
 use heap_pictures::{Needs, Picture, ReadError, decode};
 use std::alloc::Global;
 
-/// A configuration for one thread with room beyond its limits, as each has that can be opened, is
-/// enough for a picture once it is raised to what the picture needs (`Needs::raise`).
+/// A configuration for one thread with room for a cycle is enough for a picture once it is raised to
+/// what the picture needs (`Needs::raise`). Each that can be opened has that room.
 pub fn raised_is_enough()
-    ensures { (c d : Config) (p : Content) → HasRoom c → is_sound p ≡ true
+    ensures raised { (c d : Config) (p : Content) → HasRoom c → is_sound p ≡ true
         → IsRaised c (needs_of c.width c.shared p) d → IsEnough d p }
+    ensures room { (c : Config) → CanOpen c → HasRoom c }
 {}
 
-/// The smallest configuration in which a picture can be built, with blocks of this width and an
-/// empty shared array. Its rate is the highest; more blocks lower it.
+/// The smallest configuration that is enough for a picture, with blocks of this width and an empty
+/// shared array. Its rate is twice its blocks, too high for a control loop: more blocks lower it.
 ///
-/// None exactly where there is none of this width.
+/// None exactly where none of this width is enough.
 pub fn least_config(picture: &Picture, width: Width) -> Option<Config>
     ensures width { IfSome result (λ c. c.width ≡ width) }
     ensures enough { IfSome result (λ c. IsEnough c (content_of picture.now)) }
+    ensures shared { IfSome result (λ c. c.shared ≡ 0) }
+    ensures least { IfSome result (λ c. (d : Config) → d.width ≡ width
+        → IsEnough d (content_of picture.now) → IsNoLarger c d) }
     ensures none { IfNone result
         ((c : Config) → c.width ≡ width → IsEnough c (content_of picture.now) → ⊥) }
 {
@@ -45,9 +50,9 @@ pub fn least_config(picture: &Picture, width: Width) -> Option<Config>
 }
 
 /// Whether some configuration is enough for a picture.
-pub(crate) fn can_be_loaded(picture: &Picture) -> bool
-    ensures yes { result ≡ true → CanBeLoaded (content_of picture.now) }
-    ensures no { result ≡ false → CanBeLoaded (content_of picture.now) → ⊥ }
+pub(crate) fn some_is_enough(picture: &Picture) -> bool
+    ensures yes { result ≡ true → SomeIsEnough (content_of picture.now) }
+    ensures no { result ≡ false → SomeIsEnough (content_of picture.now) → ⊥ }
 {
     match least_config(picture, Width::Eight) {
         Some(_) => true,

@@ -14,7 +14,7 @@ ghost use Rattle.saved_heap.specs.Follows.{HasFollowed, IsFollowed};
 ghost use Rattle.saved_heap.specs.Renewals.{HasBuilt, IsBuilt, IsBuiltFrom, IsOpened, ShowOneGraph, ShowsPicture, ShowsUpToNames, rest_of};
 ghost use Rattle.saved_heap.specs.declared.faults.OnFault.TheVariants.{NotAllowed, Used};
 ghost use Rattle.saved_heap.specs.declared.faults.RenewFault.{RenewFault};
-ghost use Rattle.saved_heap.specs.Enough.{IsEnough, IsOfMemory};
+ghost use Rattle.saved_heap.specs.Enough.{IsEnough, IsOutOfMemory};
 ghost use Rattle.saved_heap.specs.Faults.{AreAllowed, CannotBuild, CannotRenew, IsCopyFault, IsRenewFault, StopsAt, StopsBuilding};
 
 mod follow;
@@ -160,8 +160,9 @@ fn stopped(picture: &Picture, c: &Config, fault: CopyFault) -> RenewFault
     histories_are_right();
     small_histories_are_shown();
     lives_add_up();
-    let CopyFault::Full(cycle) = fault else {
-        return RenewFault::Copy(fault);
+    let cycle = match fault {
+        CopyFault::Full(cycle) => cycle,
+        CopyFault::Refused(refused) => return RenewFault::Copy(CopyFault::Refused(refused)),
     };
     match picture.needs(c.width, c.shared) {
         Some(needs) => RenewFault::LiveTooSmall {
@@ -325,7 +326,7 @@ impl Renewal {
 /// memory may be lacking.
 pub fn needs_are_enough()
     ensures { (c : Config) (p : Content) (f : RenewFault) → IsEnough c p → CannotBuild c p f
-        → IsOfMemory f }
+        → IsOutOfMemory f }
 {
     live_grows();
     opening_blocks_are_live();
@@ -348,7 +349,7 @@ pub fn build(alloc: Global, picture: &Picture, c: Config) -> Result<ControlHeap,
     ensures shown { IfOk result (λ h. ShowsUpToNames h (graph_of (content_of picture.now))) }
     ensures built { IfOk result (IsBuilt c (plan_of (content_of picture.now))) }
     ensures refused { IfErr result (CannotBuild c (content_of picture.now)) }
-    ensures enough { IsEnough c (content_of picture.now) → IfErr result IsOfMemory }
+    ensures enough { IsEnough c (content_of picture.now) → IfErr result IsOutOfMemory }
 {
     needs_are_enough();
     let mut renewal = Renewal::of(alloc, picture, c)?;

@@ -6,12 +6,12 @@ ghost use Rattle.heap_pictures.specs.Plans.{plan_of};
 ghost use Rattle.heap_pictures.specs.Spelling.{saved};
 ghost use Rattle.heap_pictures.specs.Reading.{picture_at};
 ghost use Rattle.control_heap.specs.Controls.{Control};
-ghost use Rattle.saved_heap.specs.Enough.{CanBeLoaded, IsEnough, IsOfMemoryAlone};
+ghost use Rattle.saved_heap.specs.Enough.{SomeIsEnough, IsEnough, IsLoadOutOfMemory};
 ghost use Rattle.saved_heap.specs.Faults.{IsLoadFault, IsNotSaved};
 ghost use Rattle.saved_heap.specs.Orders.{IsInOrder};
 ghost use Rattle.saved_heap.specs.Renewals.{IsBuilt, IsPictureOf, ShowOneGraph, ShowsUpToNames};
 
-use crate::needs::can_be_loaded;
+use crate::needs::some_is_enough;
 use crate::{LoadFault, NotSaved, RenewFault, build, needs_are_enough, picture_of};
 use block_store::{Config, OutOfMemory};
 use control_heap::ControlHeap;
@@ -26,22 +26,22 @@ fn written(alloc: Global, picture: &Picture) -> Result<Vec<u8>, OutOfMemory>
 }
 
 /// What the registers of a heap reach, as bytes: those of its picture. Some configuration is enough
-/// to load them, but not always that of the heap: `needs_of` tells what they need, `Needs::raise`
-/// raises a configuration as far, and `least_config` is the smallest.
+/// to load them, but not always that of the heap: `needs_of` returns what they need, `Needs::raise`
+/// raises a configuration to it, and `least_config` is the smallest that is enough.
 ///
 /// # Errors
 ///
-/// `TooLarge` where no configuration is enough, so they could never be loaded; `NoMemory` where
-/// there is no memory for them.
+/// `TooLarge` where no configuration is enough, so loading could fail; `NoMemory` where there is no
+/// memory for them.
 pub fn save(alloc: Global, heap: &ControlHeap) -> Result<Vec<u8>, NotSaved>
     ensures saved { IfOk result (λ v.
         (p : Content) × (v.items ≡ saved p) × IsPictureOf heap.now p × IsInOrder p
-        × CanBeLoaded p) }
+        × SomeIsEnough p) }
     ensures short { IfOk result (λ v. length v.items < 2 ^ 64) }
     ensures refused { IfErr result (IsNotSaved heap.now) }
 {
     let picture = picture_of(alloc, heap)?;
-    if !can_be_loaded(&picture) {
+    if !some_is_enough(&picture) {
         return Err(NotSaved::TooLarge {
             objects: picture.objects.len() as u64,
         });
@@ -70,7 +70,7 @@ pub fn load(alloc: Global, bytes: &[u8], c: Config) -> Result<ControlHeap, LoadF
         → bytes.now ≡ saved p → picture_at bytes.now ≡ Ok p }
     ensures refused { IfErr result (IsLoadFault bytes.now c) }
     ensures enough { (p : Content) → picture_at bytes.now ≡ Ok p → IsEnough c p
-        → IfErr result IsOfMemoryAlone }
+        → IfErr result IsLoadOutOfMemory }
 {
     names_follow_one_another();
     needs_are_enough();

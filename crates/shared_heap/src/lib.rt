@@ -9,12 +9,8 @@ mod heap;
 mod laws;
 mod note;
 mod pending;
-#[cfg(test)]
-mod pending_tests;
 mod port;
 mod rules;
-#[cfg(test)]
-mod tests;
 mod worker;
 
 pub use control_heap::{Fault, Refused};

@@ -3,8 +3,6 @@
 
 mod bars;
 mod counting;
-#[cfg(test)]
-mod tests;
 
 pub use bars::{Bar, CLASSES, bucket_of, fullest, power};
 pub use counting::{Times, count_below};

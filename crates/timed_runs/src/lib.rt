@@ -8,8 +8,6 @@ mod kinds;
 mod samples;
 mod stamps;
 mod telling;
-#[cfg(test)]
-mod tests;
 mod top;
 
 pub use bounds::turns_alone;

@@ -1,5 +1,6 @@
-//! A command that owes nothing, of a thread that is alone and of which the caller knows the command:
-//! each kind has code of its own, so that a compiler sees which rows come.
+//! Commands that owe nothing, on a heap of one thread. Each kind has its own code, so that the
+//! compiler knows the rows in advance. By the code, not by a clause, a call makes all events of its
+//! command if the gate is open and no block is to be shaded.
 
 ghost use Rattle.std.specs.Prelude.{◌≡◌, ◌≤◌, ◌<◌, false, length, IfSome, IfNone};
 ghost use Rattle.block_store.specs.Phases.{cycle_of};
@@ -9,7 +10,7 @@ ghost use Rattle.barrier_steps.specs.declared.rows.Purpose.{Purpose};
 ghost use Rattle.barrier_steps.specs.Fits.{FitsAt};
 ghost use Rattle.heap_machine.specs.Gates.{SeenOpen};
 ghost use Rattle.never_heap.specs.declared.Command.{Command};
-ghost use Rattle.heap_system.specs.AtOnce.{GoesIn, HasGoneIn, HasRunUpTo, HasStayedOut, MayBegin, come_to, entering_by, from_gate, from_rest};
+ghost use Rattle.heap_system.specs.AtOnce.{GoesIn, HasEntered, HasRunUpTo, HasNotEntered, MayBegin, come_to, entering_by, HasRunFromGate, HasRunFromRest};
 ghost use Rattle.heap_system.specs.ThreadMemories.{HasRunOn, MayRun, longest};
 ghost use Rattle.heap_system.specs.Locals.{begun, command_of, is_done, pass_by};
 ghost use Rattle.heap_system.specs.Parts.{Rest};
@@ -22,9 +23,9 @@ use heap_machine::{Memory, Op, Pass, entering};
 use never_heap::Command;
 
 impl Local {
-    // Has this command in place of its one command, which is done.
+    // Replaces its one command, which is done, by this one.
     #[inline(always)]
-    fn begins_alone(&mut self, command: Command)
+    fn begin_lone(&mut self, command: Command)
         requires { MayBegin command self.old }
         ensures begun { self.new ≡ begun command self.old }
         ensures rest { self.new.part ≡ Rest }
@@ -36,9 +37,9 @@ impl Local {
         self.begin(command);
     }
 
-    // Goes in, where the gate is open. The thread, which the rows show as at rest, is not changed.
+    // Enters the gate if it is open. Changes the memory only: the thread stays at rest.
     #[inline(always)]
-    fn tries_alone<M: Memory>(
+    fn try_enter<M: Memory>(
         &self,
         places: &Places,
         memory: &mut M,
@@ -49,23 +50,23 @@ impl Local {
         requires alone { self.now.config.threads ≡ 1 }
         requires places { places.now ≡ self.now.config }
         requires may { MayRun M.may M.acts longest memory.old shared.now self.now }
-        ensures inside { IfSome result (HasGoneIn M.may M.acts shared.now
-            (from_rest M.acts shared.now memory.old self.now) self.now memory.new) }
-        ensures outside { IfNone result (HasStayedOut
-            (from_rest M.acts shared.now memory.old self.now) self.now memory.new) }
+        ensures inside { IfSome result (HasEntered M.may M.acts shared.now
+            (HasRunFromRest M.acts shared.now memory.old self.now) self.now memory.new) }
+        ensures outside { IfNone result (HasNotEntered
+            (HasRunFromRest M.acts shared.now memory.old self.now) self.now memory.new) }
     {
         self.has_a_command();
         let seen = memory.act(shared, &Op::load(places.phase()));
         if read_phase(seen).closed {
             None
         } else {
-            self.enters_alone(seen, places, memory, shared)
+            self.enter_by(seen, places, memory, shared)
         }
     }
 
-    // The same from where the thread has seen this phase word, of an open gate.
+    // Tries to enter by a phase word that it has read, of an open gate.
     #[inline(always)]
-    fn enters_alone<M: Memory>(
+    fn enter_by<M: Memory>(
         &self,
         seen: u64,
         places: &Places,
@@ -78,14 +79,14 @@ impl Local {
         requires places { places.now ≡ self.now.config }
         requires seen { SeenOpen seen × (1 ≤ cycle_of seen) }
         requires may { MayRun M.may M.acts 63 memory.old shared.now (entering_by self.now seen) }
-        ensures inside { IfSome result (HasGoneIn M.may M.acts shared.now
-            (from_gate M.acts shared.now memory.old self.now seen) self.now memory.new) }
-        ensures outside { IfNone result (HasStayedOut
-            (from_gate M.acts shared.now memory.old self.now seen) self.now memory.new) }
+        ensures inside { IfSome result (HasEntered M.may M.acts shared.now
+            (HasRunFromGate M.acts shared.now memory.old self.now seen) self.now memory.new) }
+        ensures outside { IfNone result (HasNotEntered
+            (HasRunFromGate M.acts shared.now memory.old self.now seen) self.now memory.new) }
     {
         let word = memory.act(shared, &entering(places, seen));
         if word == seen {
-            Some(self.pass_alone(read_phase(seen)))
+            Some(self.lone_pass(read_phase(seen)))
         } else {
             None
         }
@@ -93,7 +94,7 @@ impl Local {
 
     // The pass that begins by this phase word.
     #[inline(always)]
-    fn pass_alone(&self, phase: PhaseWord) -> Pass
+    fn lone_pass(&self, phase: PhaseWord) -> Pass
         requires { self.now.config.threads ≡ 1 }
         ensures { result ≡ pass_by self.now.thread self.now.config.threads phase }
     {
@@ -106,10 +107,9 @@ impl Local {
         }
     }
 
-    /// Begins `set` and makes its events: all of them, where the thread finds the gate open and no
-    /// block to shade; else those before the first that is made another way.
+    /// Begins `set` and makes its next events, at most 64 (`HasRunOn`).
     #[inline(never)]
-    pub fn sets<M: Memory>(
+    pub fn run_set<M: Memory>(
         &mut self,
         d: u8,
         value: u64,
@@ -123,9 +123,9 @@ impl Local {
             (begun (Command.Set d value) self.old) memory.new self.new result }
     {
         let command = Command::Set { d, value };
-        self.begins_alone(command);
+        self.begin_lone(command);
         let places = self.places();
-        match self.tries_alone(&places, memory, shared) {
+        match self.try_enter(&places, memory, shared) {
             Some(pass) => {
                 self.goes_by(pass, command, FieldRow::StoreConstant);
                 self.constant(pass, command, &places, memory, shared)
@@ -137,15 +137,9 @@ impl Local {
         }
     }
 
-    /// Begins `nil` and makes its events: all of them, where the thread finds the gate open and no
-    /// block to shade; else those before the first that is made another way.
+    /// Begins `nil` and makes its next events, at most 64 (`HasRunOn`).
     #[inline(never)]
-    pub fn nils<M: Memory>(
-        &mut self,
-        d: u8,
-        memory: &mut M,
-        shared: &M::Shared,
-    ) -> Turn
+    pub fn run_nil<M: Memory>(&mut self, d: u8, memory: &mut M, shared: &M::Shared) -> Turn
         requires begins { MayBegin (Command.Nil d) self.old }
         requires may { MayRun M.may M.acts longest memory.old shared.now
             (begun (Command.Nil d) self.old) }
@@ -153,9 +147,9 @@ impl Local {
             (begun (Command.Nil d) self.old) memory.new self.new result }
     {
         let command = Command::Nil { d };
-        self.begins_alone(command);
+        self.begin_lone(command);
         let places = self.places();
-        match self.tries_alone(&places, memory, shared) {
+        match self.try_enter(&places, memory, shared) {
             Some(pass) => {
                 self.goes_by(pass, command, FieldRow::StoreConstant);
                 self.constant(pass, command, &places, memory, shared)
@@ -167,16 +161,9 @@ impl Local {
         }
     }
 
-    /// Begins `mov` and makes its events: all of them, where the thread finds the gate open and no
-    /// block to shade; else those before the first that is made another way.
+    /// Begins `mov` and makes its next events, at most 64 (`HasRunOn`).
     #[inline(never)]
-    pub fn moves<M: Memory>(
-        &mut self,
-        d: u8,
-        s: u8,
-        memory: &mut M,
-        shared: &M::Shared,
-    ) -> Turn
+    pub fn run_mov<M: Memory>(&mut self, d: u8, s: u8, memory: &mut M, shared: &M::Shared) -> Turn
         requires begins { MayBegin (Command.Mov d s) self.old }
         requires may { MayRun M.may M.acts longest memory.old shared.now
             (begun (Command.Mov d s) self.old) }
@@ -184,11 +171,17 @@ impl Local {
             (begun (Command.Mov d s) self.old) memory.new self.new result }
     {
         let command = Command::Mov { d, s };
-        self.begins_alone(command);
+        self.begin_lone(command);
         let places = self.places();
-        match self.tries_alone(&places, memory, shared) {
+        match self.try_enter(&places, memory, shared) {
             Some(pass) => {
-                self.goes_by(pass, command, FieldRow::LoadRegister { wanted: Purpose::Copied });
+                self.goes_by(
+                    pass,
+                    command,
+                    FieldRow::LoadRegister {
+                        wanted: Purpose::Copied,
+                    },
+                );
                 self.register(pass, command, Purpose::Copied, &places, memory, shared)
             }
             None => {
@@ -198,10 +191,9 @@ impl Local {
         }
     }
 
-    /// Begins `get` and makes its events: all of them, where the thread finds the gate open and no
-    /// block to shade; else those before the first that is made another way.
+    /// Begins `get` and makes its next events, at most 64 (`HasRunOn`).
     #[inline(never)]
-    pub fn gets<M: Memory>(
+    pub fn run_get<M: Memory>(
         &mut self,
         d: u8,
         s: u8,
@@ -216,11 +208,17 @@ impl Local {
             (begun (Command.Get d s i) self.old) memory.new self.new result }
     {
         let command = Command::Get { d, s, i };
-        self.begins_alone(command);
+        self.begin_lone(command);
         let places = self.places();
-        match self.tries_alone(&places, memory, shared) {
+        match self.try_enter(&places, memory, shared) {
             Some(pass) => {
-                self.goes_by(pass, command, FieldRow::LoadRegister { wanted: Purpose::Object });
+                self.goes_by(
+                    pass,
+                    command,
+                    FieldRow::LoadRegister {
+                        wanted: Purpose::Object,
+                    },
+                );
                 self.object_of_get(pass, command, &places, memory, shared)
             }
             None => {
@@ -230,10 +228,9 @@ impl Local {
         }
     }
 
-    /// Begins `put` and makes its events: all of them, where the thread finds the gate open and no
-    /// block to shade; else those before the first that is made another way.
+    /// Begins `put` and makes its next events, at most 64 (`HasRunOn`).
     #[inline(never)]
-    pub fn puts<M: Memory>(
+    pub fn run_put<M: Memory>(
         &mut self,
         s: u8,
         i: u64,
@@ -248,11 +245,17 @@ impl Local {
             (begun (Command.Put s i v) self.old) memory.new self.new result }
     {
         let command = Command::Put { s, i, v };
-        self.begins_alone(command);
+        self.begin_lone(command);
         let places = self.places();
-        match self.tries_alone(&places, memory, shared) {
+        match self.try_enter(&places, memory, shared) {
             Some(pass) => {
-                self.goes_by(pass, command, FieldRow::LoadRegister { wanted: Purpose::Object });
+                self.goes_by(
+                    pass,
+                    command,
+                    FieldRow::LoadRegister {
+                        wanted: Purpose::Object,
+                    },
+                );
                 self.object_of_put(pass, command, &places, memory, shared)
             }
             None => {
@@ -262,15 +265,9 @@ impl Local {
         }
     }
 
-    /// Begins `len` and makes its events: all of them, where the thread finds the gate open and no
-    /// block to shade; else those before the first that is made another way.
+    /// Begins `len` and makes its next events, at most 64 (`HasRunOn`).
     #[inline(never)]
-    pub fn lens<M: Memory>(
-        &mut self,
-        s: u8,
-        memory: &mut M,
-        shared: &M::Shared,
-    ) -> Turn
+    pub fn run_len<M: Memory>(&mut self, s: u8, memory: &mut M, shared: &M::Shared) -> Turn
         requires begins { MayBegin (Command.Len s) self.old }
         requires may { MayRun M.may M.acts longest memory.old shared.now
             (begun (Command.Len s) self.old) }
@@ -278,11 +275,17 @@ impl Local {
             (begun (Command.Len s) self.old) memory.new self.new result }
     {
         let command = Command::Len { s };
-        self.begins_alone(command);
+        self.begin_lone(command);
         let places = self.places();
-        match self.tries_alone(&places, memory, shared) {
+        match self.try_enter(&places, memory, shared) {
             Some(pass) => {
-                self.goes_by(pass, command, FieldRow::LoadRegister { wanted: Purpose::Object });
+                self.goes_by(
+                    pass,
+                    command,
+                    FieldRow::LoadRegister {
+                        wanted: Purpose::Object,
+                    },
+                );
                 self.object_of_len(pass, command, &places, memory, shared)
             }
             None => {
@@ -292,16 +295,9 @@ impl Local {
         }
     }
 
-    /// Begins `same` and makes its events: all of them, where the thread finds the gate open and no
-    /// block to shade; else those before the first that is made another way.
+    /// Begins `same` and makes its next events, at most 64 (`HasRunOn`).
     #[inline(never)]
-    pub fn sames<M: Memory>(
-        &mut self,
-        a: u8,
-        b: u8,
-        memory: &mut M,
-        shared: &M::Shared,
-    ) -> Turn
+    pub fn run_same<M: Memory>(&mut self, a: u8, b: u8, memory: &mut M, shared: &M::Shared) -> Turn
         requires begins { MayBegin (Command.Same a b) self.old }
         requires may { MayRun M.may M.acts longest memory.old shared.now
             (begun (Command.Same a b) self.old) }
@@ -309,11 +305,17 @@ impl Local {
             (begun (Command.Same a b) self.old) memory.new self.new result }
     {
         let command = Command::Same { a, b };
-        self.begins_alone(command);
+        self.begin_lone(command);
         let places = self.places();
-        match self.tries_alone(&places, memory, shared) {
+        match self.try_enter(&places, memory, shared) {
             Some(pass) => {
-                self.goes_by(pass, command, FieldRow::LoadRegister { wanted: Purpose::First });
+                self.goes_by(
+                    pass,
+                    command,
+                    FieldRow::LoadRegister {
+                        wanted: Purpose::First,
+                    },
+                );
                 self.both(pass, command, &places, memory, shared)
             }
             None => {
@@ -323,15 +325,9 @@ impl Local {
         }
     }
 
-    /// Begins `say` and makes its events: all of them, where the thread finds the gate open and no
-    /// block to shade; else those before the first that is made another way.
+    /// Begins `say` and makes its next events, at most 64 (`HasRunOn`).
     #[inline(never)]
-    pub fn says<M: Memory>(
-        &mut self,
-        s: u8,
-        memory: &mut M,
-        shared: &M::Shared,
-    ) -> Turn
+    pub fn run_say<M: Memory>(&mut self, s: u8, memory: &mut M, shared: &M::Shared) -> Turn
         requires begins { MayBegin (Command.Say s) self.old }
         requires may { MayRun M.may M.acts longest memory.old shared.now
             (begun (Command.Say s) self.old) }
@@ -339,11 +335,17 @@ impl Local {
             (begun (Command.Say s) self.old) memory.new self.new result }
     {
         let command = Command::Say { s };
-        self.begins_alone(command);
+        self.begin_lone(command);
         let places = self.places();
-        match self.tries_alone(&places, memory, shared) {
+        match self.try_enter(&places, memory, shared) {
             Some(pass) => {
-                self.goes_by(pass, command, FieldRow::LoadRegister { wanted: Purpose::Shown });
+                self.goes_by(
+                    pass,
+                    command,
+                    FieldRow::LoadRegister {
+                        wanted: Purpose::Shown,
+                    },
+                );
                 self.shown(pass, command, &places, memory, shared)
             }
             None => {
@@ -353,10 +355,9 @@ impl Local {
         }
     }
 
-    /// Begins `swap` and makes its events: all of them, where the thread finds the gate open and no
-    /// block to shade; else those before the first that is made another way.
+    /// Begins `swap` and makes its next events, at most 64 (`HasRunOn`).
     #[inline(never)]
-    pub fn swaps<M: Memory>(
+    pub fn run_swap<M: Memory>(
         &mut self,
         s: u8,
         i: u64,
@@ -371,11 +372,17 @@ impl Local {
             (begun (Command.Swap s i v) self.old) memory.new self.new result }
     {
         let command = Command::Swap { s, i, v };
-        self.begins_alone(command);
+        self.begin_lone(command);
         let places = self.places();
-        match self.tries_alone(&places, memory, shared) {
+        match self.try_enter(&places, memory, shared) {
             Some(pass) => {
-                self.goes_by(pass, command, FieldRow::LoadRegister { wanted: Purpose::Object });
+                self.goes_by(
+                    pass,
+                    command,
+                    FieldRow::LoadRegister {
+                        wanted: Purpose::Object,
+                    },
+                );
                 self.object_of_swap(pass, command, &places, memory, shared)
             }
             None => {
@@ -385,10 +392,9 @@ impl Local {
         }
     }
 
-    /// Begins `cas` and makes its events: all of them, where the thread finds the gate open and no
-    /// block to shade; else those before the first that is made another way.
+    /// Begins `cas` and makes its next events, at most 64 (`HasRunOn`).
     #[inline(never)]
-    pub fn cases<M: Memory>(
+    pub fn run_cas<M: Memory>(
         &mut self,
         s: u8,
         i: u64,
@@ -404,11 +410,17 @@ impl Local {
             (begun (Command.Cas s i a v) self.old) memory.new self.new result }
     {
         let command = Command::Cas { s, i, a, v };
-        self.begins_alone(command);
+        self.begin_lone(command);
         let places = self.places();
-        match self.tries_alone(&places, memory, shared) {
+        match self.try_enter(&places, memory, shared) {
             Some(pass) => {
-                self.goes_by(pass, command, FieldRow::LoadRegister { wanted: Purpose::Object });
+                self.goes_by(
+                    pass,
+                    command,
+                    FieldRow::LoadRegister {
+                        wanted: Purpose::Object,
+                    },
+                );
                 self.object_of_cas(pass, command, &places, memory, shared)
             }
             None => {
@@ -437,7 +449,9 @@ impl Local {
             (come_to self.old pass (FieldRow.LoadRegister Purpose.Object)) memory.new self.new result }
     {
         match FieldPass::loads_register(pass, command, Purpose::Object, places, memory, shared) {
-            FieldRow::LoadShape { block } => self.shape_of_get(pass, command, block, places, memory, shared),
+            FieldRow::LoadShape { block } => self.shape_of_get(
+                pass, command, block, places, memory, shared,
+            ),
             row => self.ends(pass, command, row, places, memory, shared),
         }
     }
@@ -461,7 +475,9 @@ impl Local {
             (come_to self.old pass (FieldRow.LoadRegister Purpose.Object)) memory.new self.new result }
     {
         match FieldPass::loads_register(pass, command, Purpose::Object, places, memory, shared) {
-            FieldRow::LoadShape { block } => self.shape_of_put(pass, command, block, places, memory, shared),
+            FieldRow::LoadShape { block } => self.shape_of_put(
+                pass, command, block, places, memory, shared,
+            ),
             row => self.ends(pass, command, row, places, memory, shared),
         }
     }
@@ -485,7 +501,9 @@ impl Local {
             (come_to self.old pass (FieldRow.LoadRegister Purpose.Object)) memory.new self.new result }
     {
         match FieldPass::loads_register(pass, command, Purpose::Object, places, memory, shared) {
-            FieldRow::LoadShape { block } => self.shape_of_len(pass, command, block, places, memory, shared),
+            FieldRow::LoadShape { block } => self.shape_of_len(
+                pass, command, block, places, memory, shared,
+            ),
             row => self.ends(pass, command, row, places, memory, shared),
         }
     }
@@ -509,7 +527,9 @@ impl Local {
             (come_to self.old pass (FieldRow.LoadRegister Purpose.Object)) memory.new self.new result }
     {
         match FieldPass::loads_register(pass, command, Purpose::Object, places, memory, shared) {
-            FieldRow::LoadShape { block } => self.shape_of_swap(pass, command, block, places, memory, shared),
+            FieldRow::LoadShape { block } => self.shape_of_swap(
+                pass, command, block, places, memory, shared,
+            ),
             row => self.ends(pass, command, row, places, memory, shared),
         }
     }
@@ -533,7 +553,9 @@ impl Local {
             (come_to self.old pass (FieldRow.LoadRegister Purpose.Object)) memory.new self.new result }
     {
         match FieldPass::loads_register(pass, command, Purpose::Object, places, memory, shared) {
-            FieldRow::LoadShape { block } => self.shape_of_cas(pass, command, block, places, memory, shared),
+            FieldRow::LoadShape { block } => self.shape_of_cas(
+                pass, command, block, places, memory, shared,
+            ),
             row => self.ends(pass, command, row, places, memory, shared),
         }
     }
@@ -558,7 +580,9 @@ impl Local {
             (come_to self.old pass (FieldRow.LoadShape block)) memory.new self.new result }
     {
         match FieldPass::loads_shape(pass, command, block, places, memory, shared) {
-            FieldRow::LoadRegister { wanted } => self.stored_of_swap(pass, command, wanted, places, memory, shared),
+            FieldRow::LoadRegister { wanted } => self.stored_of_swap(
+                pass, command, wanted, places, memory, shared,
+            ),
             row => self.ends(pass, command, row, places, memory, shared),
         }
     }
@@ -583,7 +607,9 @@ impl Local {
             (come_to self.old pass (FieldRow.LoadShape block)) memory.new self.new result }
     {
         match FieldPass::loads_shape(pass, command, block, places, memory, shared) {
-            FieldRow::LoadRegister { wanted } => self.expected_of_cas(pass, command, wanted, places, memory, shared),
+            FieldRow::LoadRegister { wanted } => self.expected_of_cas(
+                pass, command, wanted, places, memory, shared,
+            ),
             row => self.ends(pass, command, row, places, memory, shared),
         }
     }
@@ -608,7 +634,9 @@ impl Local {
             (come_to self.old pass (FieldRow.LoadRegister wanted)) memory.new self.new result }
     {
         match FieldPass::loads_register(pass, command, wanted, places, memory, shared) {
-            FieldRow::Store { store } => self.store_of_swap(pass, command, store, places, memory, shared),
+            FieldRow::Store { store } => self.store_of_swap(
+                pass, command, store, places, memory, shared,
+            ),
             row => self.ends(pass, command, row, places, memory, shared),
         }
     }
@@ -659,7 +687,9 @@ impl Local {
             (come_to self.old pass (FieldRow.LoadRegister wanted)) memory.new self.new result }
     {
         match FieldPass::loads_register(pass, command, wanted, places, memory, shared) {
-            FieldRow::LoadRegister { wanted } => self.register(pass, command, wanted, places, memory, shared),
+            FieldRow::LoadRegister { wanted } => self.register(
+                pass, command, wanted, places, memory, shared,
+            ),
             row => self.ends(pass, command, row, places, memory, shared),
         }
     }
@@ -709,7 +739,9 @@ impl Local {
             (come_to self.old pass (FieldRow.LoadShape block)) memory.new self.new result }
     {
         match FieldPass::loads_shape(pass, command, block, places, memory, shared) {
-            FieldRow::LoadRegister { wanted } => self.register(pass, command, wanted, places, memory, shared),
+            FieldRow::LoadRegister { wanted } => self.register(
+                pass, command, wanted, places, memory, shared,
+            ),
             row => self.ends(pass, command, row, places, memory, shared),
         }
     }

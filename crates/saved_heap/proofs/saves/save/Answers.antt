@@ -3,12 +3,13 @@ use Rattle.heap_pictures.specs.Pictures.{content_of}
 use Rattle.heap_pictures.proofs.Turns.{count_is}
 use Rattle.saved_heap.proofs.saves.save.Goals as goal
 
-pub returns-then-not-can_be_loaded-clause-refused :
-    goal.returns-then-not-can_be_loaded-clause-refused
-returns-then-not-can_be_loaded-clause-refused c =
-    let not : c.can_be_loaded.result ≡ false = search rules in (
+pub returns-then-not-some_is_enough-clause-refused :
+    goal.returns-then-not-some_is_enough-clause-refused
+returns-then-not-some_is_enough-clause-refused c =
+    let not : c.some_is_enough.result ≡ false = search rules in (
       content_of c.in_ok-picture.picture,
       c.in_ok-picture.ensures.picture,
+      c.in_ok-picture.ensures.order,
       (let n = count_is c.in_ok-picture.picture in omega (arith, c.len.ensures, n)),
-      c.can_be_loaded.ensures.no not,
+      c.some_is_enough.ensures.no not,
     )

@@ -1,5 +1,0 @@
-use Rattle.live_handles.specs.Live.{IsSameWorker}
-use Rattle.live_handles.proofs.tests.uses.Given as goal
-
-abbrev pub invariant-loop-round : goal.invariant-loop-round
-invariant-loop-round g l = IsSameWorker l.fn.who l.who

@@ -1,5 +1,0 @@
-use Rattle.live_rings.specs.Live.{IsSameWorker}
-use Rattle.live_rings.proofs.drawn_tests.uses_drawn.Given as goal
-
-abbrev pub invariant-loop-round : goal.invariant-loop-round
-invariant-loop-round g l = IsSameWorker l.fn.who l.who

@@ -1,5 +1,0 @@
-use Rattle.shared_heap.specs.Workers.{IsSame}
-use Rattle.shared_heap.proofs.tests.makes.Given as goal
-
-abbrev pub invariant-loop-number : goal.invariant-loop-number
-invariant-loop-number g l = IsSame l.fn.who l.who

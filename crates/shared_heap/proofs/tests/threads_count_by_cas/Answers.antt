@@ -1,5 +1,0 @@
-use Rattle.shared_heap.proofs.Orders.{in_order_each}
-use Rattle.shared_heap.proofs.tests.threads_count_by_cas.Goals as goal
-
-pub ends_exchanged-workers-requires : goal.ends_exchanged-workers-requires
-ends_exchanged-workers-requires g c = in_order_each c.in-Ok.heap c.in_ok-read.read.items c.in_ok-read.ensures

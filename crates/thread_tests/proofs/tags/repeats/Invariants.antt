@@ -1,0 +1,5 @@
+use Rattle.live_tags.specs.Live.{IsSameWorker}
+use Rattle.thread_tests.proofs.tags.repeats.Given as goal
+
+abbrev pub invariant-loop-round : goal.invariant-loop-round
+invariant-loop-round g l = IsSameWorker l.fn.who l.who

@@ -1,0 +1,162 @@
+//! Calls of `live_handles`.
+#![tactic(auto, using(live_handles::proofs::Crews::of_same))]
+
+ghost use Rattle.std.specs.Prelude.{IfOk};
+ghost use Rattle.live_handles.specs.Live.{AreEachOnce, AreInOrder, IsOf, IsSameWorker};
+
+use live_handles::{HandleWorker, LiveHandles, OpenFault, Refused};
+use std::alloc::Global;
+use std::marker::Model;
+use std::sync::Wait;
+
+// What a slot shows: the id of a handle, and its number.
+pub type Shown = Option<(u64, u64)>;
+
+pub fn open(
+    alloc: Global,
+    slots: u32,
+    threads: u32,
+) -> Result<(LiveHandles, Vec<HandleWorker>), OpenFault>
+    ensures { IfOk result (λ r. AreInOrder r.0 r.1.items) }
+{
+    LiveHandles::open(alloc, slots, threads)
+}
+
+// Why slots are not opened.
+pub fn fault_of(alloc: Global, slots: u32, threads: u32) -> Option<OpenFault> {
+    LiveHandles::open(alloc, slots, threads).err()
+}
+
+pub fn make<R: Wait>(
+    rt: &R,
+    table: &LiveHandles,
+    who: &mut HandleWorker,
+    handle: u8,
+    slot: u32,
+    number: u64,
+) -> Result<bool, Refused>
+    requires { IsOf table.now who.old }
+    ensures own { IsOf table.now who.new }
+    ensures same { IsSameWorker who.old who.new }
+{
+    table.make(rt, who, handle, slot, number)
+}
+
+pub fn see<R: Wait>(
+    rt: &R,
+    table: &LiveHandles,
+    who: &mut HandleWorker,
+    handle: u8,
+) -> Result<bool, Refused>
+    requires { IsOf table.now who.old }
+    ensures own { IsOf table.now who.new }
+    ensures same { IsSameWorker who.old who.new }
+{
+    table.see(rt, who, handle)
+}
+
+pub fn release<R: Wait>(
+    rt: &R,
+    table: &LiveHandles,
+    who: &mut HandleWorker,
+    handle: u8,
+) -> Result<bool, Refused>
+    requires { IsOf table.now who.old }
+    ensures own { IsOf table.now who.new }
+    ensures same { IsSameWorker who.old who.new }
+{
+    table.release(rt, who, handle)
+}
+
+pub fn take<R: Wait>(
+    rt: &R,
+    table: &LiveHandles,
+    who: &mut HandleWorker,
+    slot: u32,
+) -> Result<Shown, Refused>
+    requires { IsOf table.now who.old }
+    ensures own { IsOf table.now who.new }
+    ensures same { IsSameWorker who.old who.new }
+{
+    table.take(rt, who, slot)
+}
+
+pub fn evict<R: Wait>(
+    rt: &R,
+    table: &LiveHandles,
+    who: &mut HandleWorker,
+    slot: u32,
+) -> Result<Shown, Refused>
+    requires { IsOf table.now who.old }
+    ensures own { IsOf table.now who.new }
+    ensures same { IsSameWorker who.old who.new }
+{
+    table.evict(rt, who, slot)
+}
+
+pub fn close(table: LiveHandles, workers: Vec<HandleWorker>) -> u64
+    requires { AreEachOnce table workers.items }
+{
+    table.close(workers)
+}
+
+/// A worker beside its slots.
+#[derive(Drop)]
+pub struct Seat<'t> {
+    table: &'t LiveHandles,
+    who: HandleWorker,
+}
+
+impl<'t> Model for Seat<'t> {
+    ghost use Rattle.live_handles.specs.Live.{IsOf, HandleWorkerState};
+
+    ghost Value = { HandleWorkerState };
+
+    ghost view = { λ s. s.who };
+
+    ghost invariant = { λ s. IsOf s.table.now s.who };
+}
+
+impl<'t> Seat<'t> {
+    pub fn of(table: &'t LiveHandles, who: HandleWorker) -> Seat<'t>
+        requires { IsOf table.now who }
+    {
+        Seat { table, who }
+    }
+
+    pub fn thread(&self) -> u32 {
+        self.who.thread()
+    }
+
+    pub fn make<R: Wait>(
+        &mut self,
+        rt: &R,
+        handle: u8,
+        slot: u32,
+        number: u64,
+    ) -> Result<bool, Refused> {
+        self.table.make(rt, &mut self.who, handle, slot, number)
+    }
+
+    pub fn see<R: Wait>(&mut self, rt: &R, handle: u8) -> Result<bool, Refused> {
+        self.table.see(rt, &mut self.who, handle)
+    }
+
+    pub fn release<R: Wait>(&mut self, rt: &R, handle: u8) -> Result<bool, Refused> {
+        self.table.release(rt, &mut self.who, handle)
+    }
+
+    pub fn take<R: Wait>(&mut self, rt: &R, slot: u32) -> Result<Shown, Refused> {
+        self.table.take(rt, &mut self.who, slot)
+    }
+
+    pub fn evict<R: Wait>(&mut self, rt: &R, slot: u32) -> Result<Shown, Refused> {
+        self.table.evict(rt, &mut self.who, slot)
+    }
+
+    // Makes a note and learns it.
+    pub fn learn_own_note(&mut self) {
+        let note = self.table.note(&mut self.who);
+        self.table.learn(&mut self.who, note);
+    }
+}

@@ -1,0 +1,106 @@
+//! Calls of `live_rings`.
+#![tactic(auto, using(live_rings::proofs::Crews::of_same))]
+
+ghost use Rattle.std.specs.Prelude.{IfOk};
+ghost use Rattle.live_rings.specs.Live.{AreEachOnce, AreInOrder, IsOf, IsSameWorker};
+
+use live_rings::{LiveRings, OpenFault, Refused, RingWorker};
+use std::alloc::Global;
+use std::marker::Model;
+use std::sync::Wait;
+
+pub fn open(alloc: Global, threads: u32) -> Result<(LiveRings, Vec<RingWorker>), OpenFault>
+    ensures { IfOk result (λ r. AreInOrder r.0 r.1.items) }
+{
+    LiveRings::open(alloc, threads)
+}
+
+// Why rings are not opened.
+pub fn fault_of(alloc: Global, threads: u32) -> Option<OpenFault> {
+    LiveRings::open(alloc, threads).err()
+}
+
+pub fn keep<R: Wait>(
+    rt: &R,
+    rings: &LiveRings,
+    who: &mut RingWorker,
+    number: u64,
+) -> Result<(), Refused>
+    requires { IsOf rings.now who.old }
+    ensures own { IsOf rings.now who.new }
+    ensures same { IsSameWorker who.old who.new }
+{
+    rings.keep(rt, who, number)
+}
+
+pub fn recall<R: Wait>(
+    rt: &R,
+    rings: &LiveRings,
+    who: &mut RingWorker,
+    thread: u32,
+    place: u32,
+) -> Result<Option<u64>, Refused>
+    requires { IsOf rings.now who.old }
+    ensures own { IsOf rings.now who.new }
+    ensures same { IsSameWorker who.old who.new }
+{
+    rings.recall(rt, who, thread, place)
+}
+
+pub fn close(rings: LiveRings, workers: Vec<RingWorker>) -> u64
+    requires { AreEachOnce rings workers.items }
+{
+    rings.close(workers)
+}
+
+/// A worker beside its rings.
+#[derive(Drop)]
+pub struct Seat<'t> {
+    rings: &'t LiveRings,
+    who: RingWorker,
+}
+
+impl<'t> Model for Seat<'t> {
+    ghost use Rattle.live_rings.specs.Live.{IsOf, RingWorkerState};
+
+    ghost Value = { RingWorkerState };
+
+    ghost view = { λ s. s.who };
+
+    ghost invariant = { λ s. IsOf s.rings.now s.who };
+}
+
+impl<'t> Seat<'t> {
+    pub fn of(rings: &'t LiveRings, who: RingWorker) -> Seat<'t>
+        requires { IsOf rings.now who }
+    {
+        Seat { rings, who }
+    }
+
+    pub fn thread(&self) -> u32 {
+        self.who.thread()
+    }
+
+    pub fn kept(&self) -> u64 {
+        self.who.kept()
+    }
+
+    pub fn keep<R: Wait>(&mut self, rt: &R, number: u64) -> Result<(), Refused> {
+        self.rings.keep(rt, &mut self.who, number)
+    }
+
+    pub fn recall<R: Wait>(
+        &mut self,
+        rt: &R,
+        thread: u32,
+        place: u32,
+    ) -> Result<Option<u64>, Refused> {
+        self.rings.recall(rt, &mut self.who, thread, place)
+    }
+
+    // Makes a note and learns it.
+    pub fn learn_own_note(&mut self) {
+        let note = self.rings.note(&mut self.who);
+        self.rings.learn(&mut self.who, note);
+    }
+}
