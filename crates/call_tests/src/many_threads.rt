@@ -11,12 +11,12 @@ const COMMANDS: u32 = 20;
 
 /// A job, and what its run writes before the totals.
 #[derive(Drop)]
-struct Drawn {
+struct KnownJob {
     text: String,
     written: String,
 }
 
-impl Drawn {
+impl KnownJob {
     /// Adds drawn commands of a thread, whose replies no other thread can change: it makes objects,
     /// none of which it keeps for long, and shows numbers.
     fn adds_thread(
@@ -54,9 +54,9 @@ impl Drawn {
 const RATE: u32 = 6;
 
 /// A drawn job of so many threads.
-fn drawn(alloc: Global, threads: u32, key: u64) -> Result<Drawn, Fail> {
+fn drawn(alloc: Global, threads: u32, key: u64) -> Result<KnownJob, Fail> {
     let header = "blocks 1024 live 300 object 1 shared 4\n";
-    let mut drawn = Drawn {
+    let mut drawn = KnownJob {
         text: format!(in alloc; "rtheap 1 threads {threads} {header}")?,
         written: String::new(alloc),
     };

@@ -168,7 +168,7 @@ fn a_thread_that_waits_in_the_pace_is_outside_the_gate(rt: HostRuntime) -> Resul
 
 /// Thread 1 begins once thread 0 comes to its second command, and thread 0 makes no event of that
 /// before thread 1 comes to its third.
-const BEFORE: [Hold; 2] = [
+const BETWEEN: [Hold; 2] = [
     Hold {
         thread: 1,
         command: 0,
@@ -193,7 +193,7 @@ fn the_pace_is_told_before_the_command_has_an_effect(rt: HostRuntime) -> Result<
             "set 1 5\nput 0 0 1\nget 2 0 0\n",
             "say 1\nget 1 0 0\nsay 1\n",
         )?;
-        let pace = Held::new(&BEFORE);
+        let pace = Held::new(&BETWEEN);
         let (exit, sink) = made_at(&rt, alloc, &Call::run(text.as_str()), &pace)?;
         assert_eq!(rt; (exit.status, exit.due), (0, 0));
         assert_eq!(rt;
