@@ -3,9 +3,9 @@
 
 Right orders are accepted: those of examples/, and drawn ones. A drawn order is made by a plain heap
 of Python lists, or by `rtheap replay` if that is built. Spoiled orders are refused, at the line
-that was changed if that can't be right: each spoil below says why it never is. The table of
-crates/model_tests/src/orders.rt gets the answers that it has there, and a sample of spoiled orders
-those of `ordercheck`, if that is built.
+that was changed if that can't be right: each spoil below says why it never is. A sample of them
+gets the answers of `ordercheck`, if that is built. Jobs and orders of tests/*.runs get the answers
+that they have there.
 """
 import random
 import re
@@ -20,7 +20,7 @@ REPLIES = ["ok", "nil", "null", "kind", "range", "yes", "no", "len 7", "int 7", 
            "new 0.77 work 7", "new 0.1", "full 1", "idle work 131071", "len", ""]
 # Headers without version, and their rates. In the first no drawn job can have a `full`.
 HEAPS = [("threads 4 blocks 4096 live 2000 object 16 shared 64", 9),
-         ("threads 2 blocks 64 live 20 object 2 shared 4", 8)]
+         ("threads 2 blocks 32 live 20 object 2 shared 4", 32)]
 
 
 class Box:
@@ -52,10 +52,11 @@ class Plain:
         self.threads, self.most, self.words = numbers[0], numbers[3], 4 * version
         shared = Box(f"{self.threads}.0", True, numbers[4], self.words)
         self.registers = [[shared] + [None] * 15 for _ in range(self.threads)]
-        self.rooms = Box("", True, 16, self.words).blocks * self.threads
-        self.made, self.all = [0] * self.threads, self.rooms + shared.blocks
+        self.of_registers = Box("", True, 16, self.words).blocks * self.threads
+        self.made, self.all = [0] * self.threads, self.of_registers + shared.blocks
 
     def live(self):
+        """The blocks of registers and of what they reach."""
         seen = []
 
         def see(value):
@@ -65,49 +66,43 @@ class Plain:
                     see(field)
         for register in sum(self.registers, []):
             see(register)
-        return self.rooms + sum(box.blocks for box in seen)
+        return self.of_registers + sum(box.blocks for box in seen)
 
     def allocate(self, t, is_full):
-        """An allocation, its reply, and its work."""
+        """An allocation, its reply (none for a `full`) and its work; `nil` if it does not fit."""
         d, is_array = self.rand.randrange(1, 16), self.rand.random() < 0.4
-        length = self.rand.choice([0, 1, 2, 3, 4, 5, 7, 8, 9, 15, 16, 17, 40])
+        length = self.rand.choice([0, 1, 2, 3, 4, 5] + [7, 8, 9, 15, 16, 17, 40] * (self.most > 2))
         box = Box(f"{t}.{self.made[t] + 1}", is_array, length, self.words)
-        if box.blocks > self.most or self.most == 16 and self.all + box.blocks > self.limit:
-            return f"nil {d}", self.put(t, d, None), None
-        command, work = f"{'arr' if is_array else 'new'} {d} {length}", self.rate * box.blocks
-        if is_full:
-            return command, None, work
-        self.made[t] += 1
-        self.all += box.blocks
-        self.registers[t][d] = box
-        return command, f"new {box.name}", work
-
-    def put(self, t, d, value):
-        self.registers[t][d] = value
-        return "ok"
+        if box.blocks > self.most or self.most > 2 and self.all + box.blocks > self.limit:
+            self.registers[t][d] = None
+            return f"nil {d}", "ok", None
+        if not is_full:
+            self.made[t] += 1
+            self.all += box.blocks
+            self.registers[t][d] = box
+        command = f"{'arr' if is_array else 'new'} {d} {length}"
+        return command, None if is_full else f"new {box.name}", self.rate * box.blocks
 
     def other(self, t):
         """A command that allocates nothing, and its reply."""
         r, rand = self.registers[t], self.rand
-        a, b, d, i = rand.randrange(16), rand.randrange(16), rand.randrange(1, 16), rand.choice(
-            [0, 0, 1, 2, 3, 7, 16, 2**62 - 1])
-        simple = {"set": (f"set {d} {i}", lambda: self.put(t, d, i)),
-                  "nil": (f"nil {d}", lambda: self.put(t, d, None)),
-                  "mov": (f"mov {d} {a}", lambda: self.put(t, d, r[a])),
-                  "same": (f"same {a} {b}", lambda: "yes" if r[a] == r[b] else "no"),
-                  "say": (f"say {a}", lambda: shown(r[a])),
-                  "idle": (f"idle {i % 100}", lambda: f"idle work {i % 100}")}
+        a, b, d = rand.randrange(16), rand.randrange(16), rand.randrange(1, 16)
+        i = rand.choice([0, 0, 1, 2, 3, 7, 16, 2**62 - 1])
         word = rand.choice(["set", "nil", "mov", "same", "say", "len", "get", "get", "put", "put"]
                            + ["swap", "cas", "cas", "idle"] * (self.version == 2))
-        if word in simple:
-            command, reply = simple[word]
-            return command, reply()
-        command = {"len": f"len {a}", "get": f"get {d} {a} {i}", "put": f"put {a} {i} {b}",
-                   "swap": f"swap {a} {i} {d}", "cas": f"cas {a} {i} {b} {d}"}[word]
-        return command, self.field(t, word, a, i, b, d)
+        operands = {"set": (d, i), "nil": (d,), "mov": (d, a), "same": (a, b), "say": (a,),
+                    "idle": (i % 100,), "len": (a,), "get": (d, a, i), "put": (a, i, b),
+                    "swap": (a, i, d), "cas": (a, i, b, d)}[word]
+        replies = {"same": "yes" if r[a] == r[b] else "no", "say": shown(r[a]),
+                   "idle": f"idle work {i % 100}"}
+        if word in ("set", "nil", "mov"):
+            r[d] = {"set": i, "nil": None, "mov": r[a]}[word]
+            replies[word] = "ok"
+        reply = replies.get(word) or self.field(r, word, a, i, b, d)
+        return " ".join(map(str, (word, *operands))), reply
 
-    def field(self, t, word, a, i, b, d):
-        r = self.registers[t]
+    def field(self, r, word, a, i, b, d):
+        """Does a command on the object in register a, and returns the reply."""
         if not isinstance(r[a], Box):
             return "null" if r[a] is None else "kind"
         fields = r[a].fields
@@ -273,17 +268,34 @@ def replays(rand):
             yield f"replay {k}", job, ran.stdout.splitlines()
 
 
-def table():
-    """The orders before `check`: inputs and answers."""
-    text = (TOP / "crates/model_tests/src/orders.rt").read_text()
-    constants = {name: re.sub(r"\\\n\s*", "", value) for name, value in re.findall(
-        r'const (\w+): &str =\s*"([^"]*)";', text)}
-    jobs = {letter: constants[header] + (body.strip('"') if '"' in body else constants[body])
-            for letter, header, body in re.findall(r'\("(\w)",\s*(\w+),\s*("[^"]*"|\w+),?\s*\)',
-                                                   re.sub(r"\(\s+", "(", text))}
-    for row in constants["ORDERS"].split("\n"):
-        letter, order, wanted = row.split("|")
-        yield letter, (jobs.get(letter, "") + order).replace("/", "\n"), wanted.strip("/")
+def rows():
+    """The rows of one line in tests/*.runs: words, input, and status with output."""
+    for path in sorted(TOP.glob("tests/*.runs")):
+        texts, words = {}, ""
+        for line in path.read_text().splitlines():
+            columns = [column.strip(" ") for column in re.split(r" \|(?= )", line)]
+            if line.startswith("text "):
+                name, texts[name] = line[5:].split(" = ", 1)
+            elif line.startswith("$ "):
+                words = line[2:]
+            elif len(columns) in (3, 4) and line[0] not in "#<>" and "\\" not in line:
+                for name in reversed(texts):
+                    columns[-2] = columns[-2].replace("{%s}" % name, texts[name])
+                yield " ".join([words, *columns[1:-2]]), columns[-2].replace("/", "\n"), columns[-1]
+
+
+def row_fault(words, text, due):
+    """Whether a row has another answer than it wants; None if it is of another kind."""
+    status, said = check_order.answer(text.encode())
+    job, end, after = text.partition("\nend\n")
+    if words == "ordercheck" or words == "rtheap plan" and due[0] in "34" and not after:
+        return [str(status), *said.split(":")[:1]] != [due[0], due[2:].split(": ")[1]]
+    if words == "rtheap plan" and due[0] == "0":
+        return due != f"0 rate {check_order.rate_of(check_order.job_of(text.splitlines())[0])}"
+    if re.match("rtheap replay .* .", words) and due[0] == "0":
+        order = due[2:].replace("/", "\n")
+        return check_order.answer(f"{job}{end}{order}".encode())[0] != 0
+    return None
 
 
 class Tester:
@@ -333,23 +345,21 @@ class Tester:
 def main():
     rand, tester = random.Random(1), Tester()
     for name, job, order in examples():
-        tester.order(rand, name, job, order, 12)
-    for k in range(32):
+        tester.order(rand, name, job, order, 8)
+    for k in range(24):
         job, order, unlicensed = drawn(rand, 1 + k % 2, *HEAPS[k // 2 % 2], 120)
-        tester.order(rand, f"drawn order {k}", job, order, 6, unlicensed[:6])
+        tester.order(rand, f"drawn order {k}", job, order, 5, unlicensed[:5])
     for name, job, order in replays(rand):
-        tester.order(rand, name, job, order, 6)
-    rows = list(table())
-    for letter, text, wanted in rows:
-        status, said = check_order.answer(text.encode())
-        if f"{status} {said}".split(":")[0] != wanted.split(":")[0]:
-            tester.failed.append(f"job {letter}: {status} {said}, wanted {wanted}\n{text}")
+        tester.order(rand, name, job, order, 5)
+    answers = [(words, text, due, row_fault(words, text, due)) for words, text, due in rows()]
+    tester.failed += [f"{words}\n{text}wanted {due}" for words, text, due, bad in answers if bad]
     if tester.failed:
         print("tools/check_order.py: the test failed:", *tester.failed[:5], sep="\n")
         return 1
     print(f"tools/check_order.py: {tester.accepted} orders accepted,"
           f" {sum(tester.refused.values())} spoiled ones refused"
-          f" ({tester.compared} as by ordercheck), {len(rows)} of the table answered")
+          f" ({tester.compared} as by ordercheck),"
+          f" {sum(bad is False for *_, bad in answers)} rows of tests/*.runs right")
     return 0
 
 
