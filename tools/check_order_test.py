@@ -3,9 +3,9 @@
 
 Right orders are accepted: those of examples/, and drawn ones. A drawn order is made by a plain heap
 of Python lists, or by `rtheap replay` if that is built. Spoiled orders are refused, at the line
-that was changed if that can't be right: each spoil below says why it never is. The table of
-crates/model_tests/src/orders.rt gets the answers that it has there, and a sample of spoiled orders
-those of `ordercheck`, if that is built.
+that was changed if that can't be right: each spoil below says why it never is. A sample of them
+gets the answers of `ordercheck`, if that is built. Jobs and orders of tests/*.runs get the answers
+that they have there.
 """
 import random
 import re
@@ -273,17 +273,34 @@ def replays(rand):
             yield f"replay {k}", job, ran.stdout.splitlines()
 
 
-def table():
-    """The orders before `check`: inputs and answers."""
-    text = (TOP / "crates/model_tests/src/orders.rt").read_text()
-    constants = {name: re.sub(r"\\\n\s*", "", value) for name, value in re.findall(
-        r'const (\w+): &str =\s*"([^"]*)";', text)}
-    jobs = {letter: constants[header] + (body.strip('"') if '"' in body else constants[body])
-            for letter, header, body in re.findall(r'\("(\w)",\s*(\w+),\s*("[^"]*"|\w+),?\s*\)',
-                                                   re.sub(r"\(\s+", "(", text))}
-    for row in constants["ORDERS"].split("\n"):
-        letter, order, wanted = row.split("|")
-        yield letter, (jobs.get(letter, "") + order).replace("/", "\n"), wanted.strip("/")
+def rows():
+    """The rows of one line in tests/*.runs: words, input, and status with output."""
+    for path in sorted(TOP.glob("tests/*.runs")):
+        texts, words = {}, ""
+        for line in path.read_text().splitlines():
+            columns = [column.strip(" ") for column in re.split(r" \|(?= )", line)]
+            if line.startswith("text "):
+                name, texts[name] = line[5:].split(" = ", 1)
+            elif line.startswith("$ "):
+                words = line[2:]
+            elif len(columns) in (3, 4) and line[0] not in "#<>" and "\\" not in line:
+                for name in reversed(texts):
+                    columns[-2] = columns[-2].replace("{%s}" % name, texts[name])
+                yield " ".join([words, *columns[1:-2]]), columns[-2].replace("/", "\n"), columns[-1]
+
+
+def row_fault(words, text, due):
+    """Whether a row has another answer than it wants; None if it is of another kind."""
+    status, said = check_order.answer(text.encode())
+    job, end, after = text.partition("\nend\n")
+    if words == "ordercheck" or words == "rtheap plan" and due[0] in "34" and not after:
+        return [str(status), *said.split(":")[:1]] != [due[0], due[2:].split(": ")[1]]
+    if words == "rtheap plan" and due[0] == "0":
+        return due != f"0 rate {check_order.rate_of(check_order.job_of(text.splitlines())[0])}"
+    if re.match("rtheap replay .* .", words) and due[0] == "0":
+        order = due[2:].replace("/", "\n")
+        return check_order.answer(f"{job}{end}{order}".encode())[0] != 0
+    return None
 
 
 class Tester:
@@ -333,23 +350,21 @@ class Tester:
 def main():
     rand, tester = random.Random(1), Tester()
     for name, job, order in examples():
-        tester.order(rand, name, job, order, 12)
-    for k in range(32):
+        tester.order(rand, name, job, order, 8)
+    for k in range(24):
         job, order, unlicensed = drawn(rand, 1 + k % 2, *HEAPS[k // 2 % 2], 120)
-        tester.order(rand, f"drawn order {k}", job, order, 6, unlicensed[:6])
+        tester.order(rand, f"drawn order {k}", job, order, 5, unlicensed[:5])
     for name, job, order in replays(rand):
-        tester.order(rand, name, job, order, 6)
-    rows = list(table())
-    for letter, text, wanted in rows:
-        status, said = check_order.answer(text.encode())
-        if f"{status} {said}".split(":")[0] != wanted.split(":")[0]:
-            tester.failed.append(f"job {letter}: {status} {said}, wanted {wanted}\n{text}")
+        tester.order(rand, name, job, order, 5)
+    answers = [(words, text, due, row_fault(words, text, due)) for words, text, due in rows()]
+    tester.failed += [f"{words}\n{text}wanted {due}" for words, text, due, bad in answers if bad]
     if tester.failed:
         print("tools/check_order.py: the test failed:", *tester.failed[:5], sep="\n")
         return 1
     print(f"tools/check_order.py: {tester.accepted} orders accepted,"
           f" {sum(tester.refused.values())} spoiled ones refused"
-          f" ({tester.compared} as by ordercheck), {len(rows)} of the table answered")
+          f" ({tester.compared} as by ordercheck),"
+          f" {sum(bad is False for *_, bad in answers)} rows of tests/*.runs right")
     return 0
 
 
