@@ -20,7 +20,7 @@ REPLIES = ["ok", "nil", "null", "kind", "range", "yes", "no", "len 7", "int 7", 
            "new 0.77 work 7", "new 0.1", "full 1", "idle work 131071", "len", ""]
 # Headers without version, and their rates. In the first no drawn job can have a `full`.
 HEAPS = [("threads 4 blocks 4096 live 2000 object 16 shared 64", 9),
-         ("threads 2 blocks 64 live 20 object 2 shared 4", 8)]
+         ("threads 2 blocks 32 live 20 object 2 shared 4", 32)]
 
 
 class Box:
@@ -70,7 +70,7 @@ class Plain:
     def allocate(self, t, is_full):
         """An allocation, its reply, and its work."""
         d, is_array = self.rand.randrange(1, 16), self.rand.random() < 0.4
-        length = self.rand.choice([0, 1, 2, 3, 4, 5, 7, 8, 9, 15, 16, 17, 40])
+        length = self.rand.choice([0, 1, 2, 3, 4, 5] + [7, 8, 9, 15, 16, 17, 40] * (self.most > 2))
         box = Box(f"{t}.{self.made[t] + 1}", is_array, length, self.words)
         if box.blocks > self.most or self.most == 16 and self.all + box.blocks > self.limit:
             return f"nil {d}", self.put(t, d, None), None
