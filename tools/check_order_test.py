@@ -52,10 +52,11 @@ class Plain:
         self.threads, self.most, self.words = numbers[0], numbers[3], 4 * version
         shared = Box(f"{self.threads}.0", True, numbers[4], self.words)
         self.registers = [[shared] + [None] * 15 for _ in range(self.threads)]
-        self.rooms = Box("", True, 16, self.words).blocks * self.threads
-        self.made, self.all = [0] * self.threads, self.rooms + shared.blocks
+        self.of_registers = Box("", True, 16, self.words).blocks * self.threads
+        self.made, self.all = [0] * self.threads, self.of_registers + shared.blocks
 
     def live(self):
+        """The blocks of registers and of what they reach."""
         seen = []
 
         def see(value):
@@ -65,49 +66,43 @@ class Plain:
                     see(field)
         for register in sum(self.registers, []):
             see(register)
-        return self.rooms + sum(box.blocks for box in seen)
+        return self.of_registers + sum(box.blocks for box in seen)
 
     def allocate(self, t, is_full):
-        """An allocation, its reply, and its work."""
+        """An allocation, its reply (none for a `full`) and its work; `nil` if it does not fit."""
         d, is_array = self.rand.randrange(1, 16), self.rand.random() < 0.4
         length = self.rand.choice([0, 1, 2, 3, 4, 5] + [7, 8, 9, 15, 16, 17, 40] * (self.most > 2))
         box = Box(f"{t}.{self.made[t] + 1}", is_array, length, self.words)
-        if box.blocks > self.most or self.most == 16 and self.all + box.blocks > self.limit:
-            return f"nil {d}", self.put(t, d, None), None
-        command, work = f"{'arr' if is_array else 'new'} {d} {length}", self.rate * box.blocks
-        if is_full:
-            return command, None, work
-        self.made[t] += 1
-        self.all += box.blocks
-        self.registers[t][d] = box
-        return command, f"new {box.name}", work
-
-    def put(self, t, d, value):
-        self.registers[t][d] = value
-        return "ok"
+        if box.blocks > self.most or self.most > 2 and self.all + box.blocks > self.limit:
+            self.registers[t][d] = None
+            return f"nil {d}", "ok", None
+        if not is_full:
+            self.made[t] += 1
+            self.all += box.blocks
+            self.registers[t][d] = box
+        command = f"{'arr' if is_array else 'new'} {d} {length}"
+        return command, None if is_full else f"new {box.name}", self.rate * box.blocks
 
     def other(self, t):
         """A command that allocates nothing, and its reply."""
         r, rand = self.registers[t], self.rand
-        a, b, d, i = rand.randrange(16), rand.randrange(16), rand.randrange(1, 16), rand.choice(
-            [0, 0, 1, 2, 3, 7, 16, 2**62 - 1])
-        simple = {"set": (f"set {d} {i}", lambda: self.put(t, d, i)),
-                  "nil": (f"nil {d}", lambda: self.put(t, d, None)),
-                  "mov": (f"mov {d} {a}", lambda: self.put(t, d, r[a])),
-                  "same": (f"same {a} {b}", lambda: "yes" if r[a] == r[b] else "no"),
-                  "say": (f"say {a}", lambda: shown(r[a])),
-                  "idle": (f"idle {i % 100}", lambda: f"idle work {i % 100}")}
+        a, b, d = rand.randrange(16), rand.randrange(16), rand.randrange(1, 16)
+        i = rand.choice([0, 0, 1, 2, 3, 7, 16, 2**62 - 1])
         word = rand.choice(["set", "nil", "mov", "same", "say", "len", "get", "get", "put", "put"]
                            + ["swap", "cas", "cas", "idle"] * (self.version == 2))
-        if word in simple:
-            command, reply = simple[word]
-            return command, reply()
-        command = {"len": f"len {a}", "get": f"get {d} {a} {i}", "put": f"put {a} {i} {b}",
-                   "swap": f"swap {a} {i} {d}", "cas": f"cas {a} {i} {b} {d}"}[word]
-        return command, self.field(t, word, a, i, b, d)
+        operands = {"set": (d, i), "nil": (d,), "mov": (d, a), "same": (a, b), "say": (a,),
+                    "idle": (i % 100,), "len": (a,), "get": (d, a, i), "put": (a, i, b),
+                    "swap": (a, i, d), "cas": (a, i, b, d)}[word]
+        replies = {"same": "yes" if r[a] == r[b] else "no", "say": shown(r[a]),
+                   "idle": f"idle work {i % 100}"}
+        if word in ("set", "nil", "mov"):
+            r[d] = {"set": i, "nil": None, "mov": r[a]}[word]
+            replies[word] = "ok"
+        reply = replies.get(word) or self.field(r, word, a, i, b, d)
+        return " ".join(map(str, (word, *operands))), reply
 
-    def field(self, t, word, a, i, b, d):
-        r = self.registers[t]
+    def field(self, r, word, a, i, b, d):
+        """Does a command on the object in register a, and returns the reply."""
         if not isinstance(r[a], Box):
             return "null" if r[a] is None else "kind"
         fields = r[a].fields
