@@ -351,6 +351,13 @@ def main():
         tester.order(rand, f"drawn order {k}", job, order, 5, unlicensed[:5])
     for name, job, order in replays(rand):
         tester.order(rand, name, job, order, 5)
+    none = ["rtheap 1 threads 1 blocks 64 live 20 object 2 shared 0", "thread 0", "end"]
+    tester.order(rand, "no command", none, ["start 1", "end cycles 1 work 0"], 2)
+    tester.wrong("no command", none, ["end cycles 0 work 0"], "no start", 1)
+    for count, wanted in ((131072, "order line 1"), (131073, "line 131075")):
+        text = "\n".join([*none[:2], *["nil 1"] * count, "end"])
+        if check_order.answer(text.encode())[1].split(":")[0] != wanted:
+            tester.failed.append(f"a trace of {count} commands: {wanted} is due")
     answers = [(words, text, due, row_fault(words, text, due)) for words, text, due in rows()]
     tester.failed += [f"{words}\n{text}wanted {due}" for words, text, due, bad in answers if bad]
     if tester.failed:
