@@ -11,7 +11,6 @@ use saved_heap::Renewal;
 use std::alloc::Global;
 use std::io;
 use std::time::Instant;
-use trace_text::{StdSink, put_line};
 
 pub fn open(alloc: Global, config: Config) -> Result<ControlHeap, Stop> {
     match ControlHeap::open(alloc, config) {
@@ -166,13 +165,6 @@ pub fn push(times: &mut Vec<u64>, time: u64) -> Result<(), Stop> {
 
 pub fn number_of(word: &str) -> Option<u64> {
     trace_text::number_of(word.as_bytes())
-}
-
-pub fn print(rt: &HostRuntime, text: &str) -> Result<(), Stop> {
-    match put_line(text.as_bytes(), 0, &mut StdSink::new(rt.stdout())) {
-        0 => Ok(()),
-        _ => Err(Stop::WriteFault),
-    }
 }
 
 pub fn print_number(rt: &HostRuntime, name: &str, number: u64) -> Result<(), Stop> {
