@@ -1,5 +1,5 @@
 //! Calls of the libraries, one in each function. They promise nothing, so that no contract of a
-//! library is read again where one is called.
+//! library is read again where one is called. Those in timed loops are in line.
 
 use crate::stop::Stop;
 use block_store::{Config, Value};
@@ -141,6 +141,7 @@ pub fn finish(renewal: Renewal) -> Result<ControlHeap, Stop> {
     }
 }
 
+#[inline(always)]
 pub fn now(rt: &HostRuntime) -> Result<Instant, Stop> {
     match Instant::now(rt) {
         Ok(time) => Ok(time),
@@ -149,6 +150,7 @@ pub fn now(rt: &HostRuntime) -> Result<Instant, Stop> {
 }
 
 /// The nanoseconds since a time.
+#[inline(always)]
 pub fn since(rt: &HostRuntime, start: &Instant) -> Result<u64, Stop> {
     match start.elapsed(rt) {
         Ok(time) => Ok(u64::try_from(time.as_nanos()).unwrap_or(u64::MAX)),
@@ -156,6 +158,7 @@ pub fn since(rt: &HostRuntime, start: &Instant) -> Result<u64, Stop> {
     }
 }
 
+#[inline(always)]
 pub fn push(times: &mut Vec<u64>, time: u64) -> Result<(), Stop> {
     match times.push(time) {
         Ok(()) => Ok(()),
