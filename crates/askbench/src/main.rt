@@ -17,6 +17,7 @@ use program_words::{Question, words_of};
 use std::process::ExitCode;
 use stop::Stop;
 use task::Task;
+use trace_text::{StdSink, put_line};
 
 /// The heap, of blocks of eight words: at most 1,024 of its 4,096 blocks are live.
 const HEAP: Config = Config {
@@ -47,7 +48,7 @@ fn start(rt: &HostRuntime) -> Result<(), Stop> {
 
 fn obey(rt: &HostRuntime, words: &[String]) -> Result<(), Stop> {
     if let Some(question) = Question::of(words) {
-        return slim::print(rt, question.answer(HELP, VERSION));
+        return say(rt, question.answer(HELP, VERSION));
     }
     match Task::of(words) {
         Some(task) => run(rt, task),
@@ -61,5 +62,12 @@ fn run(rt: &HostRuntime, task: Task) -> Result<(), Stop> {
         Task::Steps(heap) => steps::most(rt, heap),
         Task::Make { command, times } => steps::make(rt, command, times),
         Task::Day { saves, renewals } => day::run(rt, saves, renewals),
+    }
+}
+
+fn say(rt: &HostRuntime, text: &str) -> Result<(), Stop> {
+    match put_line(text.as_bytes(), 0, &mut StdSink::new(rt.stdout())) {
+        0 => Ok(()),
+        _ => Err(Stop::WriteFault),
     }
 }

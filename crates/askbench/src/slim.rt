@@ -1,5 +1,5 @@
 //! Calls of the libraries, one in each function. They promise nothing, so that no contract of a
-//! library is read again where one is called.
+//! library is read again where one is called. Those in timed loops are in line.
 
 use crate::stop::Stop;
 use block_store::{Config, Value};
@@ -11,7 +11,6 @@ use saved_heap::Renewal;
 use std::alloc::Global;
 use std::io;
 use std::time::Instant;
-use trace_text::{StdSink, put_line};
 
 pub fn open(alloc: Global, config: Config) -> Result<ControlHeap, Stop> {
     match ControlHeap::open(alloc, config) {
@@ -142,6 +141,7 @@ pub fn finish(renewal: Renewal) -> Result<ControlHeap, Stop> {
     }
 }
 
+#[inline(always)]
 pub fn now(rt: &HostRuntime) -> Result<Instant, Stop> {
     match Instant::now(rt) {
         Ok(time) => Ok(time),
@@ -150,6 +150,7 @@ pub fn now(rt: &HostRuntime) -> Result<Instant, Stop> {
 }
 
 /// The nanoseconds since a time.
+#[inline(always)]
 pub fn since(rt: &HostRuntime, start: &Instant) -> Result<u64, Stop> {
     match start.elapsed(rt) {
         Ok(time) => Ok(u64::try_from(time.as_nanos()).unwrap_or(u64::MAX)),
@@ -157,6 +158,7 @@ pub fn since(rt: &HostRuntime, start: &Instant) -> Result<u64, Stop> {
     }
 }
 
+#[inline(always)]
 pub fn push(times: &mut Vec<u64>, time: u64) -> Result<(), Stop> {
     match times.push(time) {
         Ok(()) => Ok(()),
@@ -166,13 +168,6 @@ pub fn push(times: &mut Vec<u64>, time: u64) -> Result<(), Stop> {
 
 pub fn number_of(word: &str) -> Option<u64> {
     trace_text::number_of(word.as_bytes())
-}
-
-pub fn print(rt: &HostRuntime, text: &str) -> Result<(), Stop> {
-    match put_line(text.as_bytes(), 0, &mut StdSink::new(rt.stdout())) {
-        0 => Ok(()),
-        _ => Err(Stop::WriteFault),
-    }
 }
 
 pub fn print_number(rt: &HostRuntime, name: &str, number: u64) -> Result<(), Stop> {

@@ -18,6 +18,7 @@ use std::thread::Threads;
 use std::time::Clock;
 use stop::Stop;
 use task::Task;
+use trace_text::{StdSink, put_line};
 
 fn main(rt: HostRuntime) -> ExitCode {
     match start(&rt, &rt) {
@@ -44,7 +45,7 @@ fn obey<R: Threads + Wait + Clock + Sync>(
     words: &[String],
 ) -> Result<(), Stop> {
     if let Some(question) = Question::of(words) {
-        return slim::print(rt, question.answer(HELP, VERSION));
+        return say(rt, question.answer(HELP, VERSION));
     }
     match Task::of(words) {
         Some(task) => run(rt, threads, task),
@@ -60,5 +61,12 @@ fn run<R: Threads + Wait + Clock + Sync>(
     match task {
         Task::Commands(plan) => commands::run(rt, threads, plan),
         Task::Tags(rounds) => tags::run(rt, threads, rounds),
+    }
+}
+
+fn say(rt: &HostRuntime, text: &str) -> Result<(), Stop> {
+    match put_line(text.as_bytes(), 0, &mut StdSink::new(rt.stdout())) {
+        0 => Ok(()),
+        _ => Err(Stop::WriteFault),
     }
 }

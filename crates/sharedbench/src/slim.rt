@@ -3,7 +3,7 @@
 
 ghost use Rattle.std.specs.Prelude.{◌≡◌, IfOk};
 ghost use Rattle.shared_heap.specs.Workers as heaps;
-ghost use Rattle.live_tags.specs.Live.{AreInOrder, IsOf};
+ghost use Rattle.live_tags.specs.Live.{AreEachOnce, IsOf};
 
 use crate::stop::Stop;
 use block_store::Config;
@@ -13,7 +13,7 @@ use shared_heap::{SharedHeap, Worker};
 use std::alloc::Global;
 use std::sync::Wait;
 use std::time::Clock;
-use trace_text::{Job, StdSink, StdSource, put_line, read_trace};
+use trace_text::{Job, StdSource, read_trace};
 
 /// How many places the table of tags has.
 const PLACES: u32 = 100;
@@ -26,7 +26,7 @@ pub fn read_job(rt: &HostRuntime) -> Result<Job, Stop> {
 }
 
 pub fn open(alloc: Global, config: Config) -> Result<(SharedHeap, Vec<Worker>), Stop>
-    ensures { IfOk result (λ r. heaps.AreInOrder r.0 r.1.items) }
+    ensures { IfOk result (λ r. heaps.AreEachOnce r.0 r.1.items) }
 {
     match SharedHeap::open(alloc, config) {
         Ok(opened) => Ok(opened),
@@ -51,7 +51,7 @@ pub fn ask<R: Wait>(
 }
 
 pub fn open_tags(alloc: Global, threads: u32) -> Result<(LiveTags, Vec<TagWorker>), Stop>
-    ensures { IfOk result (λ r. AreInOrder r.0 r.1.items) }
+    ensures { IfOk result (λ r. AreEachOnce r.0 r.1.items) }
 {
     match LiveTags::open(alloc, PLACES, threads) {
         Ok(opened) => Ok(opened),
@@ -142,13 +142,6 @@ fn fill(room: &mut Vec<u64>, times: u64) -> Result<(), Stop> {
 
 pub fn number_of(word: &str) -> Option<u64> {
     trace_text::number_of(word.as_bytes())
-}
-
-pub fn print(rt: &HostRuntime, text: &str) -> Result<(), Stop> {
-    match put_line(text.as_bytes(), 0, &mut StdSink::new(rt.stdout())) {
-        0 => Ok(()),
-        _ => Err(Stop::WriteFault),
-    }
 }
 
 /// Prints the median of times of commands or operations, what 999 of 1,000 are within, and the
