@@ -76,27 +76,6 @@ pub fn ends<R: Threads + Wait + Sync + Abort>(
     Ok(())
 }
 
-/// The most bytes of an input.
-const MOST: usize = 16_777_216;
-
-/// Whether an input of the most bytes is read whole, and refused for the line behind its end; and
-/// whether one of a byte more is too long.
-pub fn reads_no_more<R: Threads + Wait + Sync + Abort>(
-    rt: &R,
-    alloc: Global,
-    program: Program,
-    script: &str,
-    (whole, long): (&str, &str),
-) -> Result<(), Fail> {
-    let mut input = Vec::from_slice(alloc, script.as_bytes())?;
-    for _byte in input.len()..MOST {
-        input.push(b'x')?;
-    }
-    ends(rt, alloc, program, &Call::of(&input), (3, 3), whole)?;
-    input.push(b'x')?;
-    ends(rt, alloc, program, &Call::of(&input), (3, 3), long)
-}
-
 /// How many records a run made, if each made so many units, and no other command any.
 pub fn records_at<L: Logs>(run: &L, units: u64) -> Option<u64> {
     let mut records = 0u64;

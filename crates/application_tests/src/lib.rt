@@ -10,11 +10,7 @@ mod handle_calls;
 #[cfg(test)]
 mod handle_deeds;
 #[cfg(test)]
-mod handle_scripts;
-#[cfg(test)]
 mod plant;
-#[cfg(test)]
-mod refused;
 #[cfg(test)]
 mod replaying;
 mod shown_job;
@@ -22,5 +18,3 @@ mod shown_job;
 mod tag_calls;
 #[cfg(test)]
 mod tag_deeds;
-#[cfg(test)]
-mod tag_scripts;

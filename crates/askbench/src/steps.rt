@@ -1,6 +1,9 @@
 //! The most operations of each command, and requests of one kind.
 
-use crate::{HEAP, fill, number_in};
+use crate::HEAP;
+use crate::slim::{ask, most_operations, open, print_number};
+use crate::stop::Stop;
+use crate::times::fill;
 use block_store::Config;
 use control_heap::ControlHeap;
 use never_heap::Command;
@@ -8,98 +11,84 @@ use never_heap::Command;
 /// The fields of a record in each of its blocks, of eight payload words.
 const FIELDS: u32 = 7;
 
-/// A command of each kind, by a name. The indexes are 0.
-fn kinds(heap: &Config) -> [(&'static str, Command); 13] {
-    let largest = heap.object.saturating_mul(FIELDS);
-    [
-        ("new", Command::New { d: 1, fields: 2 }),
-        (
-            "largest",
-            Command::New {
-                d: 1,
-                fields: largest,
-            },
-        ),
-        ("get", Command::Get { d: 3, s: 2, i: 0 }),
-        ("put", Command::Put { s: 1, i: 1, v: 2 }),
-        ("swap", Command::Swap { s: 1, i: 1, v: 2 }),
-        (
-            "cas",
-            Command::Cas {
-                s: 1,
-                i: 1,
-                a: 3,
-                v: 2,
-            },
-        ),
-        ("set", Command::Set { d: 4, value: 7 }),
-        ("nil", Command::Nil { d: 5 }),
-        ("mov", Command::Mov { d: 6, s: 2 }),
-        ("len", Command::Len { s: 2 }),
-        ("same", Command::Same { a: 1, b: 2 }),
-        ("say", Command::Say { s: 2 }),
-        ("idle", Command::Idle { units: 10 }),
-    ]
-}
+/// The kinds of requests: the commands, and the allocation of the largest record.
+const KINDS: [&str; 13] = [
+    "new", "largest", "get", "put", "swap", "cas", "set", "nil", "mov", "len", "same", "say",
+    "idle",
+];
 
-/// Prints the rate of a heap and the most operations of each command: of the heap that is timed, or
-/// of one with these numbers of blocks, live blocks, blocks of an object and shared elements.
-pub fn most(rt: &HostRuntime, words: &[String]) -> Option<()> {
-    let heap = ControlHeap::open(rt.alloc(), config_of(words)?).ok()?;
-    let rate = heap.rate();
-    println!(rt; "rate {rate}").ok()?;
-    for (name, command) in kinds(heap.config()) {
-        let most = most_of(&heap, &command)?;
-        println!(rt; "{name} {most}").ok()?;
-    }
-    Some(())
-}
-
-/// The configuration that the words after the first give, or that of the heap that is timed.
-fn config_of(words: &[String]) -> Option<Config> {
-    match words.len() {
-        1 => Some(HEAP),
-        5 => Some(Config {
-            blocks: size_in(words, 1)?,
-            live: size_in(words, 2)?,
-            object: size_in(words, 3)?,
-            shared: size_in(words, 4)?,
-            ..HEAP
+/// A command of a kind on a heap. The indexes are 0 or 1.
+pub fn command_of(kind: &str, heap: &Config) -> Option<Command> {
+    match kind {
+        "new" => Some(Command::New { d: 1, fields: 2 }),
+        "largest" => Some(largest(heap)),
+        "get" => Some(Command::Get { d: 3, s: 2, i: 0 }),
+        "put" => Some(Command::Put { s: 1, i: 1, v: 2 }),
+        "swap" => Some(Command::Swap { s: 1, i: 1, v: 2 }),
+        "cas" => Some(Command::Cas {
+            s: 1,
+            i: 1,
+            a: 3,
+            v: 2,
         }),
+        "set" => Some(Command::Set { d: 4, value: 7 }),
+        _ => other_of(kind),
+    }
+}
+
+fn other_of(kind: &str) -> Option<Command> {
+    match kind {
+        "nil" => Some(Command::Nil { d: 5 }),
+        "mov" => Some(Command::Mov { d: 6, s: 2 }),
+        "len" => Some(Command::Len { s: 2 }),
+        "same" => Some(Command::Same { a: 1, b: 2 }),
+        "say" => Some(Command::Say { s: 2 }),
+        "idle" => Some(Command::Idle { units: 10 }),
         _ => None,
     }
 }
 
-fn size_in(words: &[String], place: usize) -> Option<u32> {
-    u32::try_from(number_in(words, place)?).ok()
+fn largest(heap: &Config) -> Command {
+    let fields = heap.object.saturating_mul(FIELDS);
+    Command::New { d: 1, fields }
 }
 
-/// The most operations of a command, where it is in bounds.
-fn most_of(heap: &ControlHeap, command: &Command) -> Option<u64> {
-    if command.in_bounds(heap.config()) {
-        Some(heap.most_operations(command))
-    } else {
-        None
+/// Prints the rate of a heap, and the most operations of each command.
+pub fn most(rt: &HostRuntime, config: Config) -> Result<(), Stop> {
+    let heap = open(rt.alloc(), config)?;
+    tell_most(rt, &heap, &config)
+}
+
+fn tell_most(rt: &HostRuntime, heap: &ControlHeap, config: &Config) -> Result<(), Stop> {
+    print_number(rt, "rate", heap.rate())?;
+    for kind in KINDS {
+        tell_kind(rt, heap, config, kind)?;
+    }
+    Ok(())
+}
+
+fn tell_kind(
+    rt: &HostRuntime,
+    heap: &ControlHeap,
+    config: &Config,
+    kind: &str,
+) -> Result<(), Stop> {
+    match command_of(kind, config) {
+        Some(command) => print_number(rt, kind, most_operations(heap, &command)?),
+        None => Err(Stop::Usage),
     }
 }
 
-/// Makes as many requests of a kind as the words say, on a heap with live records.
-pub fn make(rt: &HostRuntime, words: &[String]) -> Option<()> {
-    let kind = words.get(1)?.as_str();
-    let times = number_in(words, 2)?;
-    let mut heap = ControlHeap::open(rt.alloc(), HEAP).ok()?;
-    fill(&mut heap)?;
-    for (name, command) in kinds(&HEAP) {
-        if name == kind {
-            return requests(&mut heap, command, times);
-        }
-    }
-    None
+/// Makes so many requests on a heap with live records.
+pub fn make(rt: &HostRuntime, command: Command, times: u64) -> Result<(), Stop> {
+    let mut heap = open(rt.alloc(), HEAP)?;
+    make_on(&mut heap, command, times)
 }
 
-fn requests(heap: &mut ControlHeap, command: Command, times: u64) -> Option<()> {
+fn make_on(heap: &mut ControlHeap, command: Command, times: u64) -> Result<(), Stop> {
+    fill(heap)?;
     for _ in 0..times {
-        heap.ask(command).ok()?;
+        ask(heap, command)?;
     }
-    Some(())
+    Ok(())
 }

@@ -1,8 +1,10 @@
 -- A thread that is driven by a memory, and a mutator after turns by the words that they read.
-use Rattle.std.specs.Prelude.{ℕ, ◌+◌, ◌≡◌, false, List, [], ◌∷◌}
+use Rattle.std.specs.Prelude.{ℕ, ◌+◌, ◌≡◌, Bool, true, false, List, [], ◌∷◌, length}
+use Rattle.block_store.specs.Phases.{bit}
 use Rattle.heap_machine.specs.Memories.{Acts}
 use Rattle.heap_system.specs.ThreadMemories.{Ran}
 use Rattle.heap_system.specs.Locals.{LocalState, LocalReads, is_done, local_got}
+use Rattle.heap_system.specs.Parts.{Part, Rest, Leave}
 use Rattle.atom_board.specs.Mutators.{MutatorState}
 
 -- The memory made events of the thread one after the other: each is the one that the thread wants
@@ -25,3 +27,14 @@ MadeTurns m (w ∷ ws) n = (is_done m.local ≡ false) × LocalReads m.local.con
 pub record HasTurnedBy (old new : MutatorState) : Type 0 where
   pub words : List ℕ
   pub made : MadeTurns old words new
+
+-- a thread in this part has made an event of the command behind its log
+abbrev pub has_begun : Part → Bool
+has_begun Rest = false
+has_begun Leave = false
+has_begun _ = true
+
+-- How many commands a thread has begun: those in its log, and the one of which it has made an
+-- event. The pace may be told of a command only before that.
+abbrev pub commands_begun : LocalState → ℕ
+commands_begun l = length l.log + bit (has_begun l.part)

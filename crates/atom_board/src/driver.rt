@@ -4,6 +4,7 @@ ghost use Rattle.std.specs.Prelude.{◌≡◌, true, length};
 ghost use Rattle.heap_system.specs.Locals.{is_done};
 ghost use Rattle.atom_board.specs.Drives.{HasDriven};
 
+use crate::telling::Teller;
 use crossbeam_utils::Backoff;
 use heap_system::{Local, Pace, ThreadMemory, Turn};
 use std::sync::Wait;
@@ -34,17 +35,16 @@ pub fn drives<C: ThreadMemory, R: Wait, Q: Pace>(
     ensures done { is_done local.new ≡ true }
     ensures driven { HasDriven C.acts shared.now memory.old local.old memory.new local.new }
 {
+    let mut teller = Teller::new(pace);
     let backoff = Backoff::new();
     // How far it had got when it last waited, where it has got no further since.
     let mut waited = None;
     for _ in rt.forever() {
-        if local.at_rest() {
-            if local.done() {
-                return;
-            }
-            pace.before(rt, local.thread(), local.log().len() as u64);
+        if local.done() {
+            return;
         }
-        match local.events(memory, shared) {
+        teller.tell_at_rest(rt, local);
+        match teller.events(memory, shared, local) {
             Turn::Waited => {
                 waited = Some(progress(local));
                 backoff.snooze();

@@ -8,6 +8,7 @@ mod laws;
 mod mutator;
 mod port;
 mod rules;
+mod telling;
 
 pub use board::AtomBoard;
 pub use closed::Closed;

@@ -153,8 +153,7 @@ fn ringed(alloc: Global, rings: &str, count: u32) -> Result<String, AllocError> 
 
 #[test]
 fn a_heap_of_words_answers_as_the_heap_that_never_frees(rt: HostRuntime) -> Result<(), Fail> {
-    let (commands, _written) = EACH_KIND;
-    let text = job(rt.alloc(), commands)?;
+    let text = job(rt.alloc(), EACH_KIND)?;
     runs_agree(&rt, rt.alloc(), text.as_str(), &[])?;
     for rings in [RINGS, WIDE_RINGS] {
         for count in [0, 300] {

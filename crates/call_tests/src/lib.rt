@@ -4,15 +4,17 @@
 #[cfg(test)]
 mod comparing;
 #[cfg(test)]
-mod generated;
+mod faults;
+#[cfg(test)]
+mod many_threads;
+#[cfg(test)]
+mod paced;
 #[cfg(test)]
 mod recorded;
-#[cfg(test)]
-mod scheduled;
 #[cfg(test)]
 mod several;
 mod starts;
 #[cfg(test)]
-mod testing;
+mod stopping;
 #[cfg(test)]
-mod tests;
+mod testing;

@@ -3,14 +3,13 @@
 use heap_system::{NoPace, Pace};
 use rtheap_core::{Exit, rtheap};
 use std::alloc::{AllocError, Global};
-use std::process::Abort;
 use std::sync::Wait;
 use std::test::Fail;
 use std::thread::Threads;
 use trace_text::{MemSink, MemSource};
 
 /// A job without commands, with the lines `thread 0` and `end` left out.
-pub const HEADER: &str = "rtheap 1 threads 1 blocks 64 live 20 object 2 shared 0\nthread 0\n";
+const HEADER: &str = "rtheap 1 threads 1 blocks 64 live 20 object 2 shared 0\nthread 0\n";
 
 /// The most bytes that a sink of these tests takes.
 const ROOM: usize = 1 << 22;
@@ -38,7 +37,7 @@ impl<'a> Call<'a> {
     }
 }
 
-pub fn texts(alloc: Global, words: &[&str]) -> Result<Vec<String>, AllocError> {
+fn texts(alloc: Global, words: &[&str]) -> Result<Vec<String>, AllocError> {
     let mut all = Vec::new(alloc);
     for word in words {
         all.push(String::from_str(alloc, word)?)?;
@@ -83,33 +82,8 @@ pub fn job(alloc: Global, commands: &str) -> Result<String, AllocError> {
     format!(in alloc; "{HEADER}{commands}end\n")
 }
 
-/// Makes a call whose input comes in pieces of 7 bytes, and compares its status and what it wrote.
-pub fn answers(
-    rt: &(impl Abort + Threads + Wait + Sync),
-    alloc: Global,
-    word: &str,
-    input: &str,
-    status: u8,
-    written: &str,
-) -> Result<(), Fail> {
-    let words = [word];
-    let call = Call {
-        words: &words,
-        ..Call::run(input)
-    };
-    let (exit, sink) = made(rt, alloc, &call)?;
-    assert_eq!(rt;
-        (exit.status, exit.due),
-        (status, status),
-        "{word}: {input}"
-    );
-    assert_eq!(rt; sink.bytes(), written.as_bytes(), "{word}: {input}");
-    Ok(())
-}
-
-/// Commands of every kind, and what they answer.
-pub const EACH_KIND: (&str, &str) = (
-    "new 1 2
+/// Commands of every kind.
+pub const EACH_KIND: &str = "new 1 2
 set 2 5
 put 1 1 2
 get 3 1 1
@@ -125,23 +99,4 @@ put 4 0 2
 say 1
 say 0
 len 0
-",
-    "0 new 0.1 work 7
-0 ok
-0 ok
-0 int 5
-0 range
-0 int 5
-0 null
-0 kind
-0 len 2
-0 null
-0 yes
-0 no
-0 null
-0 ref 0.1
-0 ref 1.0
-0 len 0
-end cycles 1 work 7
-",
-);
+";

@@ -13,6 +13,4 @@ mod failing;
 mod held;
 mod held_system;
 #[cfg(test)]
-mod limits;
-#[cfg(test)]
 mod plain_reader;

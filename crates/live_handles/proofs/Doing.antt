@@ -9,12 +9,14 @@ use Rattle.never_heap.specs.declared.Reply.{Reply}
 use Rattle.never_heap.specs.declared.Reply.TheVariants as answers
 use Rattle.never_heap.proofs.CommandBounds.{plain_fits}
 use Rattle.operations.proofs.Pairs.{◌▸◌}
+use Rattle.heap_system.specs.Locals.{LocalState}
+use Rattle.shared_heap.specs.Stamps.{HasDrawn}
 use Rattle.shared_heap.specs.Workers.{HasSeenIts, WorkerState}
 use Rattle.handle_table.specs.Handles.{Deed, Make, See, Drop, Take, Evict, handle_config, id}
 use Rattle.live_rows.specs.Life.{HasBegun, HasRoomFor, HasRun, last_three}
 use Rattle.live_rows.specs.Rows.{replies}
 use Rattle.live_rows.specs.Workers.{IsNext}
-use Rattle.live_rows.proofs.Doing.{ops_are, still, was_done}
+use Rattle.live_rows.proofs.Doing.{ops_are, row_kept, still, was_done}
 use Rattle.live_handles.specs.declared.request.Request.{Request}
 use Rattle.live_handles.specs.declared.request.Request.TheVariants as asks
 use Rattle.live_handles.specs.Decoding.{deeds_of}
@@ -200,3 +202,17 @@ module _ (old : WorkerState) (made : ℕ) (slots : List (Option ℕ)) (is : Keep
               ∙ slots_more (λ g. None) w.done (deed_of w request)
               ∙ slots_of_next request (slot_by w.done)));
         }
+
+-- a worker that drew a stamp keeps the same
+pub keeps_still : (old new : WorkerState) (n made : ℕ) (slots : List (Option ℕ))
+    → HasDrawn old n new → Keeps old made slots → Keeps new made slots
+keeps_still old new n made slots drawn is =
+    let same : old.thread ≡ new.thread = sym drawn.thread in
+    record {
+      worker = row_kept handles old new n drawn is.worker;
+      made_so = subst (λ (l : LocalState). made ≡ made_by (deeds_of l.thread l.trace)) same
+          is.made_so;
+      few = is.few;
+      slots_so = subst (λ (l : LocalState). (h : ℕ) → h < 8
+          → slice_index_or slots h None ≡ slot_by (deeds_of l.thread l.trace) h) same is.slots_so;
+    }

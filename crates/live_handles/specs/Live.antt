@@ -169,6 +169,10 @@ HasSeenAll w = workers.HasSeenAll handles w
 abbrev pub HasDone : HandleWorkerState → Deed → Answer → HandleWorkerState → Type 0
 HasDone old op a new = workers.HasDone handles old op a new
 
+-- the worker drew a stamp with this number, and executed nothing
+abbrev pub HasDrawn : HandleWorkerState → ℕ → HandleWorkerState → Type 0
+HasDrawn old n new = workers.HasDrawn old n new
+
 -- the same worker of the same slots
 abbrev pub IsSameWorker : HandleWorkerState → HandleWorkerState → Type 0
 IsSameWorker old new = workers.IsSameWorker old new
@@ -188,6 +192,7 @@ IsOpenFault slots threads faults.NoMemory =
 
 -- All deeds of all workers have one order, which keeps the order of each worker, and in which each
 -- was answered as by a plain list of slots. It is that of a history of the heap, in which no
--- allocation was answered full, and which is that of a run of the machine with so many cycles.
+-- allocation was answered full, and which is that of a run of the machine with so many cycles. It
+-- keeps the real-time order of a timeline that has the invocations of all commands.
 abbrev pub HaveOneTable : Config → List HandleWorkerState → ℕ → Type 0
 HaveOneTable c ws cycles = orders.HaveOneOrder handles c ws cycles

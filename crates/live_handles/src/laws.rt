@@ -8,8 +8,8 @@ ghost use Rattle.heap_system.specs.Systems.{Whole};
 ghost use Rattle.shared_heap.specs.declared.rules.View.{View};
 ghost use Rattle.shared_heap.specs.Shared.{SharedKept};
 ghost use Rattle.handle_table.specs.Handles.{Deed};
-ghost use Rattle.live_rows.specs.Orders.{OperationsAreInOrder, OperationsComeBehind, StandBehindWhatWasSeen};
-ghost use Rattle.live_rows.specs.SoFar.{WorkAllAlong};
+ghost use Rattle.live_rows.specs.Orders.{OperationsAreInOrder, OperationsComeAfter, OperationsComeAfterStamps, StandBehindWhatWasSeen};
+ghost use Rattle.live_rows.specs.SoFar.{SeenComesBeforeLater, WorkAllAlong};
 ghost use Rattle.live_handles.specs.Live.{IsHandleHeap, handles};
 ghost use Rattle.live_handles.specs.SoFar.{AllSeats, Execute, FitsOneTable, IsBetween, IsWorking};
 
@@ -20,14 +20,21 @@ pub fn deeds_stand_behind_what_was_seen()
     ensures { StandBehindWhatWasSeen handles }
 {}
 
-/// Real-time order, of deeds that are closed. One that began after all that some worker had seen
-/// comes, in the order, behind all that that worker had done (`behind`). Of two, either the second
-/// began after all that the worker of the first had seen when the first returned, or the invocation
-/// of its first command stands among what that worker had seen then, so that it began before the
-/// first returned (`either`).
+/// Real-time order, of deeds of closed slots. One that began after all that some worker had seen
+/// comes, in the order, after all that that worker had done (`after`). Of two, either the second
+/// began after all that the worker of the first had seen when the first returned, or the
+/// invocation of its first command is in what that worker had seen then, so that it began before
+/// the first returned (`either`).
 pub fn deeds_keep_real_time()
-    ensures behind { OperationsComeBehind handles }
+    ensures after { OperationsComeAfter handles }
     ensures either { OperationsAreInOrder handles }
+{}
+
+/// In the order of closed slots, a deed that began after a worker's stamp, such as each later one
+/// of that worker, comes after all deeds that another had done at a stamp that is no greater. Or
+/// 2^64 stamps were drawn (`shared_heap::stamps_are_in_order`).
+pub fn deeds_come_after_stamps()
+    ensures { OperationsComeAfterStamps handles }
 {}
 
 /// Suppose that the rule of the heap's table holds, as it does between any two steps of any
@@ -49,6 +56,16 @@ pub fn what_was_answered_is_the_slots()
     ensures meanwhile { (k : Whole) (s : table.State Command View) (kept : SharedKept k s)
         → IsHandleHeap k.config → (scripts : List (List Deed)) → Execute k.config s scripts
         → FitsOneTable k.config s scripts kept.run.order }
+{}
+
+/// Real-time order, of two states of one table, in the first of which its rule holds. The
+/// deeds that are complete in what a worker had seen in the first come, in the order that the
+/// second has, before all that any thread began later.
+///
+/// What a worker has seen in the first state it has seen in each later one, since only its own
+/// steps change that, and they append to it.
+pub fn deeds_seen_come_before_later_ones()
+    ensures { SeenComesBeforeLater handles }
 {}
 
 /// At each moment of a deed its worker's thread is in the middle of it, or between two of them:

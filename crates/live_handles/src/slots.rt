@@ -6,7 +6,7 @@ ghost use Rattle.shared_heap.specs.Workers.{CanOpen};
 ghost use Rattle.handle_table.specs.Handles.{Matched, Found};
 ghost use Rattle.live_handles.specs.declared.request.Request.TheVariants as asks;
 ghost use Rattle.live_handles.specs.Kept.{HasSmallId};
-ghost use Rattle.live_handles.specs.Live.{AreInOrder, AreFresh, AreEachOnce, CanDo, HasDone, HasSeenAll, HaveOneTable, IsInRange, IsMade, IsOf, IsOpenFault, IsRefused, IsSameWorker, IsTableInRange, answer_by, commands_of, deed_of, has_learned, opened_config, slots_of};
+ghost use Rattle.live_handles.specs.Live.{AreInOrder, AreFresh, AreEachOnce, CanDo, HasDone, HasDrawn, HasSeenAll, HaveOneTable, IsInRange, IsMade, IsOf, IsOpenFault, IsRefused, IsSameWorker, IsTableInRange, answer_by, commands_of, deed_of, has_learned, opened_config, slots_of};
 
 use crate::commands::{
     evict_commands, found, id_of, in_range, is_known, is_yes, made_next, make_commands, objects_in,
@@ -343,6 +343,17 @@ impl LiveHandles {
     {
         let HandleNote { note } = note;
         self.rows.learn(&mut who.worker, note);
+    }
+
+    /// Draws a stamp for a worker of these slots, as `shared_heap::SharedHeap::stamp` does. The
+    /// deeds that a worker does after a stamp come after all that another had done before a
+    /// stamp that is no greater, unless 2^64 were drawn (`deeds_come_after_stamps`).
+    pub fn stamp(&self, who: &mut HandleWorker) -> u64
+        requires { IsOf self.now who.old }
+        ensures drawn { HasDrawn who.old result who.new }
+        ensures all { HasSeenAll who.new }
+    {
+        self.rows.stamp(&mut who.worker)
     }
 
     /// Closes the slots. It takes all of their workers, each once, in any order. All deeds that

@@ -10,12 +10,14 @@ use Rattle.never_heap.specs.declared.Reply.{Reply}
 use Rattle.never_heap.specs.declared.Reply.TheVariants as answers
 use Rattle.never_heap.proofs.CommandBounds.{plain_fits}
 use Rattle.operations.proofs.Pairs.{◌▸◌}
+use Rattle.heap_system.specs.Locals.{LocalState}
+use Rattle.shared_heap.specs.Stamps.{HasDrawn}
 use Rattle.shared_heap.specs.Workers.{HasSeenIts, WorkerState}
 use Rattle.number_rings.specs.Rings.{Operation, Keep, Recall, cell_config}
 use Rattle.live_rows.specs.Life.{HasBegun, HasRoomFor, HasRun, MakeObjects, last_three}
 use Rattle.live_rows.specs.Rows.{replies}
 use Rattle.live_rows.specs.Workers.{IsNext}
-use Rattle.live_rows.proofs.Doing.{ops_are, still, was_done}
+use Rattle.live_rows.proofs.Doing.{ops_are, row_kept, still, was_done}
 use Rattle.live_rings.specs.declared.request.Request.{Request}
 use Rattle.live_rings.specs.declared.request.Request.TheVariants as asks
 use Rattle.live_rings.specs.Decoding.{operations_of}
@@ -145,3 +147,16 @@ module _ (old : WorkerState) (kept : ℕ) (is : Knows old kept) (request : Reque
             room.commands,
           );
         }
+
+-- a worker that drew a stamp keeps the same
+pub knows_still : (old new : WorkerState) (n kept : ℕ) → HasDrawn old n new → Knows old kept
+    → Knows new kept
+knows_still old new n kept drawn is =
+    let same : old.thread ≡ new.thread = sym drawn.thread in
+    record {
+      worker = row_kept rings old new n drawn is.worker;
+      places = subst (λ (l : LocalState). l.config.shared ≡ 8 * l.config.threads) same is.places;
+      low = subst (λ (l : LocalState). l.thread < l.config.threads) same is.low;
+      kept_so = subst (λ (l : LocalState). kept ≡ kept_by (operations_of l.trace)) same is.kept_so;
+      few = is.few;
+    }

@@ -154,6 +154,10 @@ HasSeenAll w = workers.HasSeenAll rings w
 abbrev pub HasDone : RingWorkerState → Operation → Cell → RingWorkerState → Type 0
 HasDone old op a new = workers.HasDone rings old op a new
 
+-- the worker drew a stamp with this number, and executed nothing
+abbrev pub HasDrawn : RingWorkerState → ℕ → RingWorkerState → Type 0
+HasDrawn old n new = workers.HasDrawn old n new
+
 -- the same worker of the same rings
 abbrev pub IsSameWorker : RingWorkerState → RingWorkerState → Type 0
 IsSameWorker old new = workers.IsSameWorker old new
@@ -171,7 +175,8 @@ IsOpenFault threads faults.NoMemory = AreRingsInRange threads × CanOpen (ring_c
 
 -- All operations of all workers have one order, which keeps the order of each worker, and in which
 -- each was answered as by a plain array of places. It is that of a history of the heap, in which no
--- allocation was answered full, and which is that of a run of the machine with so many cycles.
+-- allocation was answered full, and which is that of a run of the machine with so many cycles. It
+-- keeps the real-time order of a timeline that has the invocations of all commands.
 abbrev pub HaveOneOrder : Config → List RingWorkerState → ℕ → Type 0
 HaveOneOrder c ws cycles = orders.HaveOneOrder rings c ws cycles
 

@@ -11,8 +11,9 @@ mod worker;
 
 pub use faults::{OpenFault, Refused};
 pub use laws::{
-    operations_keep_real_time, operations_stand_behind_what_was_seen,
-    what_was_answered_is_the_arrays,
+    operations_come_after_stamps, operations_keep_real_time,
+    operations_seen_come_before_later_ones, operations_stand_behind_what_was_seen,
+    what_was_answered_is_the_arrays, workers_are_at_work_all_along,
 };
 pub use note::RingNote;
 pub use rings::LiveRings;

@@ -5,7 +5,7 @@ ghost use Rattle.shared_heap.specs.Workers as heaps;
 ghost use Rattle.shared_heap.specs.Workers.{CanOpen};
 ghost use Rattle.number_rings.specs.Rings.{ring_config};
 ghost use Rattle.live_rings.specs.declared.request.Request.TheVariants as asks;
-ghost use Rattle.live_rings.specs.Live.{AreInOrder, AreFresh, AreEachOnce, AreRingsInRange, CanDo, HasDone, HasSeenAll, HaveOneOrder, IsInRange, IsOf, IsOpenFault, IsRefused, IsSameWorker, answer_by, commands_of, has_learned, operation_of, threads_of};
+ghost use Rattle.live_rings.specs.Live.{AreInOrder, AreFresh, AreEachOnce, AreRingsInRange, CanDo, HasDone, HasDrawn, HasSeenAll, HaveOneOrder, IsInRange, IsOf, IsOpenFault, IsRefused, IsSameWorker, answer_by, commands_of, has_learned, operation_of, threads_of};
 
 use crate::commands::{
     in_range, keep_commands, kept_next, next_place, number, objects_in, recall_commands,
@@ -209,6 +209,17 @@ impl LiveRings {
     {
         let RingNote { note } = note;
         self.rows.learn(&mut who.worker, note);
+    }
+
+    /// Draws a stamp for a worker of these rings, as `shared_heap::SharedHeap::stamp` does. The
+    /// operations that a worker does after a stamp come after all that another had done before a
+    /// stamp that is no greater, unless 2^64 were drawn (`operations_come_after_stamps`).
+    pub fn stamp(&self, who: &mut RingWorker) -> u64
+        requires { IsOf self.now who.old }
+        ensures drawn { HasDrawn who.old result who.new }
+        ensures all { HasSeenAll who.new }
+    {
+        self.rows.stamp(&mut who.worker)
     }
 
     /// Closes the rings. It takes all of their workers, each once, in any order. All operations

@@ -2,10 +2,8 @@
 use Rattle.std.proofs.Common.{◌≡◌, ℕ, ◌+◌, ◌<◌, ◌≤◌, inl, inr, refl, arith, subst, sym, ap, ◌∙◌, append_assoc, List, [], ◌∷◌, ◌++◌, length, map, get_or, take, drop}
 use Rattle.std.specs.List.{AllByRecursion}
 use Rattle.std.proofs.lemmas.Bool.{cases_eq}
-use Rattle.std.proofs.lemmas.List.{append-nil, append_cancel_right, map-append, take_more, take_all, at_drop_more}
+use Rattle.std.proofs.lemmas.List.{append-nil, map-append, take_more, take_all, at_drop_more}
 use Rattle.block_store.specs.declared.Config.{Config}
-use Rattle.never_heap.specs.Histories.{part}
-use Rattle.never_heap.proofs.HistoryGrowth.{part_append}
 use Rattle.never_heap.specs.Bounds.{IsCommandInBounds}
 use Rattle.never_heap.specs.declared.Command.{Command}
 use Rattle.never_heap.specs.declared.Entry.{Entry}
@@ -13,7 +11,9 @@ use Rattle.never_heap.specs.declared.Reply.{Reply}
 use Rattle.never_heap.specs.declared.Reply.TheVariants as answers
 use Rattle.shared_heap.specs.Workers.{WorkerState, HasRoom, HasAnswered, HasMade, IsSame}
 use Rattle.shared_heap.specs.declared.rules.Moment.TheVariants as moments
+use Rattle.shared_heap.proofs.Behind.{part_before}
 use Rattle.shared_heap.proofs.Crews.{same_here, same_on}
+use Rattle.shared_heap.proofs.RealTime.{invoked_before}
 use Rattle.shared_heap.proofs.Views.{starts_on}
 use Rattle.live_rows.specs.Life.{Executes, HasBegun, HasRoomFor, HasRun, last_three}
 use Rattle.live_rows.proofs.Rooms.{room_one, room_rest}
@@ -74,33 +74,27 @@ run_more a b c ks k p r run same is made = record {
 }
 
 -- the first command begins, and the others go on
-begun_first : (old new : WorkerState) (k : Command) (a : Reply) → IsSame old new
-    → HasAnswered old k a new → HasBegun old new
-begun_first old new k a same is =
-    let t = old.thread.thread in
-    let whole : part t is.start ++ is.entry ∷ [] ≡ old.thread.log ++ is.entry ∷ [] =
-    ap (λ l. part t is.start ++ l) (sym is.own)
-    ∙ sym (part_append t is.start is.items)
-    ∙ ap (part t) (sym is.seen)
-    ∙ ap (λ u. part u new.seen) (sym same.thread)
-    ∙ is.sound.its ∙ is.told in
-    record {
-      start = is.start;
-      before = is.before;
-      noted = is.noted;
-      own = append_cancel_right (part t is.start) old.thread.log (is.entry ∷ []) whole;
-      on = (is.items, is.seen);
-      notes = is.notes;
-      past = is.past;
-      command = k;
-      began = is.began;
-      started = is.started;
-      invoked = (
-        is.later,
-        is.timeline ∙ sym (append_assoc is.past (moments.Invoked t k ∷ []) is.later),
-      );
-      sound = is.sound;
-    }
+begun_first : (old new : WorkerState) (k : Command) (a : Reply) → HasAnswered old k a new
+    → HasBegun old new
+begun_first old new k a is = record {
+  start = is.start;
+  before = is.before;
+  noted = is.noted;
+  own = part_before old new k a is;
+  on = (is.items, is.seen);
+  notes = is.notes;
+  past = is.past;
+  command = k;
+  began = is.began;
+  started = is.started;
+  earlier = invoked_before old new k a is;
+  invoked = (
+    is.later,
+    is.timeline
+        ∙ sym (append_assoc is.past (moments.Invoked old.thread.thread k ∷ []) is.later),
+  );
+  sound = is.sound;
+}
 
 begun_more : (first old new : WorkerState) (k : Command) (a : Reply) → HasBegun first old
     → HasAnswered old k a new → HasBegun first new
@@ -121,6 +115,7 @@ begun_more first old new k a b is = record {
   command = b.command;
   began = b.began;
   started = b.started;
+  earlier = b.earlier;
   invoked = starts_on (b.past ++ moments.Invoked first.thread.thread b.command ∷ []) old.timeline
       new.timeline b.invoked
       (starts_on old.timeline is.past new.timeline is.began
@@ -172,7 +167,7 @@ module _ (first : WorkerState) (ks : List Command) (i : ℕ) (p : Three) (now : 
   at_next next r same is made = record {
     none = λ e. absurd (omega arith);
     begun = λ some. elim (cases_eq i 0) [
-      | inl e ↦ subst (λ w. HasBegun w next) (at.none e) (begun_first now next k r same is)
+      | inl e ↦ subst (λ w. HasBegun w next) (at.none e) (begun_first now next k r is)
       | inr ne ↦ begun_more first now next k r (at.begun (omega arith)) is
     ];
     run = subst (λ l. HasRun first l (moved_on p r) next) (sym (take_more ks i d low))

@@ -24,7 +24,7 @@ use Rattle.shared_heap.proofs.Stamps.{stamps_in_order}
 use Rattle.shared_heap.proofs.Timelines.{before_or_after, history_start}
 use Rattle.shared_heap.proofs.Views.{starts_on}
 use Rattle.atom_board.proofs.Crews.{get_or_map}
-use Rattle.live_rows.specs.Orders.{HasScript, HaveOneOrder, OperationsAreInOrder, OperationsComeBehind, OperationsComeBehindStamps, StandBehindWhatWasSeen}
+use Rattle.live_rows.specs.Orders.{HasScript, HaveOneOrder, OperationsAreInOrder, OperationsComeAfter, OperationsComeAfterStamps, StandBehindWhatWasSeen}
 use Rattle.live_rows.specs.Rows.{Rows, IsRowHeap, answers_of, commands_in, commands_of, replies}
 use Rattle.live_rows.specs.Workers.{IsRowWorker, RowWorkerState, heap_worker, row_worker, thread_of}
 use Rattle.live_rows.proofs.Cuts.{stands}
@@ -159,7 +159,7 @@ module _ {Op Row Answer S : Type 0} (a : Rows Op Row Answer S) (law : Lawful a)
         script = its;
         answers = (λ i. answers_of a (its i) (replies (p.told i))) ∙ sym (orders.1.told t);
         invoked = p.invoked;
-        lined = p.lined;
+        on_timeline = p.on_timeline;
         seen = p.seen;
       }
 
@@ -185,9 +185,9 @@ module _ {Op Row Answer S : Type 0} (a : Rows Op Row Answer S) (law : Lawful a)
               (script_had t low (get_or ws j.0 nobody) (j.2 nobody)),
         ));
     ordered = one.ordered;
-    follow = one.follow;
+    formed = one.formed;
     real_time = keeps_real_time a law scripts one.order orders.0 orders.1.deciding one.timeline
-        one.ordered one.follow;
+        one.ordered one.formed;
     starts = one.starts;
     least_units = one.least_units;
     most_units = one.most_units;
@@ -211,10 +211,10 @@ stands_behind a law c ws cycles is old new other op answer did all seen more =
     (ap (part u) seen.1 ∙ part_append u other.worker.seen seen.0 ∙ ap (λ l. l ++ part u seen.0) all.its)
     all.rows did.own did.was.rows
 
--- An operation comes behind what was seen before it began.
-pub come_behind : {Op Row Answer S : Type 0} (a : Rows Op Row Answer S) (law : Lawful a)
-    → OperationsComeBehind a
-come_behind a law c ws cycles is v x y op answer did sound all lined line =
+-- An operation comes after what was seen before it began.
+pub come_after : {Op Row Answer S : Type 0} (a : Rows Op Row Answer S) (law : Lawful a)
+    → OperationsComeAfter a
+come_after a law c ws cycles is v x y op answer did sound all lined line =
     let begun : IsStartOf v.worker.seen did.start =
     subst (λ h. IsStartOf h did.start) (sym sound.ordered)
     (subst (λ h. IsStartOf (history_of v.worker.timeline) h) (sym did.started)
@@ -239,19 +239,21 @@ are_in_order a c ws cycles is u v x y op next answer told first second lined the
     before_or_after v.worker.timeline lined.0 second.past call (second.invoked.0 ++ then_lined.0)
     whole
 
--- An operation comes behind what its worker's stamp tells.
-pub come_behind_stamps : {Op Row Answer S : Type 0} (a : Rows Op Row Answer S) (law : Lawful a)
-    → OperationsComeBehindStamps a
-come_behind_stamps a law c ws cycles is u v x y z n m op answer first all second low did lined then_lined =
-    let on : IsStartOf y.worker.timeline z.worker.timeline =
-    starts_on y.worker.timeline did.past z.worker.timeline did.began (
-      moments.Invoked (thread_of y) did.command ∷ did.invoked.0,
-      did.invoked.1 ∙ append_assoc did.past (moments.Invoked (thread_of y) did.command ∷ [])
+-- An operation that began after a stamp comes after what was done before a stamp that is no greater.
+pub come_after_stamps : {Op Row Answer S : Type 0} (a : Rows Op Row Answer S) (law : Lawful a)
+    → OperationsComeAfterStamps a
+come_after_stamps a law c ws cycles is u v x y w z n m op answer first all second low did begun lined then_lined =
+    let past_then : IsStartOf did.past z.worker.timeline = (
+      moments.Invoked (thread_of w) did.command ∷ did.invoked.0,
+      did.invoked.1 ∙ append_assoc did.past (moments.Invoked (thread_of w) did.command ∷ [])
           did.invoked.0,
     ) in
+    let on : IsStartOf y.worker.timeline is.timeline =
+    starts_on y.worker.timeline did.past is.timeline begun
+    (starts_on did.past z.worker.timeline is.timeline past_then then_lined) in
     elim (stamps_in_order is.timeline u.worker v.worker x.worker y.worker n m first.drawn
-    second.drawn low lined (starts_on y.worker.timeline z.worker.timeline is.timeline on then_lined)) [
-      | inl line ↦ inl (come_behind a law c ws cycles is v y z op answer did first.drawn.sound all
-          then_lined (starts_on v.worker.timeline y.worker.timeline did.past line did.began))
+    second.drawn low lined on) [
+      | inl line ↦ inl (come_after a law c ws cycles is v w z op answer did first.drawn.sound all
+          then_lined (starts_on v.worker.timeline y.worker.timeline did.past line begun))
       | inr many ↦ inr many
     ]

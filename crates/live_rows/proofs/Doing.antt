@@ -133,6 +133,7 @@ module _ {Op Row Answer S : Type 0} (a : Rows Op Row Answer S) (law : Lawful a)
     command = begun.command;
     began = begun.began;
     started = begun.started;
+    earlier = begun.earlier;
     invoked = begun.invoked;
     sound = begun.sound;
     executes = run.executes;

@@ -1,4 +1,4 @@
--- The operations that are complete at a moment come before those that begin after it.
+-- The operations that are complete in a prefix of the timeline come before those that begin after it.
 use Rattle.std.proofs.Common.{◌≡◌, ℕ, zero, suc, ◌-◌, ◌≤◌, Option, Some, None, List, [], ◌∷◌, ◌++◌, length, map, take, drop, slice_index_or, sym, refl, ap, ◌∙◌, arith}
 use Rattle.std.specs.Prelude.{flat_map}
 use Rattle.std.proofs.lemmas.List.{append-nil, length-map, take-append-drop}
@@ -6,11 +6,14 @@ use Rattle.never_heap.specs.Histories.{HistoryItem, part}
 use Rattle.operations.specs.Applications.{ops_in, op_by}
 use Rattle.operations.specs.Linearizations.{Call, decided_behind}
 use Rattle.shared_heap.specs.declared.rules.Moment.{Moment}
-use Rattle.shared_heap.specs.Shared.{EntriesFollow, IsStartOf, history_of}
-use Rattle.shared_heap.proofs.Timelines.{history_start}
+use Rattle.shared_heap.specs.Shared.{IsWellFormed, IsStartOf, history_of}
+use Rattle.shared_heap.proofs.RealTime.{has_invoked, line_of}
+use Rattle.shared_heap.proofs.Timelines.{history_start, invoked_start}
+use Rattle.shared_heap.proofs.Views.{starts_on}
 use Rattle.live_rows.specs.Behind.{operations_in}
 use Rattle.live_rows.specs.RealTime.{ComeBefore, KeepsRealTime}
 use Rattle.live_rows.specs.Rows.{Rows, commands_of}
+use Rattle.live_rows.specs.SoFar.{SeenComesBeforeLater}
 use Rattle.live_rows.proofs.Lawful.{Lawful}
 use Rattle.live_rows.proofs.AnswersOfOperations.{rows_more}
 use Rattle.live_rows.proofs.Cuts.{IsSplit, decided_so_far, ops_behind, ops_of, ops_of_calls, pair_of_call, split_behind, split_map, whole_ops}
@@ -99,9 +102,23 @@ module _ {Op Row Answer S : Type 0} (a : Rows Op Row Answer S) (law : Lawful a)
       few = has_few u m few;
     }
 
-  pub keeps_real_time : (timeline : List Moment) → h ≡ history_of timeline → EntriesFollow timeline
+  pub keeps_real_time : (timeline : List Moment) → h ≡ history_of timeline → IsWellFormed timeline
       → KeepsRealTime a scripts timeline order
-  keeps_real_time timeline is follow p begins t n u m many few =
+  keeps_real_time timeline is formed p begins t n u m many few =
       let s = history_start p timeline begins in
       come_before (history_of p) (s.0, is ∙ s.1) t n u m many
-      (omega (arith, follow p begins u, few))
+      (omega (arith, (formed p begins u).0, few))
+
+-- What was seen in one state of a table comes, in a later one, before what began after it.
+pub seen_before_later : {Op Row Answer S : Type 0} (a : Rows Op Row Answer S)
+    → SeenComesBeforeLater a
+seen_before_later a k s later now p was still h seat scripts history fits t n m complete few =
+    let there = still.seat in
+    let begins : IsStartOf p fits.timeline =
+    starts_on p still.worker.past.seen fits.timeline still.seen (fits.each there.0 _ there.2).1.0 in
+    fits.real_time p begins t n h.local.thread m complete (omega (
+      arith,
+      few,
+      invoked_start h.local.thread p now.timeline (line_of k s now p was),
+      ap length (has_invoked k s now h seat),
+    ))

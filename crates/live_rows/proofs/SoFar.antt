@@ -362,7 +362,7 @@ module _ {Op Row Answer S : Type 0} (a : Rows Op Row Answer S) (law : Lawful a) 
         → AllThreads (HaveInvoked kept.timeline) hs
     all_invoked [] fit = tt
     all_invoked (h ∷ hs) fit = (
-      kept.lined.invoked h.local.thread fit.0.0
+      kept.timeline_of.invoked h.local.thread fit.0.0
           ∙ sym (ap (λ (l : LocalState). l.trace) (own_of h fit.0)),
       all_invoked hs fit.1,
     )
@@ -382,10 +382,10 @@ module _ {Op Row Answer S : Type 0} (a : Rows Op Row Answer S) (law : Lawful a) 
         (kept.each id v at).1,
         all_invoked v.threads (kept.each id v at).0,
       );
-      ordered = kept.lined.ordered;
-      follow = kept.lined.follow;
+      ordered = kept.timeline_of.ordered;
+      formed = kept.timeline_of.formed;
       real_time = keeps_real_time a law scripts history orders.0 orders.1.deciding kept.timeline
-          kept.lined.ordered kept.lined.follow;
+          kept.timeline_of.ordered kept.timeline_of.formed;
     }
 
   -- ---- a moment at which all workers are between two operations

@@ -12,7 +12,7 @@ use Rattle.heap_system.specs.Locals.{LocalState, works}
 use Rattle.never_heap.specs.Histories.{HistoryItem, part}
 use Rattle.shared_heap.specs.declared.rules.Moment.{Moment}
 use Rattle.shared_heap.specs.declared.rules.Moment.TheVariants as moments
-use Rattle.shared_heap.specs.Shared.{IsStartOf, history_of}
+use Rattle.shared_heap.specs.Shared.{IsStartOf, history_of, invoked_in}
 use Rattle.shared_heap.specs.Workers.{AllStart, HasMade, HasSeenIts, IsSame, WorkerState}
 
 -- the lifetime of a thread allows all of these commands
@@ -46,10 +46,11 @@ pub record HasRun (old : WorkerState) (ks : List Command) (p : Reply × Reply ×
   pub commands : map (λ (e : Entry). e.command) entries ≡ ks
   pub last : p ≡ last_three replies.Null replies.Null replies.Null (map (λ (e : Entry). e.reply) entries)
 
--- What the worker had seen before these commands, and each note that it had learned, is a prefix
--- of a history `start`, in which it did nothing more. That is a prefix of what it has seen now. In
--- the timeline that it has seen now, the invocation of the first command stands right behind `past`,
--- whose history is `start` and of which the timeline that it had seen is a prefix.
+-- What the worker had seen before these commands, and each note that it had learned, is a prefix of
+-- a history `start`, in which it did nothing more. That is a prefix of what it has seen now. The
+-- timeline that it has seen now has the invocation of the first command directly after `past`,
+-- whose history is `start`. The timeline that it had seen is a prefix of `past`, which has the
+-- invocations of the worker's earlier commands and no others of it.
 pub record HasBegun (old new : WorkerState) : Type 0 where
   pub start : List HistoryItem
   pub before : IsStartOf old.seen start
@@ -61,6 +62,7 @@ pub record HasBegun (old new : WorkerState) : Type 0 where
   pub command : Command
   pub began : IsStartOf old.timeline past
   pub started : start ≡ history_of past
+  pub earlier : invoked_in old.thread.thread past ≡ old.thread.trace
   pub invoked : IsStartOf (past ++ moments.Invoked old.thread.thread command ∷ []) new.timeline
   pub sound : HasSeenIts new
 

@@ -8,7 +8,7 @@ use Rattle.never_heap.specs.Runs.{IsRun}
 use Rattle.operations.specs.Linearizations.{Call, IsLinearization, traces_of}
 use Rattle.shared_heap.specs.declared.rules.Moment.{Moment}
 use Rattle.shared_heap.specs.declared.rules.Moment.TheVariants as moments
-use Rattle.shared_heap.specs.Shared.{EntriesFollow, IsStartOf, history_of, invoked_in, stamps_in}
+use Rattle.shared_heap.specs.Shared.{IsWellFormed, IsStartOf, history_of, invoked_in, stamps_in}
 use Rattle.shared_heap.specs.Workers.{HasSeenIts, IsOfMachine}
 use Rattle.live_rows.specs.Behind.{StandsBehind, answers_in}
 use Rattle.live_rows.specs.RealTime.{KeepsRealTime}
@@ -25,16 +25,15 @@ pub record HasScript {Op Answer : Type 0} (scripts : List (List Op)) (timeline :
   pub script : w.done ≡ slice_index_or scripts t []
   pub answers : w.answers ≡ answers_in t order
   pub invoked : invoked_in t timeline ≡ w.worker.thread.trace
-  pub lined : IsStartOf w.worker.timeline timeline
+  pub on_timeline : IsStartOf w.worker.timeline timeline
   pub seen : IsStartOf w.worker.seen history
 
 -- There is a history of the job of some scripts, with a linearization and with no allocation that
 -- was answered full. Each worker did the operations of one script, in its order. Its answers are
 -- those of a plain table in the order of the linearization. The number of cycles is that of the
 -- history, whose units of work are within the bounds of so many cycles, and which is that of a run
--- of the machine. It is the history of a timeline that has the invocations of all commands, each
--- before its entry and after all that its worker had seen, and the order keeps the real-time order
--- of that timeline.
+-- of the machine. It is the history of a well-formed timeline that has the invocations of all
+-- commands, and the order keeps the real-time order of that timeline.
 pub record HaveOneOrder {Op Row Answer S : Type 0} (a : Rows Op Row Answer S) (c : Config)
     (ws : List (RowWorkerState Op Answer)) (cycles : ℕ) : Type 0 where
   pub scripts : List (List Op)
@@ -53,7 +52,7 @@ pub record HaveOneOrder {Op Row Answer S : Type 0} (a : Rows Op Row Answer S) (c
       × ((d : RowWorkerState Op Answer)
       → HasScript scripts timeline history order t (slice_index_or ws j d))
   pub ordered : history ≡ history_of timeline
-  pub follow : EntriesFollow timeline
+  pub formed : IsWellFormed timeline
   pub real_time : KeepsRealTime a scripts timeline order
   pub starts : cycles ≡ starts_in history
   pub least_units : (cycles - 1) * c.blocks ≤ work_in history
@@ -72,9 +71,9 @@ module _ {Op Row Answer S : Type 0} (a : Rows Op Row Answer S) where
       → StandsBehind is.order (thread_of other) other.done (thread_of old) old.done
 
   -- An operation of a closed table that began after all that some worker had seen comes, in the
-  -- order, behind all operations that that worker had done.
-  abbrev pub OperationsComeBehind : Type 0
-  OperationsComeBehind =
+  -- order, after all operations that that worker had done.
+  abbrev pub OperationsComeAfter : Type 0
+  OperationsComeAfter =
       (c : Config) (ws : List (RowWorkerState Op Answer)) (cycles : ℕ)
       (is : HaveOneOrder a c ws cycles) (v x y : RowWorkerState Op Answer) (op : Op)
       (answer : Answer) (did : HasDone a x op answer y) → HasSeenIts v.worker → HasSeenAll a v
@@ -82,8 +81,8 @@ module _ {Op Row Answer S : Type 0} (a : Rows Op Row Answer S) where
       → StandsBehind is.order (thread_of v) v.done (thread_of x) x.done
 
   -- Of two operations of a closed table, either the second began after all that the worker of the
-  -- first had seen when the first returned, or the invocation of its first command stands among what
-  -- that worker had seen then, so that it began before the first returned.
+  -- first had seen when the first returned, or the invocation of its first command is in what that
+  -- worker had seen then, so that it began before the first returned.
   abbrev pub OperationsAreInOrder : Type 0
   OperationsAreInOrder =
       (c : Config) (ws : List (RowWorkerState Op Answer)) (cycles : ℕ)
@@ -94,14 +93,15 @@ module _ {Op Row Answer S : Type 0} (a : Rows Op Row Answer S) where
       ⊎ IsStartOf (second.past ++ moments.Invoked (thread_of x) second.command ∷ [])
       v.worker.timeline
 
-  -- An operation of a worker whose stamp is no less than another's comes behind all operations that
-  -- that one had done when it drew its own. Or 2^64 stamps were drawn.
-  abbrev pub OperationsComeBehindStamps : Type 0
-  OperationsComeBehindStamps =
+  -- A worker drew a stamp that is no less than another's. Each operation that began after its stamp
+  -- comes after all operations that the other had done at its own. Or 2^64 stamps were drawn. Each
+  -- later operation of the worker that drew the stamp is such a one, as `HasDone` says (`began`).
+  abbrev pub OperationsComeAfterStamps : Type 0
+  OperationsComeAfterStamps =
       (c : Config) (ws : List (RowWorkerState Op Answer)) (cycles : ℕ)
-      (is : HaveOneOrder a c ws cycles) (u v x y z : RowWorkerState Op Answer) (n m : ℕ) (op : Op)
+      (is : HaveOneOrder a c ws cycles) (u v x y w z : RowWorkerState Op Answer) (n m : ℕ) (op : Op)
       (answer : Answer) → HasDrawn u n v → HasSeenAll a v → HasDrawn x m y → n ≤ m
-      → HasDone a y op answer z → IsStartOf v.worker.timeline is.timeline
-      → IsStartOf z.worker.timeline is.timeline
-      → StandsBehind is.order (thread_of v) v.done (thread_of y) y.done
+      → (did : HasDone a w op answer z) → IsStartOf y.worker.timeline did.past
+      → IsStartOf v.worker.timeline is.timeline → IsStartOf z.worker.timeline is.timeline
+      → StandsBehind is.order (thread_of v) v.done (thread_of w) w.done
       ⊎ (2 ^ 64 ≤ stamps_in is.timeline)

@@ -30,8 +30,9 @@ module _ {Op Row Answer S : Type 0} (a : Rows Op Row Answer S) where
   NoMoreHaveBegun scripts p u m =
       length (invoked_in u p) ≤ length (commands_of a (take m (slice_index_or scripts u [])))
 
-  -- Take any moment of the timeline. The operations that are complete there come, in the order,
-  -- before all operations that begin after it. So the order is a linearization of the timeline.
+  -- Take any prefix of the timeline. The operations that are complete there come, in the order,
+  -- before all operations that begin after it. So the order is a linearization of the timeline, in
+  -- which an operation responds at its last entry.
   abbrev pub KeepsRealTime : List (List Op) → List Moment → List (Call Op Answer) → Type 0
   KeepsRealTime scripts timeline order =
       (p : List Moment) → IsStartOf p timeline → (t n u m : ℕ) → AreComplete scripts p t n

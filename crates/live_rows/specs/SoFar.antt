@@ -1,5 +1,5 @@
 -- What the workers of a table were answered so far, between any two steps of any threads.
-use Rattle.std.specs.Prelude.{ℕ, ◌≡◌, ◌++◌, ◌⊎◌, List, [], ◌∷◌, length, slice_index_or, take}
+use Rattle.std.specs.Prelude.{ℕ, ◌≤◌, ◌≡◌, ◌++◌, ◌⊎◌, List, [], ◌∷◌, length, slice_index_or, take}
 use mathlib.Core.Option.{some}
 use lib.ListN.{get_elem?}
 use Rattle.atomic_table.specs.Table as table
@@ -9,18 +9,20 @@ use Rattle.never_heap.specs.declared.Command.{Command}
 use Rattle.never_heap.specs.Histories.{HistoryItem}
 use Rattle.never_heap.specs.Licensed.{NoFulls}
 use Rattle.heap_system.specs.Locals.{LocalState}
+use Rattle.heap_system.specs.Systems.{Whole}
 use Rattle.control_heap.specs.Growth.{given}
 use Rattle.operations.specs.Linearizations.{Call, traces_of}
 use Rattle.operations.specs.SoFar.{IsRunSoFar, IsLinearizationSoFar}
 use Rattle.shared_heap.specs.declared.rules.Held.{Held}
 use Rattle.shared_heap.specs.declared.rules.View.{View}
 use Rattle.shared_heap.specs.declared.rules.Moment.{Moment}
-use Rattle.shared_heap.specs.Shared.{AllSeenIn, AllNotedIn, EntriesFollow, history_of, invoked_in}
+use Rattle.shared_heap.specs.RealTime.{IsSeatOf, HadSeen}
+use Rattle.shared_heap.specs.Shared.{AllSeenIn, AllNotedIn, IsWellFormed, SharedKept, history_of, invoked_in}
 use Rattle.shared_heap.specs.Turns.{MadeTurns}
 use Rattle.shared_heap.specs.Workers.{WorkerState}
 use Rattle.live_rows.specs.Life.{Executes}
 use Rattle.live_rows.specs.Behind.{answers_in, operations_in}
-use Rattle.live_rows.specs.RealTime.{KeepsRealTime}
+use Rattle.live_rows.specs.RealTime.{AreComplete, ComeBefore, KeepsRealTime}
 use Rattle.live_rows.specs.Rows.{Rows, commands_of}
 use Rattle.live_rows.specs.Workers.{HasDone, IsNext, IsRowWorker, RowWorkerState, row_worker, thread_of}
 
@@ -104,11 +106,11 @@ module _ {Op Row Answer S : Type 0} (a : Rows Op Row Answer S) where
       ((w : WorkerState) → w.thread ≡ h.local → IsRowWorker a w → HasCalls order (row_worker a w))
       × AllHaveCalls order hs
 
-  -- The history is a run of the first commands of the scripts, with no allocation answered full. Its
-  -- operations so far have one order, in which each was answered as by a plain table. The calls of
-  -- each worker between two operations are those that it did, with the answers that it got. It is the
-  -- history of a timeline, of which what the threads have seen, and every note, is a prefix. The
-  -- timeline has the invocations of all commands, each before its entry, and the order keeps its
+  -- The history is a run of the first commands of the scripts, with no allocation answered full.
+  -- Its operations so far have one order, in which each was answered as by a plain table. The calls
+  -- of each worker between two operations are those that it did, with the answers that it got. It
+  -- is the history of a well-formed timeline, of which what the threads have seen, and every note,
+  -- is a prefix. The timeline has the invocations of all commands, and the order keeps its
   -- real-time order.
   pub record FitsOneOrder (c : Config) (s : table.State Command View) (scripts : List (List Op))
       (history : List HistoryItem) : Type 0 where
@@ -124,5 +126,20 @@ module _ {Op Row Answer S : Type 0} (a : Rows Op Row Answer S) where
         → AllHaveCalls order v.threads × AllSeenIn timeline v.threads
         × AllNotedIn timeline v.notes × AllThreads (HaveInvoked timeline) v.threads
     pub ordered : history ≡ history_of timeline
-    pub follow : EntriesFollow timeline
+    pub formed : IsWellFormed timeline
     pub real_time : KeepsRealTime a scripts timeline order
+
+  -- Real-time order of operations, in two states of one table, the first of which keeps the rule.
+  -- The operations that are complete in what a worker had seen in the first come, in the order of
+  -- the second, before all operations of a thread but its first m, if the commands that the thread
+  -- had in the first state are at most those of its first m operations.
+  abbrev pub SeenComesBeforeLater : Type 0
+  SeenComesBeforeLater =
+      (k : Whole) (s later : table.State Command View) (now : SharedKept k s) (p : List Moment)
+      → HadSeen s p → HadSeen later p → (h : Held) → IsSeatOf s h
+      → (scripts : List (List Op)) (history : List HistoryItem)
+      (fits : FitsOneOrder k.config later scripts history) (t n m : ℕ)
+      → AreComplete a scripts p t n
+      → length h.local.trace
+      ≤ length (commands_of a (take m (slice_index_or scripts h.local.thread [])))
+      → ComeBefore scripts fits.order t n h.local.thread m

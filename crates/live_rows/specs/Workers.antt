@@ -5,7 +5,7 @@ use Rattle.never_heap.specs.declared.Entry.{Entry}
 use Rattle.never_heap.specs.Histories.{HistoryItem, part}
 use Rattle.shared_heap.specs.declared.rules.Moment.{Moment}
 use Rattle.shared_heap.specs.declared.rules.Moment.TheVariants as moments
-use Rattle.shared_heap.specs.Shared.{IsStartOf, history_of}
+use Rattle.shared_heap.specs.Shared.{IsStartOf, history_of, invoked_in}
 use Rattle.shared_heap.specs.Stamps as stamps
 use Rattle.shared_heap.specs.Workers as heaps
 use Rattle.shared_heap.specs.Workers.{AllStart, HasSeenIts, HeapState, IsSame, WorkerState}
@@ -61,8 +61,8 @@ module _ {Op Answer : Type 0} where
     pub own : (i : ℕ) (d : RowWorkerState Op Answer) → i < length ws → IsOf t (slice_index_or ws i d)
     pub each : (u : ℕ) → u < t.config.threads → HasWorker u ws
 
-  -- It has done no operation, and its worker of the heap has executed no command, has seen the start
-  -- of cycle 1, and has learned no note.
+  -- It has done no operation, and its worker of the heap has executed no command, has seen the
+  -- start of cycle 1, and has learned no note.
   pub record IsFresh (w : RowWorkerState Op Answer) : Type 0 where
     pub done : w.done ≡ []
     pub answers : w.answers ≡ []
@@ -71,7 +71,7 @@ module _ {Op Answer : Type 0} where
   abbrev pub AreFresh : List (RowWorkerState Op Answer) → Type 0
   AreFresh ws = (i : ℕ) (d : RowWorkerState Op Answer) → i < length ws → IsFresh (slice_index_or ws i d)
 
-  -- The worker drew a stamp with this number, and did nothing else.
+  -- The worker drew a stamp with this number, and executed nothing.
   pub record HasDrawn (old : RowWorkerState Op Answer) (n : ℕ) (new : RowWorkerState Op Answer) :
       Type 0 where
     pub drawn : stamps.HasDrawn old.worker n new.worker
@@ -124,11 +124,13 @@ module _ {Op Row Answer S : Type 0} (a : Rows Op Row Answer S) where
     pub read : a.AreRead (thread_of w) w.done
 
   -- The worker has done one more operation, with this answer. What it had seen, and each note that
-  -- it had learned, is a prefix of a history `start`, in which it did nothing more. That is a prefix
-  -- of what it has seen now. It executed the commands of the operation, and did nothing else. What it
-  -- has seen now is a history of the heap that never frees, with licensed fulls. In the timeline that
-  -- it has seen now, the invocation of the operation's first command stands right behind `past`,
-  -- whose history is `start` and of which the timeline that it had seen is a prefix.
+  -- it had learned, is a prefix of a history `start`, in which it did nothing more. That is a
+  -- prefix of what it has seen now. It executed the commands of the operation, and did nothing
+  -- else. What it has seen now is a history of the heap that never frees, with licensed fulls. The
+  -- timeline that it has seen now has the invocation of the operation's first command directly
+  -- after `past`, whose history is `start`. The timeline that it had seen is a prefix of `past`,
+  -- which has the invocations of the commands of the worker's earlier operations and no others of
+  -- it.
   pub record HasDone (old : RowWorkerState Op Answer) (op : Op) (answer : Answer)
       (new : RowWorkerState Op Answer) : Type 0 where
     pub done : new.done ≡ old.done ++ op ∷ []
@@ -143,6 +145,7 @@ module _ {Op Row Answer S : Type 0} (a : Rows Op Row Answer S) where
     pub command : Command
     pub began : IsStartOf old.worker.timeline past
     pub started : start ≡ history_of past
+    pub earlier : invoked_in (thread_of old) past ≡ old.worker.thread.trace
     pub invoked : IsStartOf (past ++ moments.Invoked (thread_of old) command ∷ [])
         new.worker.timeline
     pub sound : HasSeenIts new.worker

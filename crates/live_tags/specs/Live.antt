@@ -121,7 +121,7 @@ HasSeenAll w = workers.HasSeenAll tags w
 abbrev pub HasDone : TagWorkerState → Operation → Tag → TagWorkerState → Type 0
 HasDone old op tag new = workers.HasDone tags old op tag new
 
--- the worker drew a stamp with this number, and did nothing else
+-- the worker drew a stamp with this number, and executed nothing
 abbrev pub HasDrawn : TagWorkerState → ℕ → TagWorkerState → Type 0
 HasDrawn old n new = workers.HasDrawn old n new
 
@@ -146,7 +146,8 @@ IsOpenFault tags threads faults.NoMemory =
     IsTableInRange tags threads × CanOpen (opened_config threads tags)
 
 -- This is the worker of thread t. It did the operations of the thread's script, and its answers are
--- those of the thread's calls in the order. What it has seen is a prefix of the history.
+-- those of the thread's calls in the order. The timeline has the invocations of its commands. What
+-- it has seen is a prefix of the timeline and of the history.
 abbrev pub HasScript : List (List Operation) → List Moment → List HistoryItem
     → List (Call Operation Tag) → ℕ → TagWorkerState → Type 0
 HasScript scripts timeline history order t w =
@@ -156,7 +157,8 @@ HasScript scripts timeline history order t w =
 -- was answered full. Each worker did the operations of one script, in its order. Its answers are
 -- those of a plain table in the order of the linearization. The number of cycles is that of the
 -- history, whose units of work are within the bounds of so many cycles, and which is that of a run
--- of the machine.
+-- of the machine. The order keeps the real-time order of a timeline that has the invocations of all
+-- commands.
 abbrev pub HaveOneTable : Config → List TagWorkerState → ℕ → Type 0
 HaveOneTable c ws cycles = orders.HaveOneOrder tags c ws cycles
 

@@ -10,8 +10,8 @@ ghost use Rattle.shared_heap.specs.declared.rules.View.{View};
 ghost use Rattle.shared_heap.specs.Shared.{IsStartOf, SharedKept};
 ghost use Rattle.tag_table.specs.declared.operation.Operation.{Operation};
 ghost use Rattle.tag_table.specs.Tables.{Tag};
-ghost use Rattle.live_rows.specs.Orders.{OperationsAreInOrder, OperationsComeBehind, OperationsComeBehindStamps};
-ghost use Rattle.live_rows.specs.SoFar.{WorkAllAlong};
+ghost use Rattle.live_rows.specs.Orders.{OperationsAreInOrder, OperationsComeAfter, OperationsComeAfterStamps};
+ghost use Rattle.live_rows.specs.SoFar.{SeenComesBeforeLater, WorkAllAlong};
 ghost use Rattle.live_tags.specs.Behind.{StandsBehind};
 ghost use Rattle.live_tags.specs.Live.{HasDone, HasSeenAll, HaveOneTable, IsTagHeap, TagWorkerState, tags, thread_of};
 ghost use Rattle.live_tags.specs.SoFar.{AllSeats, Execute, FitsOneTable, IsBetween, IsWorking};
@@ -28,21 +28,21 @@ pub fn operations_stand_behind_what_was_seen()
         → StandsBehind is.order (thread_of a) a.done (thread_of old) old.done }
 {}
 
-/// Real-time order, of operations that are closed. One that began after all that some worker had seen
-/// comes, in the order, behind all that that worker had done (`behind`). Of two, either the second
-/// began after all that the worker of the first had seen when the first returned, or the invocation
-/// of its first command stands among what that worker had seen then, so that it began before the
-/// first returned (`either`).
+/// Real-time order, of operations of a closed table. One that began after all that some worker had
+/// seen comes, in the order, after all that that worker had done (`after`). Of two, either the
+/// second began after all that the worker of the first had seen when the first returned, or the
+/// invocation of its first command is in what that worker had seen then, so that it began before
+/// the first returned (`either`).
 pub fn operations_keep_real_time()
-    ensures behind { OperationsComeBehind tags }
+    ensures after { OperationsComeAfter tags }
     ensures either { OperationsAreInOrder tags }
 {}
 
-/// In the order of a closed table, an operation of a worker whose stamp is no less than another's
-/// comes behind all operations that that one had done when it drew its own. Or 2^64 stamps were
-/// drawn.
-pub fn operations_come_behind_stamps()
-    ensures { OperationsComeBehindStamps tags }
+/// In the order of a closed table, an operation that began after a worker's stamp, such as each
+/// later one of that worker, comes after all operations that another had done at a stamp that is
+/// no greater. Or 2^64 stamps were drawn (`shared_heap::stamps_are_in_order`).
+pub fn operations_come_after_stamps()
+    ensures { OperationsComeAfterStamps tags }
 {}
 
 /// Suppose that the rule of the heap's table holds, as it does between any two steps of any
@@ -66,8 +66,19 @@ pub fn what_was_answered_is_a_tables()
         → FitsOneTable k.config s scripts kept.run.order }
 {}
 
-/// At each moment of an operation its worker's thread is in the middle of it, or between two of them:
-/// before the first command, after each event that the worker's code makes, and after the last.
+/// Real-time order, of two states of one table, in the first of which its rule holds. The
+/// operations that are complete in what a worker had seen in the first come, in the order that the
+/// second has, before all that any thread began later.
+///
+/// What a worker has seen in the first state it has seen in each later one, since only its own
+/// steps change that, and they append to it.
+pub fn operations_seen_come_before_later_ones()
+    ensures { SeenComesBeforeLater tags }
+{}
+
+/// At each moment of an operation its worker's thread is in the middle of it, or between two of
+/// them: before the first command, after each event that the worker's code makes, and after the
+/// last.
 pub fn workers_are_at_work_all_along()
     ensures { WorkAllAlong tags }
 {}

@@ -264,10 +264,9 @@ impl LiveTags {
         self.rows.learn(&mut who.worker, note);
     }
 
-    /// Draws a stamp for a worker of this table, as `shared_heap::SharedHeap::stamp` does: a plain
-    /// number, which passes through any channel. The operations that a worker does after a stamp
-    /// that is no less come behind all operations that this one had done
-    /// (`operations_come_behind_stamps`).
+    /// Draws a stamp for a worker of this table, as `shared_heap::SharedHeap::stamp` does. The
+    /// operations that a worker does after a stamp come after all that another had done before a
+    /// stamp that is no greater, unless 2^64 were drawn (`operations_come_after_stamps`).
     pub fn stamp(&self, who: &mut TagWorker) -> u64
         requires { IsOf self.now who.old }
         ensures drawn { HasDrawn who.old result who.new }

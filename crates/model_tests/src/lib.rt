@@ -7,15 +7,13 @@ mod accounts;
 #[cfg(test)]
 mod arrays;
 #[cfg(test)]
-mod asking;
+mod faults;
 #[cfg(test)]
 mod graphs;
 #[cfg(test)]
 mod histories;
 #[cfg(test)]
 mod needs;
-#[cfg(test)]
-mod orders;
 #[cfg(test)]
 mod rates;
 #[cfg(test)]

@@ -1,6 +1,6 @@
 //! Rates of worked heaps, and rates that are searched for one after the other.
 
-ghost use Rattle.std.specs.Prelude.{◌≤◌, ◌×◌};
+ghost use Rattle.std.specs.Prelude.{◌≤◌};
 ghost use Rattle.block_store.specs.Configs.{IsInBounds};
 
 use block_store::Config;

@@ -15,3 +15,5 @@ pub mod OwnersOfRuns
 pub mod Verdicts
 pub mod DrawnTraces
 pub mod GeneratedHeap
+pub mod EarlyCycles
+pub mod OneHistory

@@ -23,7 +23,7 @@ part_unfilled t (Started ∷ h) n = part_unfilled t h n
 part_unfilled t (Did e ∷ h) n =
     with_entry e (part t h) n.0 (part_unfilled t h n.1) (e.thread == t)
 
-parts_unfilled : (t n : ℕ) (h : List HistoryItem) → NoFulls h → NoneFull (parts_from t n h)
+pub parts_unfilled : (t n : ℕ) (h : List HistoryItem) → NoFulls h → NoneFull (parts_from t n h)
 parts_unfilled t zero h f = All-nil (All NotFull)
 parts_unfilled t (suc n) h f =
     All-cons (All NotFull) (part t h) (parts_from (t + 1) n h) (part_unfilled t h f)

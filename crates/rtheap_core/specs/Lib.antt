@@ -6,3 +6,5 @@ pub mod Owners
 pub mod Refusals
 pub mod Outcomes
 pub mod Calls
+pub mod LateFulls
+pub mod OneHistory

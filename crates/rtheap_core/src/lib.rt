@@ -17,5 +17,5 @@ mod trial;
 
 pub use exit::{Exit, RunEnd};
 pub use generated::generate;
-pub use laws::texts_are_lives;
+pub use laws::{early_cycles_have_no_full, texts_are_lives};
 pub use top::rtheap;

@@ -5,11 +5,12 @@ ghost use Rattle.rtheap_core.specs.declared.exit.RunEnd.{RunEnd};
 ghost use Rattle.rtheap_core.specs.Calls.{IsCarriedOut, IsComplete};
 ghost use Rattle.rtheap_core.specs.EndedRuns.{logs_of, cycles_of, units_of};
 ghost use Rattle.rtheap_core.specs.Exits.{NeverFull};
+ghost use Rattle.rtheap_core.specs.OneHistory.{HasOneHistory};
 ghost use Rattle.rtheap_core.specs.Owners.{OwnersStand};
 ghost use Rattle.exit_statuses.specs.Sides.{sides};
 
 use crate::exit::{Exit, RunEnd};
-use crate::laws::texts_are_lives;
+use crate::laws::{early_cycles_have_no_full, texts_are_lives};
 use crate::making::{make_told, trial_told};
 use crate::planning::plan_told;
 use crate::replaying::replay_told;
@@ -47,7 +48,8 @@ use trace_text::{Sink, Source};
 /// answered `full` only where more blocks than the job's live limit were reachable at the start of
 /// the cycle that the reply names; so where no cycle of the run began with more, no command was
 /// answered `full` (`never_full`). At each moment of the run no name has a serial above 131,072,
-/// and the owner words of the objects that are kept are those of such names (`owners`).
+/// and the owner words of the objects that are kept are those of such names (`owners`). All this
+/// is so of one history, which also has no `full` in cycles 1 and 2 (`one_history`).
 ///
 /// That a call with the word `run` returns is not promised, for it makes turns of the job's threads
 /// until each is done. With any other words it calls nothing that waits.
@@ -78,9 +80,13 @@ pub fn rtheap<R: Threads + Wait + Sync, S: Source, K: Sink, Q: Pace>(
         (sides K.held K.faults sink.old sink.new) result.status) }
     ensures owners { IfSome result.run (OwnersStand (sides S.left S.faults source.old source.new)
         (sides K.held K.faults sink.old sink.new) result.status) }
+    ensures one_history { IfSome result.run (HasOneHistory (map (λ w. string_bytes w) words.now)
+        (sides S.left S.faults source.old source.new) (sides K.held K.faults sink.old sink.new)
+        result.status) }
 {
     replays_end();
     texts_are_lives();
+    early_cycles_have_no_full();
     carried_out(rt, alloc, words, source, sink, pace)
 }
 

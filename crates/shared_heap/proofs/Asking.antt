@@ -71,8 +71,8 @@ sound_of id h ns told done = record {
   its = its_part h.local.config h.past h.local told done;
   asked = its_said h.local.config h.past h.local told done;
   ordered = refl;
-  invoked = told.lined.invoked h.local.thread told.there ∙ sym (ap (λ (l : LocalState). l.trace) told.local);
-  follow = told.lined.follow;
+  invoked = told.timeline_of.invoked h.local.thread told.there ∙ sym (ap (λ (l : LocalState). l.trace) told.local);
+  formed = told.timeline_of.formed;
 }
 
 -- a worker: what its seat knows, and what it has in memory

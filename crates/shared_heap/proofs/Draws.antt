@@ -17,7 +17,7 @@ use Rattle.shared_heap.specs.declared.rules.Moment.{Moment}
 use Rattle.shared_heap.specs.declared.rules.Moment.TheVariants as moments
 use Rattle.shared_heap.specs.declared.rules.Past.{Past}
 use Rattle.shared_heap.specs.declared.rules.View.{View}
-use Rattle.shared_heap.specs.Shared.{Fits, AllFit, AllNotedIn, AllSeenIn, AllTimed, Counts, Draws, SharedKept, IsOfRun, IsStartOf, IsTimelineOf, held, later_past, one_view, stamps_in}
+use Rattle.shared_heap.specs.Shared.{Fits, AllFit, AllNotedIn, AllSeenIn, AllTimed, IsCountUnlessWrapped, Draws, SharedKept, IsOfRun, IsStartOf, IsTimelineOf, held, later_past, one_view, stamps_in}
 use Rattle.shared_heap.specs.Spans.{IsTimed}
 use Rattle.shared_heap.proofs.Grown.{here}
 use Rattle.shared_heap.proofs.Timelines.{stamps_append, timeline_stamped}
@@ -25,7 +25,7 @@ use Rattle.shared_heap.proofs.Views.{noted_more, seats_set, seen_more, starts_it
 use Rattle.shared_heap.proofs.Words.{get_last, set_last}
 
 -- the count goes on
-counts_on : (n : ℕ) (tl : List Moment) → Counts n (stamps_in tl) → Counts ((n + 1) % 2 ^ 64) (stamps_in (tl ++ moments.Stamped ∷ []))
+counts_on : (n : ℕ) (tl : List Moment) → IsCountUnlessWrapped n (stamps_in tl) → IsCountUnlessWrapped ((n + 1) % 2 ^ 64) (stamps_in (tl ++ moments.Stamped ∷ []))
 counts_on n tl (inr many) = inr (omega (arith, many, stamps_append tl (moments.Stamped ∷ [])))
 counts_on n tl (inl is) = elim (cases_lt (n + 1) (2 ^ 64)) [
   | inl low ↦ inl (let e : (n + 1) % 2 ^ 64 ≡ stamps_in (tl ++ moments.Stamped ∷ []) = omega (arith, low, is, stamps_append tl (moments.Stamped ∷ [])) in e)
@@ -58,7 +58,7 @@ module _ (k : Whole) (s : table.State Command View) (kept : SharedKept k s) (id 
   line = kept.timeline ++ moments.Stamped ∷ []
 
   lined : IsTimelineOf c r line
-  lined = timeline_stamped c l.thread f.0 r kept.by.after kept.timeline kept.lined
+  lined = timeline_stamped c l.thread f.0 r kept.by.after kept.timeline kept.timeline_of
 
   abbrev past : Past
   past = later_past line (length kept.by.after.turns) h.past.span.own h.past
@@ -88,7 +88,7 @@ module _ (k : Whole) (s : table.State Command View) (kept : SharedKept k s) (id 
     after = kept.by.after;
     there = f.0;
     local = is;
-    lined = lined;
+    timeline_of = lined;
     counted = refl;
   })
 
@@ -99,8 +99,8 @@ module _ (k : Whole) (s : table.State Command View) (kept : SharedKept k s) (id 
     drawn = next;
     words = ap (λ ws. set ws place next) kept.words ∙ set_last r.state.words kept.drawn place next at_end;
     timeline = line;
-    counts = counts_on (get_or s.words place 0) kept.timeline (subst (λ n. Counts n (stamps_in kept.timeline)) (sym found_is) kept.counts);
-    lined = lined;
+    counts = counts_on (get_or s.words place 0) kept.timeline (subst (λ n. IsCountUnlessWrapped n (stamps_in kept.timeline)) (sym found_is) kept.counts);
+    timeline_of = lined;
     each = λ j u e. ⊎_elim
         (λ p. subst (λ (x : View). AllFit c r x.threads × AllNotedIn line x.notes × AllTimed c r (length kept.by.after.turns) x.threads × AllSeenIn line x.threads) p.1 ((f, tt), noted_more kept.timeline (moments.Stamped ∷ []) ns (kept.each id (one_view h ns) at).1, (still_timed, tt), (starts_itself line, tt)))
         (λ p. ((kept.each j u p.1).0, noted_more kept.timeline (moments.Stamped ∷ []) u.notes (kept.each j u p.1).1, (kept.each j u p.1).2, seen_more kept.timeline (moments.Stamped ∷ []) u.threads (kept.each j u p.1).3))
@@ -115,7 +115,7 @@ module _ (k : Whole) (s : table.State Command View) (kept : SharedKept k s) (id 
     moved = refl;
     told = (of_run, tt);
     seen = (kept.each id (one_view h ns) at).3;
-    counts = subst (λ n. Counts n (stamps_in kept.timeline)) (sym found_is) kept.counts;
+    counts = subst (λ n. IsCountUnlessWrapped n (stamps_in kept.timeline)) (sym found_is) kept.counts;
   }
 
 draw_allowed : (k : Whole) (id : ℕ) (h : Held) (ns : List (List Moment)) (place : ℕ) → is_done h.local ≡ true → place ≡ words_count (extent k.config) → table.Allows (SharedKept k) 0 id (one_view h ns, []) place (λ n. (n + 1) % 2 ^ 64) (λ found. Draws found (one_view h ns, []))

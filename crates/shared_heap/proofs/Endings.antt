@@ -97,9 +97,9 @@ module _ (k : Whole) (s : table.State Command View) (kept : SharedKept k s) (id 
       thread = ap (λ (l : LocalState). l.thread) its.0 ∙ number;
       told = ap (λ (l : LocalState). l.log) its.0 ∙ ap (λ (l : LocalState). l.log) is ∙ sym log;
       asked = ap (map (λ (e : Entry). e.command)) log ∙ said_when_done c t tl r kept.by.after over ∙ sym (ap (λ (l : LocalState). l.trace) is) ∙ sym (ap (λ (l : LocalState). l.trace) its.0);
-      invoked = kept.lined.invoked t tl ∙ sym (ap (λ (l : LocalState). l.trace) is) ∙ sym (ap (λ (l : LocalState). l.trace) its.0);
-      lined = subst (λ x. IsStartOf x kept.timeline) (sym its.3) its_seen;
-      seen = subst (λ x. IsStartOf x r.order) (sym its.1) (subst (λ o. IsStartOf (history_of own.past.seen) o) (sym kept.lined.ordered) (history_start own.past.seen kept.timeline its_seen));
+      invoked = kept.timeline_of.invoked t tl ∙ sym (ap (λ (l : LocalState). l.trace) is) ∙ sym (ap (λ (l : LocalState). l.trace) its.0);
+      on_timeline = subst (λ x. IsStartOf x kept.timeline) (sym its.3) its_seen;
+      seen = subst (λ x. IsStartOf x r.order) (sym its.1) (subst (λ o. IsStartOf (history_of own.past.seen) o) (sym kept.timeline_of.ordered) (history_start own.past.seen kept.timeline its_seen));
     }
 
     pub its_thread : w.thread ≡ local_in c r t
@@ -146,10 +146,10 @@ module _ (k : Whole) (s : table.State Command View) (kept : SharedKept k s) (id 
         right = λ rate planned. right_work c after.traces r all rate planned;
         parts = λ t tl. (t, omega (arith, tl, count), λ d. its_part t tl d);
         others = all.foreign;
-        ordered = kept.lined.ordered;
-        uninvoked = kept.lined.others;
-        follow = kept.lined.follow;
-        real_time = keeps_real_time kept.timeline r.order kept.lined.ordered kept.lined.follow;
+        ordered = kept.timeline_of.ordered;
+        no_others = kept.timeline_of.others;
+        formed = kept.timeline_of.formed;
+        real_time = keeps_real_time kept.timeline r.order kept.timeline_of.ordered kept.timeline_of.formed;
         starts = started;
         least_units = few cycles started;
         most_units = many cycles started;

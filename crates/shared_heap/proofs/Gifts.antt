@@ -96,7 +96,7 @@ module _ (k : Whole) (s : table.State Command View) (kept : SharedKept k s) (id 
   then_line = now ++ moments.Invoked t m ∷ []
 
   lined : IsTimelineOf c (run_grown t m r) then_line
-  lined = timeline_grown c t f.0 r kept.by.after now kept.lined m
+  lined = timeline_grown c t f.0 r kept.by.after now kept.timeline_of m (ap is_done (sym is) ∙ done)
 
   -- what the seat knows then, where the step found this phase word
   abbrev pub past : ℕ → Past
@@ -114,7 +114,7 @@ module _ (k : Whole) (s : table.State Command View) (kept : SharedKept k s) (id 
     after = grown_by.after;
     there = f.0;
     local = given_here c t f.0 r m l is refl;
-    lined = lined;
+    timeline_of = lined;
     counted = refl;
   })
 
@@ -129,7 +129,7 @@ module _ (k : Whole) (s : table.State Command View) (kept : SharedKept k s) (id 
     words = kept.words;
     timeline = then_line;
     counts = counts_same kept.drawn now (moments.Invoked t m ∷ []) refl kept.counts;
-    lined = lined;
+    timeline_of = lined;
     each = λ j u e. ⊎_elim
         (λ p. subst (λ (x : View). AllFit c (run_grown t m r) x.threads × AllNotedIn then_line x.notes × AllTimed c (run_grown t m r) (length grown_by.after.turns) x.threads × AllSeenIn then_line x.threads) p.1 ((fit phase, tt), tt, (timed_given c t f.0 r kept.by.after m l is refl done grown_by h refl phase (read ∙ phase_is k s kept) now (length grown_by.after.turns) ns, tt), (starts_itself then_line, tt)))
         (λ p.

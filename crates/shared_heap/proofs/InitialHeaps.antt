@@ -22,7 +22,7 @@ use Rattle.shared_heap.specs.declared.rules.Moment.TheVariants as moments
 use Rattle.shared_heap.specs.declared.rules.View.{View}
 use Rattle.shared_heap.specs.Shared.{AllFit, AllNotedIn, AllSeenIn, AllTimed, SharedKept, IsOfRun, IsTimelineOf, threads_of, first_held, first_past, first_view, held, unasked}
 use Rattle.shared_heap.specs.Workers.{AreOnes, CanOpen, IsDealt}
-use Rattle.shared_heap.proofs.Timelines.{part_start}
+use Rattle.shared_heap.proofs.Timelines.{invoked_start, part_start}
 use Rattle.shared_heap.proofs.Views.{starts_itself}
 
 -- nothing for each of these
@@ -163,7 +163,7 @@ module _ (c : Config) (traces : List (List Command)) (job : IsJob c traces) (s :
     ordered = refl;
     invoked = λ t tl. sym (ap (λ (l : LocalState). l.trace) (idle_at t tl));
     others = λ u high. refl;
-    follow = λ p is t. omega (arith, part_start t p (moments.Began ∷ []) is);
+    formed = λ p is t. (omega (arith, part_start t p (moments.Began ∷ []) is), omega (arith, invoked_start t p (moments.Began ∷ []) is));
   }
 
 pub opens : (k : Whole) (traces : List (List Command)) → IsJob k.config traces → IsOpening k.config traces k.state → SharedKept k (table.opening (k.state.words ++ 0 ∷ []) [] (first_view k))
@@ -176,7 +176,7 @@ opens k traces job start =
       words = refl;
       timeline = moments.Began ∷ [];
       counts = inl refl;
-      lined = idle_timeline c traces job k.state start;
+      timeline_of = idle_timeline c traces job k.state start;
       each = each (opened c (idle c traces job k.state start)) (all_fit c traces job k.state start) (all_timed c traces job k.state start);
       once = λ t tl. omega (arith, each_once c traces job k.state start t tl);
     }
@@ -225,7 +225,7 @@ module _ (c : Config) (traces : List (List Command)) (job : IsJob c traces) (s :
     run = opened c (idle c traces job s start);
     after = (idle_run c traces job s start).after;
     there = low;
-    lined = idle_timeline c traces job s start;
+    timeline_of = idle_timeline c traces job s start;
     counted = refl;
     local = sym (idle_at c traces job s start i low);
   }

@@ -108,8 +108,8 @@ ordered_history c hs ys cycles among is = record {
       (j.0, j.1, λ d. subst (HasPart is.timeline is.order t) (j.2 d) (i.2 d)));
   others = is.others;
   ordered = is.ordered;
-  uninvoked = is.uninvoked;
-  follow = is.follow;
+  no_others = is.no_others;
+  formed = is.formed;
   real_time = is.real_time;
   starts = is.starts;
   least_units = is.least_units;

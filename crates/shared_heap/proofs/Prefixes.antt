@@ -1,4 +1,4 @@
--- What holds at every moment: one history, and the bounds of a command that runs alone.
+-- What holds in every state: one history, and the bounds of a command that runs alone.
 use Rattle.std.proofs.Common.{◌≡◌, ℕ, suc, ◌<◌, ◌≤◌, ◌+◌, Bool, true, false, eqb, eqb-true, Option, Some, None, refl, arith, subst, sym, ap, ◌∙◌, List, [], ◌∷◌, ◌++◌, length, length-append, get_or, map, take, inl, inr}
 use Rattle.std.proofs.lemmas.Bool.{cases_Bool, cases_lt}
 use mathlib.Core.Option.{some}
@@ -74,7 +74,7 @@ module _ (k : Whole) (s : table.State Command View) (kept : SharedKept k s) wher
         rest = λ done. ap (λ p. entries_of l.thread (command_of l) l.spent (waiting (replay c r.order) p)) (rest_is l.part (at_rest l done));
         asked = subst (λ (x : LocalState). map (λ (e : Entry). e.command) x.log ≡ take (length x.log) x.trace) (sym is) own.said;
         hand = hand_of l.thread (command_of l) l.spent (waiting (replay c r.order) l.part);
-        invoked = kept.lined.invoked l.thread f.0 ∙ sym (ap (λ (x : LocalState). x.trace) is);
+        invoked = kept.timeline_of.invoked l.thread f.0 ∙ sym (ap (λ (x : LocalState). x.trace) is);
       }
 
   parts_of : (hs : List Held) → AllFit c r hs → AllHaveParts kept.timeline r.order hs
@@ -91,10 +91,10 @@ module _ (k : Whole) (s : table.State Command View) (kept : SharedKept k s) wher
     parts = λ id v at. (parts_of v.threads (kept.each id v at).0, (kept.each id v at).3, (kept.each id v at).1);
     once = kept.once;
     others = all.foreign;
-    ordered = kept.lined.ordered;
-    uninvoked = kept.lined.others;
-    follow = kept.lined.follow;
-    real_time = keeps_real_time kept.timeline r.order kept.lined.ordered kept.lined.follow;
+    ordered = kept.timeline_of.ordered;
+    no_others = kept.timeline_of.others;
+    formed = kept.timeline_of.formed;
+    real_time = keeps_real_time kept.timeline r.order kept.timeline_of.ordered kept.timeline_of.formed;
   }
 
   pub fits_order : fits_one.order ≡ r.order
@@ -164,7 +164,7 @@ module _ (k : Whole) (s : table.State Command View) (kept : SharedKept k s) wher
       past = later_past kept.timeline (length kept.by.after.turns) 0 h.past
 
       of_run : IsOfRun c past l
-      of_run = record { run = r; after = kept.by.after; there = fit.0; local = is; lined = kept.lined; counted = refl }
+      of_run = record { run = r; after = kept.by.after; there = fit.0; local = is; timeline_of = kept.timeline_of; counted = refl }
 
       trace : l.trace ≡ get_or kept.by.after.traces t []
       trace = ap (λ (x : LocalState). x.trace) is ∙ (all.locals t fit.0).trace

@@ -71,20 +71,20 @@ module _ (c : Config) (past : Past) (l : LocalState) (is : IsOfRun c past l) whe
 
   -- it is of a right history
   pub its_legal : Legal c order
-  its_legal = subst (λ o. Legal c o) is.lined.ordered kept_then.names.ordered.legal
+  its_legal = subst (λ o. Legal c o) is.timeline_of.ordered kept_then.names.ordered.legal
 
   pub its_licensed : Licensed c order
-  its_licensed = subst (λ o. Licensed c o) is.lined.ordered (licensed c is.after.traces (laws_of c) (tallies_of c) is.after.job is.after.turns is.run is.after.by_turns is.after.by_turns.opening.rate is.after.by_turns.opening.planned)
+  its_licensed = subst (λ o. Licensed c o) is.timeline_of.ordered (licensed c is.after.traces (laws_of c) (tallies_of c) is.after.job is.after.turns is.run is.after.by_turns is.after.by_turns.opening.rate is.after.by_turns.opening.planned)
 
   pub its_right : (rate : ℕ) → IsRate c rate → RightWork c.width rate order
-  its_right rate planned = subst (λ o. RightWork c.width rate o) is.lined.ordered (right_work c is.after.traces is.run kept_then rate planned)
+  its_right rate planned = subst (λ o. RightWork c.width rate o) is.timeline_of.ordered (right_work c is.after.traces is.run kept_then rate planned)
 
   module _ (done : is_done l ≡ true) where
     own_done : is_done (local_in c is.run l.thread) ≡ true
     own_done = ap is_done (sym is.local) ∙ done
 
     pub its_part : part l.thread order ≡ l.log
-    its_part = ap (part l.thread) (sym is.lined.ordered) ∙ told_at_rest c l.thread is.there is.run is.after (at_rest (local_in c is.run l.thread) own_done) ∙ ap (λ (x : LocalState). x.log) (sym is.local)
+    its_part = ap (part l.thread) (sym is.timeline_of.ordered) ∙ told_at_rest c l.thread is.there is.run is.after (at_rest (local_in c is.run l.thread) own_done) ∙ ap (λ (x : LocalState). x.log) (sym is.local)
 
     pub its_said : map (λ (e : Entry). e.command) l.log ≡ l.trace
     its_said = subst (λ (x : LocalState). map (λ (e : Entry). e.command) x.log ≡ x.trace) (sym is.local) (said_when_done c l.thread is.there is.run is.after own_done)
@@ -109,4 +109,4 @@ module _ (c : Config) (past : Past) (l : LocalState) (is : IsOfRun c past l) whe
 pub part_begun : (c : Config) (p : Past) (l : LocalState) → IsOfRun c p l → is_rest l.part ≡ true → {t : ℕ} {es : List Entry} → t ≡ l.thread → l.log ≡ es → part t (history_of p.seen) ≡ es
 part_begun c p l is rest {t} {es} named log =
     let own : is_rest (local_in c is.run l.thread).part ≡ true = ap (λ (x : LocalState). is_rest x.part) (sym is.local) ∙ rest in
-    ap (λ u. part u (history_of p.seen)) named ∙ ap (part l.thread) (sym is.lined.ordered) ∙ told_at_rest c l.thread is.there is.run is.after own ∙ ap (λ (x : LocalState). x.log) (sym is.local) ∙ log
+    ap (λ u. part u (history_of p.seen)) named ∙ ap (part l.thread) (sym is.timeline_of.ordered) ∙ told_at_rest c l.thread is.there is.run is.after own ∙ ap (λ (x : LocalState). x.log) (sym is.local) ∙ log

@@ -20,7 +20,7 @@ use Rattle.heap_system.proofs.RunLaws.{kept_of}
 use Rattle.shared_heap.specs.declared.rules.Held.{Held}
 use Rattle.shared_heap.specs.declared.rules.View.{View}
 use Rattle.shared_heap.specs.Shared.{Fits, IsStartOf, SharedKept, first_past, held, history_of, invoked_in, threads_of}
-use Rattle.shared_heap.specs.Workers.{WorkerState, AreOfWorkers, HasFirst, HasPart, HaveHistoryOfSome, IsOfWorker, WasClosedWith}
+use Rattle.shared_heap.specs.Workers.{WorkerState, AreOfWorkers, HasFirstCommands, HasPart, HaveHistoryOfSome, IsOfWorker, WasClosedWith}
 use Rattle.shared_heap.proofs.Crews.{of_at, of_long}
 use Rattle.shared_heap.proofs.Endings.{fit_at, seen_at}
 use Rattle.shared_heap.proofs.FirstCommands.{first_commands}
@@ -30,13 +30,13 @@ use Rattle.shared_heap.proofs.Rests.{said_when_done, told_at_rest}
 use Rattle.shared_heap.proofs.Timelines.{history_start, keeps_real_time}
 use Rattle.shared_heap.proofs.Views.{seat_part}
 
--- a thread that stands among these
+-- a thread that is one of these
 one_there : (t : ℕ) (hs : List Held) (j : ℕ) (e : Held) → j < length hs → (get_or hs j e).local.thread ≡ t → 1 ≤ threads_of t hs
 one_there t [] j e low is = absurd (omega arith)
 one_there t (h ∷ hs) zero e low is = let b : bit (eqb t h.local.thread) ≡ 1 = rw (eq-eqb t h.local.thread (sym is)) refl in omega (arith, b)
 one_there t (h ∷ hs) (suc j) e low is = omega (arith, one_there t hs j e (omega arith) is)
 
--- and one that stands there twice
+-- and one that is there twice
 two_there : (t : ℕ) (hs : List Held) (i j : ℕ) (e f : Held) → i < j → j < length hs → (get_or hs i e).local.thread ≡ t → (get_or hs j f).local.thread ≡ t → 2 ≤ threads_of t hs
 two_there t [] i j e f less low is again = absurd (omega arith)
 two_there t (h ∷ hs) zero zero e f less low is again = absurd (omega arith)
@@ -59,11 +59,11 @@ module _ (k : Whole) (s : table.State Command View) (kept : SharedKept k s) (id 
   all : Kept c after.traces r
   all = kept_of c r after
 
-  firsts : (t : ℕ) → t < c.threads → HasFirst kept.timeline r.order t
+  firsts : (t : ℕ) → t < c.threads → HasFirstCommands kept.timeline r.order t
   firsts t tl =
       let own = all.locals t tl in
       let first = first_commands (replay c r.order) (local_in c r t) (part t r.order) own.told own.fits own.said in
-      (first.0, kept.lined.invoked t tl ∙ first.1)
+      (first.0, kept.timeline_of.invoked t tl ∙ first.1)
 
   module _ (j : ℕ) (d : WorkerState) (low : j < length ws) where
     abbrev w : WorkerState
@@ -108,9 +108,9 @@ module _ (k : Whole) (s : table.State Command View) (kept : SharedKept k s) (id 
       thread = named;
       told = ap (λ (l : LocalState). l.log) its.0 ∙ ap (λ (l : LocalState). l.log) is ∙ sym log;
       asked = ap (map (λ (e : Entry). e.command)) log ∙ said_when_done c t fit.0 r after over ∙ sym (ap (λ (l : LocalState). l.trace) is) ∙ sym (ap (λ (l : LocalState). l.trace) its.0);
-      invoked = kept.lined.invoked t fit.0 ∙ sym (ap (λ (l : LocalState). l.trace) is) ∙ sym (ap (λ (l : LocalState). l.trace) its.0);
-      lined = subst (λ x. IsStartOf x kept.timeline) (sym its.3) seen;
-      seen = subst (λ x. IsStartOf x r.order) (sym its.1) (subst (λ o. IsStartOf (history_of own.past.seen) o) (sym kept.lined.ordered) (history_start own.past.seen kept.timeline seen));
+      invoked = kept.timeline_of.invoked t fit.0 ∙ sym (ap (λ (l : LocalState). l.trace) is) ∙ sym (ap (λ (l : LocalState). l.trace) its.0);
+      on_timeline = subst (λ x. IsStartOf x kept.timeline) (sym its.3) seen;
+      seen = subst (λ x. IsStartOf x r.order) (sym its.1) (subst (λ o. IsStartOf (history_of own.past.seen) o) (sym kept.timeline_of.ordered) (history_start own.past.seen kept.timeline seen));
     }
 
     some_part : HasPart kept.timeline r.order w.thread.thread w
@@ -137,13 +137,13 @@ module _ (k : Whole) (s : table.State Command View) (kept : SharedKept k s) (id 
       never = never_full c after.traces (laws_of c) (tallies_of c) after.job after.turns r after.by_turns after.by_turns.opening.rate after.by_turns.opening.planned;
       right = λ rate planned. right_work c after.traces r all rate planned;
       parts = λ j d low. some_part j d low;
-      apart = λ i j d less low same. apart i j d less low same;
-      firsts = firsts;
+      distinct = λ i j d less low same. apart i j d less low same;
+      first_commands = firsts;
       others = all.foreign;
-      ordered = kept.lined.ordered;
-      uninvoked = kept.lined.others;
-      follow = kept.lined.follow;
-      real_time = keeps_real_time kept.timeline r.order kept.lined.ordered kept.lined.follow;
+      ordered = kept.timeline_of.ordered;
+      no_others = kept.timeline_of.others;
+      formed = kept.timeline_of.formed;
+      real_time = keeps_real_time kept.timeline r.order kept.timeline_of.ordered kept.timeline_of.formed;
       starts = read ∙ ap cycle_of (phase_is k s kept) ∙ sym all.names.ordered.started;
       run = r;
       by = kept.by;

@@ -8,7 +8,7 @@ use Rattle.shared_heap.specs.declared.rules.Held.{Held}
 use Rattle.shared_heap.specs.declared.rules.Moment.{Moment}
 use Rattle.shared_heap.specs.declared.rules.Moment.TheVariants as moments
 use Rattle.shared_heap.specs.declared.rules.View.{View}
-use Rattle.shared_heap.specs.Shared.{AllOfRuns, AllSeenIn, Counts, Draws, IsOfRun, IsStartOf, drawn_by, drawn_of, held_of, one_view, stamps_in}
+use Rattle.shared_heap.specs.Shared.{AllOfRuns, AllSeenIn, IsCountUnlessWrapped, Draws, IsOfRun, IsStartOf, drawn_by, drawn_of, held_of, one_view, stamps_in}
 use Rattle.shared_heap.specs.Stamps.{HasDrawn}
 use Rattle.shared_heap.specs.Workers.{IsKept, IsSame, Keeps, WorkerState, worker_of}
 use Rattle.shared_heap.proofs.Asking.{held_is, is_kept, notes_are, sound_of}
@@ -56,6 +56,7 @@ module _ (me : table.Me Command View) (id : TableId) (l : LocalState) (n o : ℕ
     heap = same;
     thread = refl;
     notes = refl;
+    events = refl;
     past = draws.now;
     timeline = refl;
     before = seen_then;

@@ -150,7 +150,7 @@ module _ (k : Whole) (s : table.State Command View) (kept : SharedKept k s) (id 
   now = kept.timeline ++ items
 
   lined : IsTimelineOf c later now
-  lined = timeline_next c t f.0 r kept.by.after kept.timeline kept.lined of_events.after (events_more_traces c t f.0 r kept.by (goes c t f.0 r l is going))
+  lined = timeline_next c t f.0 r kept.by.after kept.timeline kept.timeline_of of_events.after (events_more_traces c t f.0 r kept.by (goes c t f.0 r l is going))
 
   -- what the seat knows then
   abbrev pub past : Past
@@ -168,7 +168,7 @@ module _ (k : Whole) (s : table.State Command View) (kept : SharedKept k s) (id 
     after = of_events.after;
     there = f.0;
     local = ap (local_got l) same ∙ moved c t f.0 r kept.by l is going;
-    lined = lined;
+    timeline_of = lined;
     counted = refl;
   })
 
@@ -183,7 +183,7 @@ module _ (k : Whole) (s : table.State Command View) (kept : SharedKept k s) (id 
     words = words;
     timeline = now;
     counts = counts_same kept.drawn kept.timeline items (none_stamped (decided c t r.state r.order)) kept.counts;
-    lined = lined;
+    timeline_of = lined;
     each = λ j u e. ⊎_elim
         (λ p. subst (λ (x : View). AllFit c later x.threads × AllNotedIn now x.notes × AllTimed c later (length of_events.after.turns) x.threads × AllSeenIn now x.threads) p.1 ((fit, tt), noted_more kept.timeline items ns noted, (timed_next c r (length kept.by.after.turns) (length of_events.after.turns) h (found_by l s) now timed is going one_more, tt), (starts_itself now, tt)))
         (λ p.
@@ -237,7 +237,7 @@ module _ (k : Whole) (s : table.State Command View) (kept : SharedKept k s) (id 
     words = kept.words;
     timeline = kept.timeline;
     counts = kept.counts;
-    lined = kept.lined;
+    timeline_of = kept.timeline_of;
     each = λ j u e. ⊎_elim
         (λ old. ⊎_elim
         (λ p. subst Fine p.1 one)
@@ -273,7 +273,7 @@ joins k id v other w s kept at ne that =
       words = kept.words;
       timeline = kept.timeline;
       counts = kept.counts;
-      lined = kept.lined;
+      timeline_of = kept.timeline_of;
       each = λ j u e. ⊎_elim
           (λ p. subst (λ (x : View). AllFit k.config kept.run x.threads × AllNotedIn kept.timeline x.notes × AllTimed k.config kept.run (length kept.by.after.turns) x.threads × AllSeenIn kept.timeline x.threads) p.1 (tt, tt, tt, tt))
           (λ p. ⊎_elim

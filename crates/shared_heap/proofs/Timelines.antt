@@ -7,18 +7,20 @@ use Rattle.never_heap.specs.declared.Command.{Command}
 use Rattle.never_heap.specs.declared.Entry.{Entry}
 use Rattle.never_heap.specs.Histories.{HistoryItem, Started, Did, part}
 use Rattle.never_heap.proofs.HistoryGrowth.{part_append}
-use Rattle.heap_system.specs.Locals.{LocalState}
+use Rattle.heap_system.specs.Locals.{LocalState, is_done}
 use Rattle.heap_system.specs.Machines.{Run, IsAfterTurns, decided, local_in, next, no_local}
 use Rattle.heap_system.proofs.Kept.{Kept}
 use Rattle.heap_system.proofs.RunLaws.{kept_of}
+use Rattle.heap_system.proofs.TurnFacts.{as_long, at_rest}
 use Rattle.control_heap.specs.Growth.{given, grown, run_grown}
 use Rattle.control_heap.proofs.GrownRuns.{local_grown}
 use Rattle.shared_heap.specs.declared.rules.Moment.{Moment}
 use Rattle.shared_heap.specs.declared.rules.Moment.TheVariants as moments
 use Rattle.shared_heap.specs.RealTime.{KeepsRealTime}
 use Rattle.shared_heap.specs.Workers.{AllStart}
-use Rattle.shared_heap.specs.Shared.{AllNotedIn, Counts, EntriesFollow, IsStartOf, IsTimelineOf, history_of, invoked_in, stamps_in}
+use Rattle.shared_heap.specs.Shared.{AllNotedIn, IsCountUnlessWrapped, IsWellFormed, IsStartOf, IsTimelineOf, history_of, invoked_in, stamps_in}
 use Rattle.shared_heap.proofs.FirstCommands.{as_many_commands}
+use Rattle.shared_heap.proofs.Rests.{told_at_rest}
 use Rattle.shared_heap.proofs.Views.{history_is, moments_of, none_invoked, starts_itself}
 
 -- ---- two parts of a timeline
@@ -28,7 +30,7 @@ history_append [] ys = refl
 history_append (moments.Began ∷ xs) ys = ap (λ o. Started ∷ o) (history_append xs ys)
 history_append (moments.Invoked t k ∷ xs) ys = history_append xs ys
 history_append (moments.Stamped ∷ xs) ys = history_append xs ys
-history_append (moments.Ended e ∷ xs) ys = ap (λ o. Did e ∷ o) (history_append xs ys)
+history_append (moments.TookEffect e ∷ xs) ys = ap (λ o. Did e ∷ o) (history_append xs ys)
 
 cons_if : (b : Bool) (k : Command) (xs ys zs : List Command) → xs ≡ ys ++ zs → cond b (k ∷ xs) xs ≡ cond b (k ∷ ys) ys ++ zs
 cons_if true k xs ys zs e = ap (λ l. k ∷ l) e
@@ -39,18 +41,18 @@ invoked_append t [] ys = refl
 invoked_append t (moments.Began ∷ xs) ys = invoked_append t xs ys
 invoked_append t (moments.Invoked u k ∷ xs) ys = cons_if (eqb u t) k _ _ _ (invoked_append t xs ys)
 invoked_append t (moments.Stamped ∷ xs) ys = invoked_append t xs ys
-invoked_append t (moments.Ended e ∷ xs) ys = invoked_append t xs ys
+invoked_append t (moments.TookEffect e ∷ xs) ys = invoked_append t xs ys
 
 pub stamps_append : (xs ys : List Moment) → stamps_in (xs ++ ys) ≡ stamps_in xs + stamps_in ys
 stamps_append [] ys = omega arith
 stamps_append (moments.Began ∷ xs) ys = stamps_append xs ys
 stamps_append (moments.Invoked t k ∷ xs) ys = stamps_append xs ys
 stamps_append (moments.Stamped ∷ xs) ys = omega (arith, stamps_append xs ys)
-stamps_append (moments.Ended e ∷ xs) ys = stamps_append xs ys
+stamps_append (moments.TookEffect e ∷ xs) ys = stamps_append xs ys
 
 -- the same count of stamps
-pub counts_same : (n : ℕ) (xs ys : List Moment) → stamps_in ys ≡ 0 → Counts n (stamps_in xs) → Counts n (stamps_in (xs ++ ys))
-counts_same n xs ys none is = subst (Counts n) (let e : stamps_in xs ≡ stamps_in (xs ++ ys) = omega (arith, stamps_append xs ys, none) in e) is
+pub counts_same : (n : ℕ) (xs ys : List Moment) → stamps_in ys ≡ 0 → IsCountUnlessWrapped n (stamps_in xs) → IsCountUnlessWrapped n (stamps_in (xs ++ ys))
+counts_same n xs ys none is = subst (IsCountUnlessWrapped n) (let e : stamps_in xs ≡ stamps_in (xs ++ ys) = omega (arith, stamps_append xs ys, none) in e) is
 
 -- an invocation is no item of the history
 pub invoked_history : (xs : List Moment) (t : ℕ) (k : Command) → history_of (xs ++ moments.Invoked t k ∷ []) ≡ history_of xs
@@ -102,23 +104,29 @@ before_or_after (x ∷ xs) more (y ∷ ys) i ws e =
       | inr s ↦ inr (s.0, λ j. sym head j ∷ s.1 j)
     ]
 
--- each entry still follows its command where there are no more entries than commands were invoked
-pub follow_more : (xs ys : List Moment) → EntriesFollow xs → ((t : ℕ) → length (part t (history_of (xs ++ ys))) ≤ length (invoked_in t xs)) → EntriesFollow (xs ++ ys)
-follow_more xs ys follow few p is t = elim (start_cases p xs ys is) [
-  | inl s ↦ follow p s t
-  | inr s ↦ omega (arith, part_start t p (xs ++ ys) is, few t, invoked_start t xs p s)
+-- a timeline stays well-formed where the new entries are of commands invoked before, and no thread
+-- has two commands without an entry
+pub formed_more : (xs ys : List Moment) → IsWellFormed xs
+    → ((t : ℕ) → (length (part t (history_of (xs ++ ys))) ≤ length (invoked_in t xs)) × (length (invoked_in t (xs ++ ys)) ≤ length (part t (history_of xs)) + 1))
+    → IsWellFormed (xs ++ ys)
+formed_more xs ys formed few p is t = elim (start_cases p xs ys is) [
+  | inl s ↦ formed p s t
+  | inr s ↦ (
+    omega (arith, part_start t p (xs ++ ys) is, (few t).0, invoked_start t xs p s),
+    omega (arith, invoked_start t p (xs ++ ys) is, (few t).1, part_start t xs p s),
+  )
 ]
 
--- a timeline in which each entry follows its command keeps real-time order
-pub keeps_real_time : (timeline : List Moment) (order : List HistoryItem) → order ≡ history_of timeline → EntriesFollow timeline → KeepsRealTime timeline order
-keeps_real_time timeline order is follow p start t n u m many few =
+-- a well-formed timeline keeps real-time order
+pub keeps_real_time : (timeline : List Moment) (order : List HistoryItem) → order ≡ history_of timeline → IsWellFormed timeline → KeepsRealTime timeline order
+keeps_real_time timeline order is formed p start t n u m many few =
     let h = history_start p timeline start in
     record {
       first = history_of p;
       later = h.0;
       split = is ∙ h.1;
       many = many;
-      few = omega (arith, follow p start u, few);
+      few = omega (arith, (formed p start u).0, few);
     }
 
 -- ---- the timeline of a run
@@ -126,6 +134,9 @@ keeps_real_time timeline order is follow p start t n u m many few =
 module _ (c : Config) (t : ℕ) (tl : t < c.threads) (r : Run) (is : IsAfterTurns c r) (timeline : List Moment) (lined : IsTimelineOf c r timeline) where
   kept : Kept c is.traces r
   kept = kept_of c r is
+
+  formed_now : (u : ℕ) → (length (part u (history_of timeline)) ≤ length (invoked_in u timeline)) × (length (invoked_in u timeline) ≤ length (part u (history_of timeline)) + 1)
+  formed_now u = lined.formed timeline (starts_itself timeline) u
 
   -- a turn of thread t
   module _ (after : IsAfterTurns c (next c t r)) (same : after.traces ≡ is.traces) where
@@ -158,22 +169,23 @@ module _ (c : Config) (t : ℕ) (tl : t < c.threads) (r : Run) (is : IsAfterTurn
       ordered = order_is;
       invoked = λ u ul. still u ∙ lined.invoked u ul ∙ trace_is u ul;
       others = λ u high. still u ∙ lined.others u high;
-      follow = follow_more timeline items lined.follow few_entries;
+      formed = formed_more timeline items lined.formed (λ u. (few_entries u, omega (arith, ap length (still u), (formed_now u).1)));
     }
 
   -- a stamp
   pub timeline_stamped : IsTimelineOf c r (timeline ++ moments.Stamped ∷ [])
   timeline_stamped =
       let same : history_of timeline ≡ history_of (timeline ++ moments.Stamped ∷ []) = sym (history_append timeline (moments.Stamped ∷ []) ∙ append-nil (history_of timeline)) in
+      let silent : (u : ℕ) → invoked_in u (timeline ++ moments.Stamped ∷ []) ≡ invoked_in u timeline = (λ u. invoked_append u timeline (moments.Stamped ∷ []) ∙ append-nil (invoked_in u timeline)) in
       record {
         ordered = lined.ordered ∙ same;
-        invoked = λ u ul. invoked_append u timeline (moments.Stamped ∷ []) ∙ append-nil (invoked_in u timeline) ∙ lined.invoked u ul;
-        others = λ u high. invoked_append u timeline (moments.Stamped ∷ []) ∙ append-nil (invoked_in u timeline) ∙ lined.others u high;
-        follow = follow_more timeline (moments.Stamped ∷ []) lined.follow (λ u. omega (arith, ap (λ o. length (part u o)) same, lined.follow timeline (starts_itself timeline) u));
+        invoked = λ u ul. silent u ∙ lined.invoked u ul;
+        others = λ u high. silent u ∙ lined.others u high;
+        formed = formed_more timeline (moments.Stamped ∷ []) lined.formed (λ u. (omega (arith, ap (λ o. length (part u o)) same, (formed_now u).0), omega (arith, ap length (silent u), (formed_now u).1)));
       }
 
-  -- a command of thread t
-  module _ (k : Command) where
+  -- a command of thread t, which is done with those before
+  module _ (k : Command) (done : is_done (local_in c r t) ≡ true) where
     abbrev item : List Moment
     item = moments.Invoked t k ∷ []
 
@@ -196,17 +208,37 @@ module _ (c : Config) (t : ℕ) (tl : t < c.threads) (r : Run) (is : IsAfterTurn
         ap (λ b. (cond b (given k (local_in c r u)) (local_in c r u)).trace) (sym (ne_eqb (local_in c r u).thread t (λ e. ne (sym e ∙ (kept.locals u ul).thread))))
         ∙ ap (λ (l : LocalState). l.trace) (sym (local_grown t k c tl r.state u))
 
+    own_invoked : invoked_in t (timeline ++ item) ≡ invoked_in t timeline ++ k ∷ []
+    own_invoked = invoked_append t timeline item ∙ ap (λ l. invoked_in t timeline ++ l) own_command
+
+    other_invoked : (u : ℕ) → (t ≡ u → ⊥) → invoked_in u (timeline ++ item) ≡ invoked_in u timeline
+    other_invoked u ne = invoked_append u timeline item ∙ ap (λ l. invoked_in u timeline ++ l) (no_command u ne) ∙ append-nil (invoked_in u timeline)
+
     invoked_then : (u : ℕ) → u < c.threads → invoked_in u (timeline ++ item) ≡ (local_in c (run_grown t k r) u).trace
     invoked_then u ul = elim (cases_eq t u) [
       | inl e ↦ subst (λ v. invoked_in v (timeline ++ item) ≡ (local_in c (run_grown t k r) v).trace) e
-          (invoked_append t timeline item ∙ ap (λ l. invoked_in t timeline ++ l) own_command ∙ ap (λ l. l ++ k ∷ []) (lined.invoked t tl) ∙ own_trace)
-      | inr ne ↦ invoked_append u timeline item ∙ ap (λ l. invoked_in u timeline ++ l) (no_command u ne) ∙ append-nil (invoked_in u timeline) ∙ lined.invoked u ul ∙ other_trace u ul ne
+          (own_invoked ∙ ap (λ l. l ++ k ∷ []) (lined.invoked t tl) ∙ own_trace)
+      | inr ne ↦ other_invoked u ne ∙ lined.invoked u ul ∙ other_trace u ul ne
+    ]
+
+    -- thread t has as many entries as commands
+    none_pending : length (invoked_in t timeline) ≡ length (part t (history_of timeline))
+    none_pending =
+        ap length (lined.invoked t tl) ∙ sym (as_long (local_in c r t) done)
+        ∙ ap length (sym (told_at_rest c t tl r is (at_rest (local_in c r t) done)))
+        ∙ ap (λ o. length (part t o)) lined.ordered
+
+    one_pending : (u : ℕ) → length (invoked_in u (timeline ++ item)) ≤ length (part u (history_of timeline)) + 1
+    one_pending u = elim (cases_eq t u) [
+      | inl e ↦ subst (λ v. length (invoked_in v (timeline ++ item)) ≤ length (part v (history_of timeline)) + 1) e
+          (omega (arith, ap length own_invoked, length-append (invoked_in t timeline) (k ∷ []), none_pending))
+      | inr ne ↦ omega (arith, ap length (other_invoked u ne), (formed_now u).1)
     ]
 
     pub timeline_grown : IsTimelineOf c (run_grown t k r) (timeline ++ item)
     timeline_grown = record {
       ordered = lined.ordered ∙ same_history;
       invoked = invoked_then;
-      others = λ u high. invoked_append u timeline item ∙ ap (λ l. invoked_in u timeline ++ l) (no_command u (λ e. omega (arith, tl, high))) ∙ append-nil (invoked_in u timeline) ∙ lined.others u high;
-      follow = follow_more timeline item lined.follow (λ u. omega (arith, ap (λ o. length (part u o)) same_history, lined.follow timeline (starts_itself timeline) u));
+      others = λ u high. other_invoked u (λ e. omega (arith, tl, high)) ∙ lined.others u high;
+      formed = formed_more timeline item lined.formed (λ u. (omega (arith, ap (λ o. length (part u o)) same_history, (formed_now u).0), one_pending u));
     }

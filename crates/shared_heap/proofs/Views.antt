@@ -80,11 +80,11 @@ starts_more x order items is = (is.0 ++ items, ap (λ o. o ++ items) is.1 ∙ ap
 pub starts_on : {A : Type 0} (x y z : List A) → IsStartOf x y → IsStartOf y z → IsStartOf x z
 starts_on x y z f g = (f.0 ++ g.0, g.1 ∙ ap (λ o. o ++ g.0) f.1 ∙ append_assoc x f.0 g.0)
 
--- each history is that of some moments
+-- each history is that of some timeline
 pub moments_of : List HistoryItem → List Moment
 moments_of [] = []
 moments_of (Started ∷ xs) = moments.Began ∷ moments_of xs
-moments_of (Did e ∷ xs) = moments.Ended e ∷ moments_of xs
+moments_of (Did e ∷ xs) = moments.TookEffect e ∷ moments_of xs
 
 pub history_is : (xs : List HistoryItem) → history_of (moments_of xs) ≡ xs
 unfolding moments_of

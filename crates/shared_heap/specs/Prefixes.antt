@@ -1,4 +1,4 @@
--- What holds at every moment, between any two steps of any threads.
+-- What holds in every state, between any two steps of any threads.
 use Rattle.std.specs.Prelude.{ℕ, ◌<◌, ◌≤◌, ◌≡◌, ◌++◌, true, List, [], ◌∷◌, length, map, take}
 use mathlib.Core.Option.{some}
 use lib.ListN.{get_elem?}
@@ -18,12 +18,12 @@ use Rattle.shared_heap.specs.declared.rules.Held.{Held}
 use Rattle.shared_heap.specs.declared.rules.Moment.{Moment}
 use Rattle.shared_heap.specs.declared.rules.View.{View}
 use Rattle.shared_heap.specs.RealTime.{KeepsRealTime}
-use Rattle.shared_heap.specs.Shared.{AllNotedIn, AllSeenIn, EntriesFollow, history_of, invoked_in, seats_of}
+use Rattle.shared_heap.specs.Shared.{AllNotedIn, AllSeenIn, IsWellFormed, history_of, invoked_in, seats_of}
 
 -- The part of a thread in a history is its log, and at most one entry more, which it has not yet
 -- logged; none if it is done. The entries of the log are those of its first commands, and the entry
--- more is of the command in hand, the next one of the trace. The timeline has the invocations of its
--- trace.
+-- more is of the command in hand, the next one of the trace. The timeline has the invocations of
+-- its trace.
 pub record HasPartOf (timeline : List Moment) (order : List HistoryItem) (l : LocalState) : Type 0
   where
     pub more : List Entry
@@ -41,8 +41,8 @@ AllHaveParts timeline order (h ∷ hs) =
 
 -- There is one history in which the threads of all seats have their parts, and there are no other
 -- entries: each thread of the heap is in exactly one seat, and no other thread has an entry. It is
--- the history of a timeline, of which what they have seen, and every note, is a prefix. The timeline
--- has the invocations of all commands, each before its entry, and it keeps real-time order.
+-- the history of a well-formed timeline, of which what they have seen, and every note, is a prefix.
+-- The timeline has the invocations of all commands, and the history keeps real-time order.
 pub record FitsOneHistory (c : Config) (s : table.State Command View) : Type 0 where
   pub timeline : List Moment
   pub order : List HistoryItem
@@ -55,8 +55,8 @@ pub record FitsOneHistory (c : Config) (s : table.State Command View) : Type 0 w
   pub once : (t : ℕ) → t < c.threads → seats_of t s.views ≡ 1
   pub others : (u : ℕ) → c.threads ≤ u → part u order ≡ []
   pub ordered : order ≡ history_of timeline
-  pub uninvoked : (u : ℕ) → c.threads ≤ u → invoked_in u timeline ≡ []
-  pub follow : EntriesFollow timeline
+  pub no_others : (u : ℕ) → c.threads ≤ u → invoked_in u timeline ≡ []
+  pub formed : IsWellFormed timeline
   pub real_time : KeepsRealTime timeline order
 
 -- each thread has finished its commands

@@ -19,29 +19,29 @@ pub record ComeBefore (order : List HistoryItem) (t n u m : ℕ) : Type 0 where
   pub many : n ≤ length (part t first)
   pub few : length (part u first) ≤ m
 
--- Take any moment of the timeline. The entries that stand before it come, in the order, before the
--- entries of all commands that are invoked after it.
+-- Take any prefix of the timeline. Its entries come, in the order, before the entries of all
+-- commands that are invoked after it.
 abbrev pub KeepsRealTime : List Moment → List HistoryItem → Type 0
 KeepsRealTime timeline order =
     (p : List Moment) → IsStartOf p timeline → (t n u m : ℕ)
     → n ≤ length (part t (history_of p)) → length (invoked_in u p) ≤ m
     → ComeBefore order t n u m
 
--- ---- two moments of a table
+-- ---- two states of a table
 
 -- in this state of the table, this is what the seat of a worker knows
-abbrev pub HasSeat : table.State Command View → Held → Type 0
-HasSeat s h = (id : ℕ) × (notes : List (List Moment))
+abbrev pub IsSeatOf : table.State Command View → Held → Type 0
+IsSeatOf s h = (id : ℕ) × (notes : List (List Moment))
     × (get_elem? s.views id ≡ some (one_view h notes))
 
 -- In this state of the table, a worker has seen this timeline.
-pub record WasSeen (s : table.State Command View) (p : List Moment) : Type 0 where
+pub record HadSeen (s : table.State Command View) (p : List Moment) : Type 0 where
   pub worker : Held
-  pub seat : HasSeat s worker
+  pub seat : IsSeatOf s worker
   pub seen : IsStartOf p worker.past.seen
 
 -- The entries of this timeline come, in the order, before the entries of all commands that the
 -- thread did not yet have.
-abbrev pub ComesBeforeTheNext : List Moment → Held → List HistoryItem → Type 0
-ComesBeforeTheNext p h order = (t n : ℕ) → n ≤ length (part t (history_of p))
+abbrev pub PrecedesLaterCommands : List Moment → Held → List HistoryItem → Type 0
+PrecedesLaterCommands p h order = (t n : ℕ) → n ≤ length (part t (history_of p))
     → ComeBefore order t n h.local.thread (length h.local.trace)

@@ -33,7 +33,7 @@ history_of [] = []
 history_of (moments.Began ∷ ms) = Started ∷ history_of ms
 history_of (moments.Invoked t k ∷ ms) = history_of ms
 history_of (moments.Stamped ∷ ms) = history_of ms
-history_of (moments.Ended e ∷ ms) = Did e ∷ history_of ms
+history_of (moments.TookEffect e ∷ ms) = Did e ∷ history_of ms
 
 -- the commands of thread t that were invoked, in the order of the timeline
 abbrev pub invoked_in : ℕ → List Moment → List Command
@@ -42,7 +42,7 @@ invoked_in t (moments.Began ∷ ms) = invoked_in t ms
 invoked_in t (moments.Invoked u k ∷ ms) =
     if u == t then k ∷ invoked_in t ms else invoked_in t ms
 invoked_in t (moments.Stamped ∷ ms) = invoked_in t ms
-invoked_in t (moments.Ended e ∷ ms) = invoked_in t ms
+invoked_in t (moments.TookEffect e ∷ ms) = invoked_in t ms
 
 -- how many stamps were drawn
 abbrev pub stamps_in : List Moment → ℕ
@@ -50,21 +50,24 @@ stamps_in [] = 0
 stamps_in (moments.Began ∷ ms) = stamps_in ms
 stamps_in (moments.Invoked u k ∷ ms) = stamps_in ms
 stamps_in (moments.Stamped ∷ ms) = stamps_in ms + 1
-stamps_in (moments.Ended e ∷ ms) = stamps_in ms
+stamps_in (moments.TookEffect e ∷ ms) = stamps_in ms
 
 -- The number is this count, unless that exceeds a word.
-abbrev pub Counts : ℕ → ℕ → Type 0
-Counts n count = (n ≡ count) ⊎ (2 ^ 64 ≤ count)
+abbrev pub IsCountUnlessWrapped : ℕ → ℕ → Type 0
+IsCountUnlessWrapped n count = (n ≡ count) ⊎ (2 ^ 64 ≤ count)
 
--- the first list is a prefix of the second
+-- The first list is a prefix of the second.
 abbrev pub IsStartOf : {A : Type 0} → List A → List A → Type 0
 IsStartOf {A} start whole = (more : List A) × (whole ≡ start ++ more)
 
--- Each entry comes after the invocation of its command: every prefix has at most as many entries of
--- a thread as invocations of it. The n-th entry of a thread is that of its n-th command.
-abbrev pub EntriesFollow : List Moment → Type 0
-EntriesFollow timeline = (p : List Moment) → IsStartOf p timeline
-    → (t : ℕ) → length (part t (history_of p)) ≤ length (invoked_in t p)
+-- A thread has at most one command that is invoked and has no entry yet: every prefix has as many
+-- entries of a thread as invocations of it, or one fewer. The n-th entry of a thread is that of its
+-- n-th command. So each entry comes after the invocation of its command, and before that of the
+-- thread's next one.
+abbrev pub IsWellFormed : List Moment → Type 0
+IsWellFormed timeline = (p : List Moment) → IsStartOf p timeline → (t : ℕ)
+    → (length (part t (history_of p)) ≤ length (invoked_in t p))
+    × (length (invoked_in t p) ≤ length (part t (history_of p)) + 1)
 
 -- what each of these threads has seen, and each of these notes, is a prefix of this timeline
 abbrev pub AllSeenIn : List Moment → List Held → Type 0
@@ -78,12 +81,12 @@ AllNotedIn timeline (n ∷ ns) = IsStartOf n timeline × AllNotedIn timeline ns
 -- ---- the rule
 
 -- A timeline of a run: its history is the run's order, the commands of each thread were invoked in
--- the order of its trace, and each entry comes after the invocation of its command.
+-- the order of its trace, and it is well-formed.
 pub record IsTimelineOf (c : Config) (r : Run) (timeline : List Moment) : Type 0 where
   pub ordered : r.order ≡ history_of timeline
   pub invoked : (t : ℕ) → t < c.threads → invoked_in t timeline ≡ (local_in c r t).trace
   pub others : (u : ℕ) → c.threads ≤ u → invoked_in u timeline ≡ []
-  pub follow : EntriesFollow timeline
+  pub formed : IsWellFormed timeline
 
 -- a thread is the run's
 abbrev pub Fits : Config → Run → Held → Type 0
@@ -107,18 +110,18 @@ abbrev pub AllTimed : Config → Run → ℕ → List Held → Type 0
 AllTimed c r turns [] = Unit {0}
 AllTimed c r turns (h ∷ hs) = IsTimed c r turns h × AllTimed c r turns hs
 
--- There is a run of some job, each turn of which was an event. Its words are those of the table,
--- followed by one that counts the stamps. Each of its threads is in exactly one view, with all of its commands and entries so far. It has a
--- timeline, of which what each thread has seen, and each note, is a prefix. The seats count its
--- turns.
+-- There is a run of some job, each turn of which was an event. The words of the table are its
+-- words, followed by one that counts the stamps. Each of its threads is in exactly one view, with
+-- all of its commands and entries so far. It has a timeline, of which what each thread has seen,
+-- and each note, is a prefix. The seats count its turns.
 pub record SharedKept (k : Whole) (s : table.State Command View) : Type 0 where
   pub run : Run
   pub by : IsByEvents k.config run
   pub drawn : ℕ
   pub words : s.words ≡ run.state.words ++ drawn ∷ []
   pub timeline : List Moment
-  pub counts : Counts drawn (stamps_in timeline)
-  pub lined : IsTimelineOf k.config run timeline
+  pub counts : IsCountUnlessWrapped drawn (stamps_in timeline)
+  pub timeline_of : IsTimelineOf k.config run timeline
   pub each : (id : ℕ) (v : View) → get_elem? s.views id ≡ some v
       → AllFit k.config run v.threads × AllNotedIn timeline v.notes
       × AllTimed k.config run (length by.after.turns) v.threads × AllSeenIn timeline v.threads
@@ -199,7 +202,7 @@ pub record IsOfRun (c : Config) (p : Past) (l : LocalState) : Type 0 where
   pub after : IsAfterTurns c run
   pub there : l.thread < c.threads
   pub local : l ≡ local_in c run l.thread
-  pub lined : IsTimelineOf c run p.seen
+  pub timeline_of : IsTimelineOf c run p.seen
   pub counted : p.span.last ≡ length after.turns
 
 abbrev pub AllOfRuns : List Held → Type 0
@@ -300,16 +303,16 @@ abbrev pub drawn_of : List Moment → ℕ → table.Me Command View → table.Me
 drawn_of now turns me =
     (record { threads = map (drawn_by now turns) me.0.threads; notes = me.0.notes }, me.1)
 
--- What a step ensures that draws a stamp: the number found counts the stamps of a timeline `now`, to
--- which one is appended. The seat knows that timeline and the turns of a run of which it is a thread.
--- What it had seen before is a prefix of `now`.
+-- What a step ensures that draws a stamp: the number found counts the stamps of a timeline `now`,
+-- to which one is appended. The seat knows that timeline and the turns of a run of which it is a
+-- thread. What it had seen before is a prefix of `now`.
 pub record Draws (found : ℕ) (me after : table.Me Command View) : Type 0 where
   pub now : List Moment
   pub turns : ℕ
   pub moved : after ≡ drawn_of now turns me
   pub told : AllOfRuns after.0.threads
   pub seen : AllSeenIn now me.0.threads
-  pub counts : Counts found (stamps_in now)
+  pub counts : IsCountUnlessWrapped found (stamps_in now)
 
 -- the word that a thread's next event finds
 abbrev pub found_by : LocalState → table.State Command View → ℕ

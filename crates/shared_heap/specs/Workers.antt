@@ -28,7 +28,7 @@ use Rattle.shared_heap.specs.declared.rules.Moment.TheVariants as moments
 use Rattle.shared_heap.specs.declared.rules.Span.{Span}
 use Rattle.shared_heap.specs.declared.rules.View.{View}
 use Rattle.shared_heap.specs.RealTime.{KeepsRealTime}
-use Rattle.shared_heap.specs.Shared.{EntriesFollow, IsOfRun, IsStartOf, SharedKept, first_held, first_past, held_of, history_of, invoked_in, one_view, unasked}
+use Rattle.shared_heap.specs.Shared.{IsWellFormed, IsOfRun, IsStartOf, SharedKept, first_held, first_past, held_of, history_of, invoked_in, one_view, unasked}
 use Rattle.shared_heap.specs.Turns.{MadeTurns}
 
 -- which table it is, and its configuration
@@ -121,8 +121,7 @@ AllStart (n ∷ ns) order = IsStartOf n order × AllStart ns order
 
 -- What a worker has seen is a history of the heap that never frees, with licensed fulls and the
 -- work that is owed. The worker's part of it is its entries, and these are of its commands. It is
--- the history of a timeline, which has the invocations of the worker's commands, and in which each
--- entry comes after the invocation of its command.
+-- the history of a well-formed timeline, which has the invocations of the worker's commands.
 pub record HasSeenIts (w : WorkerState) : Type 0 where
   pub legal : Legal w.thread.config w.seen
   pub licensed : Licensed w.thread.config w.seen
@@ -132,14 +131,14 @@ pub record HasSeenIts (w : WorkerState) : Type 0 where
   pub asked : map (λ (e : Entry). e.command) (told w) ≡ asked w
   pub ordered : w.seen ≡ history_of w.timeline
   pub invoked : invoked_in w.thread.thread w.timeline ≡ w.thread.trace
-  pub follow : EntriesFollow w.timeline
+  pub formed : IsWellFormed w.timeline
 
 -- The worker has executed one more command, with this reply: the command is appended to its
 -- commands, and an entry to its entries. What it had seen, and each note that it had learned, is a
 -- prefix of a history `start`. What it has seen now is `start` followed by items, among which the
 -- entry is the only one of this worker. In the timeline that it has seen, the command's invocation
--- stands right behind `past`, whose history is `start` and of which the timeline that it had seen is
--- a prefix.
+-- comes directly after `past`, whose history is `start` and of which the timeline that it had seen
+-- is a prefix.
 pub record HasAnswered (old : WorkerState) (k : Command) (a : Reply) (new : WorkerState) : Type 0
   where
     pub asked : new.thread.trace ≡ old.thread.trace ++ k ∷ []
@@ -183,7 +182,7 @@ pub record HasPart (timeline : List Moment) (order : List HistoryItem) (t : ℕ)
   pub told : told w ≡ part t order
   pub asked : map (λ (e : Entry). e.command) (part t order) ≡ asked w
   pub invoked : invoked_in t timeline ≡ w.thread.trace
-  pub lined : IsStartOf w.timeline timeline
+  pub on_timeline : IsStartOf w.timeline timeline
   pub seen : IsStartOf w.seen order
 
 -- The history is the order of a run of the machine, each turn of which was an event. At its end
@@ -202,10 +201,9 @@ pub record IsOfMachine (c : Config) (ws : List WorkerState) (order : List Histor
 -- within the limit. Each entry has the work that its command owes. The entries of each thread are,
 -- in order, those of its worker, and there are no other entries. The number of cycles is that of
 -- its starts. On m blocks, all entries of C cycles together have at least (C - 1) m units of work
--- and at most 2 m C. The history is that of a run of the machine, and of a timeline that has the
--- invocations of all commands, each before its entry and after all that its worker had seen. It
--- keeps real-time order: what stands in the timeline before the invocation of a command comes in
--- the history before the command's entry.
+-- and at most 2 m C. The history is that of a run of the machine, and of a well-formed timeline
+-- that has the invocations of all commands. It keeps real-time order: what the timeline has before
+-- the invocation of a command comes in the history before the command's entry.
 pub record HaveOneHistory (c : Config) (ws : List WorkerState) (cycles : ℕ) : Type 0 where
   pub timeline : List Moment
   pub order : List HistoryItem
@@ -217,8 +215,8 @@ pub record HaveOneHistory (c : Config) (ws : List WorkerState) (cycles : ℕ) : 
       × ((d : WorkerState) → HasPart timeline order t (slice_index_or ws j d))
   pub others : (u : ℕ) → c.threads ≤ u → part u order ≡ []
   pub ordered : order ≡ history_of timeline
-  pub uninvoked : (u : ℕ) → c.threads ≤ u → invoked_in u timeline ≡ []
-  pub follow : EntriesFollow timeline
+  pub no_others : (u : ℕ) → c.threads ≤ u → invoked_in u timeline ≡ []
+  pub formed : IsWellFormed timeline
   pub real_time : KeepsRealTime timeline order
   pub starts : cycles ≡ starts_in order
   pub least_units : (cycles - 1) * c.blocks ≤ work_in order
@@ -230,16 +228,18 @@ abbrev pub AreSome : HeapState → List WorkerState → Type 0
 AreSome h ws = (0 < length ws)
     × ((i : ℕ) (d : WorkerState) → i < length ws → (slice_index_or ws i d).heap ≡ h.id)
 
--- The commands of thread t that have an entry are the first that it was given.
-abbrev pub HasFirst : List Moment → List HistoryItem → ℕ → Type 0
-HasFirst timeline order t = (rest : List Command)
+-- The commands of thread t that have an entry are the first that the timeline has invocations of.
+abbrev pub HasFirstCommands : List Moment → List HistoryItem → ℕ → Type 0
+HasFirstCommands timeline order t = (rest : List Command)
     × (invoked_in t timeline ≡ map (λ (e : Entry). e.command) (part t order) ++ rest)
 
--- There is one history of the heap, as of one that is closed with all of its workers. The entries of
--- each of these workers are, in order, its thread's part. Those of any other thread are of the first
--- commands that it was given, and no thread beyond those of the heap has an entry. The history is
--- that of a run of the machine, each turn of which was an event, and of which these workers have
--- their threads. It keeps real-time order.
+-- There is one history of the heap, as of one that is closed with all of its workers, but without
+-- the bounds of the work. The entries of each of these workers are, in order, its thread's part.
+-- Those of any other thread are of the first commands that the timeline has invocations of, and no
+-- thread beyond those of the heap has an entry. Nothing ties these to the replies that a lost
+-- worker had, but what the other workers saw of them. The history is that of a run of the machine,
+-- each turn of which was an event, and of which these workers have their threads. It keeps
+-- real-time order.
 pub record HaveHistoryOfSome (c : Config) (ws : List WorkerState) (cycles : ℕ) : Type 0 where
   pub timeline : List Moment
   pub order : List HistoryItem
@@ -249,13 +249,13 @@ pub record HaveHistoryOfSome (c : Config) (ws : List WorkerState) (cycles : ℕ)
   pub right : (rate : ℕ) → IsRate c rate → RightWork c.width rate order
   pub parts : (j : ℕ) (d : WorkerState) → j < length ws
       → HasPart timeline order (slice_index_or ws j d).thread.thread (slice_index_or ws j d)
-  pub apart : (i j : ℕ) (d : WorkerState) → i < j → j < length ws
+  pub distinct : (i j : ℕ) (d : WorkerState) → i < j → j < length ws
       → ¬ ((slice_index_or ws i d).thread.thread ≡ (slice_index_or ws j d).thread.thread)
-  pub firsts : (t : ℕ) → t < c.threads → HasFirst timeline order t
+  pub first_commands : (t : ℕ) → t < c.threads → HasFirstCommands timeline order t
   pub others : (u : ℕ) → c.threads ≤ u → part u order ≡ []
   pub ordered : order ≡ history_of timeline
-  pub uninvoked : (u : ℕ) → c.threads ≤ u → invoked_in u timeline ≡ []
-  pub follow : EntriesFollow timeline
+  pub no_others : (u : ℕ) → c.threads ≤ u → invoked_in u timeline ≡ []
+  pub formed : IsWellFormed timeline
   pub real_time : KeepsRealTime timeline order
   pub starts : cycles ≡ starts_in order
   pub run : Run
@@ -334,8 +334,8 @@ pub record KnowsAll (me : table.Me Command View) (ws : List WorkerState) : Type 
   pub knows : me ≡ (record { threads = threads; notes = notes }, [])
   pub all : AreOfWorkers ws threads
 
--- The last state of a table, in which its rule holds. A seat knows the threads of these workers, and
--- the phase word has this cycle.
+-- The last state of a table, in which its rule holds. A seat knows the threads of these workers,
+-- and the phase word has this cycle.
 pub record WasClosedWith (c : Config) (ws : List WorkerState) (cycles : ℕ) : Type 0 where
   pub whole : Whole
   pub last : table.State Command View

@@ -348,13 +348,13 @@ impl SharedHeap {
             .join_seat::<Both>(&mut who.port.seat, seat);
     }
 
-    /// Draws a stamp for a worker of this heap: a number that tells how much of the heap's timeline
-    /// the worker has seen. Stamps are plain numbers, which pass through any channel. A worker whose
-    /// stamp is no less than another's has seen all that that one had seen when it drew its own
-    /// (`stamps_are_in_order`), so the commands that it executes from then on come behind that.
+    /// Draws a stamp for a worker of this heap: a number to compare with the stamps of other
+    /// workers, which passes through any channel. A worker whose stamp is no less than another's
+    /// has seen all that that one had seen at its own, unless 2^64 were drawn
+    /// (`stamps_are_in_order`). So its next commands come after that.
     ///
-    /// Its code makes one operation on the shared words, which adds 1 to the count of stamps, and
-    /// never waits. The bounds of the last command (`in_time`) no longer speak of the worker's span.
+    /// It never waits. Its code makes one operation on the shared words (`tools/steps`). `in_time`
+    /// of the last command no longer speaks of the worker's span.
     pub fn stamp(&self, who: &mut Worker) -> u64
         requires { who.old.heap ≡ self.now.id }
         ensures { HasDrawn who.old result who.new }
@@ -377,9 +377,10 @@ impl SharedHeap {
         self.close_in_order(workers)
     }
 
-    /// Closes the heap with some of its workers, at least one, in any order. The others may be lost,
-    /// or in the middle of a command. One history has all the commands that these workers executed,
-    /// with their replies. Returns how many cycles of collection were started.
+    /// Closes the heap with some of its workers, at least one, in any order. The others may be
+    /// lost, or in the middle of a command. One history has all the commands that these workers
+    /// executed, with their replies, and of the others' commands at least what these workers saw.
+    /// Returns how many cycles of collection were started.
     pub fn close_some(self, who: Vec<Worker>) -> u64
         requires { AreSome self who.items }
         ensures { HaveHistoryOfSome self.config who.items result }

@@ -5,7 +5,6 @@ ghost use Rattle.std.specs.Prelude.{◌≡◌, ◌≤◌, ◌^◌, ◌⊎◌, �
 ghost use mathlib.Core.Option.{some};
 ghost use lib.ListN.{get_elem?};
 ghost use Rattle.atomic_table.specs.Table as table;
-ghost use Rattle.block_store.specs.declared.Config.{Config};
 ghost use Rattle.never_heap.specs.declared.Command.{Command};
 ghost use Rattle.never_heap.specs.declared.Entry.{Entry};
 ghost use Rattle.never_heap.specs.declared.Reply.{Reply};
@@ -16,9 +15,9 @@ ghost use Rattle.shared_heap.specs.declared.rules.Held.{Held};
 ghost use Rattle.shared_heap.specs.declared.rules.Moment.{Moment};
 ghost use Rattle.shared_heap.specs.declared.rules.Moment.TheVariants as moments;
 ghost use Rattle.shared_heap.specs.declared.rules.View.{View};
-ghost use Rattle.shared_heap.specs.Shared.{IsStartOf, SharedKept, one_view, stamps_in};
-ghost use Rattle.shared_heap.specs.RealTime.{ComesBeforeTheNext, HasSeat, WasSeen};
-ghost use Rattle.shared_heap.specs.Workers.{HasAnswered, HasRoom, HasSeenIts, HaveOneHistory, WorkerState};
+ghost use Rattle.shared_heap.specs.Shared.{IsStartOf, SharedKept, history_of, one_view, stamps_in};
+ghost use Rattle.shared_heap.specs.RealTime.{PrecedesLaterCommands, IsSeatOf, HadSeen};
+ghost use Rattle.shared_heap.specs.Workers.{HasAnswered, HasRoom, HasSeenIts, WorkerState};
 ghost use Rattle.shared_heap.specs.Stamps.{HasDrawn};
 ghost use Rattle.shared_heap.specs.Behind.{StandsBehind, StandsBehindAll};
 ghost use Rattle.shared_heap.specs.Prefixes.{FitsOneHistory, AllAreDone, EndsInTime};
@@ -34,40 +33,44 @@ pub fn what_was_answered_fits_one_history()
 {}
 
 /// Real-time order, of two states of one table, in which the rule holds: what a worker had seen in
-/// the first comes before the entries of all commands that were invoked after it. So an operation
-/// that has returned comes before each operation that begins later.
+/// the first comes before the entries of all commands that were invoked after it. A command that
+/// has returned is in what its worker has seen (`HasAnswered`). So it comes before each command
+/// that is invoked later.
 ///
 /// A seat's step appends to what its worker has seen, and no other step changes that. So a worker
 /// that has seen `p` in the first state has seen it in each later one.
 pub fn what_was_seen_comes_before_what_is_invoked_later()
     ensures { (k : Whole) (s later : table.State Command View) (now : SharedKept k s)
-        (then : SharedKept k later) (p : List Moment) → WasSeen s p → WasSeen later p
-        → (h : Held) → HasSeat s h → ComesBeforeTheNext p h then.run.order }
+        (then : SharedKept k later) (p : List Moment) → HadSeen s p → HadSeen later p
+        → (h : Held) → IsSeatOf s h → PrecedesLaterCommands p h then.run.order }
 {}
 
-/// Real-time order, of commands of a closed heap. If a command was invoked after all that some
-/// worker had seen, then its entry comes behind all of that (`behind`). Of two commands, either the
-/// second was invoked after all that the worker of the first had seen when the first returned, its
-/// entry included; or the invocation of the second stands among what that worker had seen then, so
-/// that it was invoked before the first returned (`either`).
+/// Real-time order, of commands of a heap that was closed, by `close` or `close_some`, with this
+/// timeline and history. If a command was invoked after all that some worker had seen, then its
+/// entry comes after all of that (`after`). Of two commands, either the second was invoked after
+/// all that the worker of the first had seen when the first returned, its entry included; or the
+/// invocation of the second is in what that worker had seen then, so that it was invoked before
+/// the first returned (`either`).
 pub fn commands_keep_real_time()
-    ensures behind { (c : Config) (ws : List WorkerState) (cycles : ℕ)
-        (is : HaveOneHistory c ws cycles) (v x y : WorkerState) (m : Command) (b : Reply)
-        (did : HasAnswered x m b y) → HasSeenIts v → IsStartOf y.timeline is.timeline
-        → IsStartOf v.timeline did.past → StandsBehind v.seen did.entry is.order }
-    ensures either { (c : Config) (ws : List WorkerState) (cycles : ℕ) (is : HaveOneHistory c ws cycles)
-        (u v x y : WorkerState) (k m : Command) (a b : Reply) (first : HasAnswered u k a v)
-        (second : HasAnswered x m b y)
-        → IsStartOf v.timeline is.timeline → IsStartOf y.timeline is.timeline
+    ensures after { (timeline : List Moment) (order : List HistoryItem)
+        → order ≡ history_of timeline → (v x y : WorkerState) (m : Command) (b : Reply)
+        (did : HasAnswered x m b y) → HasSeenIts v → IsStartOf y.timeline timeline
+        → IsStartOf v.timeline did.past → StandsBehind v.seen x.thread.log did.entry order }
+    ensures either { (timeline : List Moment) (u v x y : WorkerState) (k m : Command)
+        (a b : Reply) (first : HasAnswered u k a v) (second : HasAnswered x m b y)
+        → IsStartOf v.timeline timeline → IsStartOf y.timeline timeline
         → IsStartOf v.timeline second.past
         ⊎ IsStartOf (second.past ++ moments.Invoked x.thread.thread m ∷ []) v.timeline }
 {}
 
 /// Of two stamps of one heap, the worker of the one that is no less had seen all that the other had
 /// seen when it drew its own: the timeline that the first had seen is a prefix of what the second
-/// had. So the commands that the second worker executed from then on come behind all of that
-/// (`commands_keep_real_time`, `behind`). Or 2^64 stamps were drawn. The timeline is that of the
-/// heap, as `close` has it.
+/// had. So the commands that the second worker executed from then on come after all of that
+/// (`commands_keep_real_time`, `after`). The timeline is that of the heap, as `close` and
+/// `close_some` have it.
+///
+/// Or 2^64 stamps were drawn, so that the numbers began again. No clause bounds how many are drawn,
+/// so a program can't exclude this case; at one each nanosecond it takes 584 years.
 pub fn stamps_are_in_order()
     ensures { (timeline : List Moment) (u v x y : WorkerState) (n m : ℕ) → HasDrawn u n v
         → HasDrawn x m y → n ≤ m → IsStartOf v.timeline timeline → IsStartOf y.timeline timeline
@@ -88,12 +91,15 @@ pub fn commands_alone_end_in_time()
 /// In the history that a worker has seen after a command, the command's entry comes after
 /// everything that the worker had seen before it (`seen`), and after everything in the notes that
 /// it had learned (`noted`). The same holds in each longer history (`still`), such as the one of
-/// the closed heap.
+/// the closed heap. The entry is known by its place: before it the worker's thread has the entries
+/// of its earlier commands, and no others.
 pub fn commands_stand_behind_what_was_seen()
     ensures seen { (old new : WorkerState) (k : Command) (a : Reply)
-        (is : HasAnswered old k a new) → StandsBehind old.seen is.entry new.seen }
+        (is : HasAnswered old k a new)
+        → StandsBehind old.seen old.thread.log is.entry new.seen }
     ensures noted { (old new : WorkerState) (k : Command) (a : Reply)
-        (is : HasAnswered old k a new) → StandsBehindAll old.notes is.entry new.seen }
-    ensures still { (first h order : List HistoryItem) (e : Entry) → StandsBehind first e h
-        → IsStartOf h order → StandsBehind first e order }
+        (is : HasAnswered old k a new)
+        → StandsBehindAll old.notes old.thread.log is.entry new.seen }
+    ensures still { (first h order : List HistoryItem) (log : List Entry) (e : Entry)
+        → StandsBehind first log e h → IsStartOf h order → StandsBehind first log e order }
 {}

@@ -7,8 +7,8 @@ use heap_system::{Local, System};
 use never_heap::{Command, Entry};
 use std::collections::LinkedList;
 
-/// An item of a timeline: the start of a cycle, the invocation of a command, or its entry. It is
-/// used in proofs only.
+/// An item of a timeline: the start of a cycle, the invocation of a command, its entry, or a stamp.
+/// It is used in proofs only.
 pub enum Moment {
     /// A cycle of collection began.
     Began,
@@ -17,7 +17,7 @@ pub enum Moment {
     /// A worker drew a stamp.
     Stamped,
     /// A command took effect, with this entry.
-    Ended(Entry),
+    TookEffect(Entry),
 }
 
 /// The turns of a thread's last command. It is used in proofs only.

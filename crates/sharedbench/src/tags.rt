@@ -1,9 +1,11 @@
 //! Times writes and reads of a table of tags that threads use beside each other. `bench/live_tags`
 //! runs it.
 
-ghost use Rattle.live_tags.specs.Live.{IsOf, IsSameWorker};
+ghost use Rattle.live_tags.specs.Live.{IsOf};
 
-use crate::{nanoseconds, number_in, room, tell};
+use crate::slim::{nanoseconds, open_tags, push, read_tag, room, tell, write_tag};
+use crate::stop::Stop;
+use crate::task::Rounds;
 use live_tags::{LiveTags, TagWorker};
 use std::alloc::Global;
 use std::sync::Wait;
@@ -11,19 +13,7 @@ use std::thread;
 use std::thread::Threads;
 use std::time::Clock;
 
-/// How many places the table has.
-const PLACES: u32 = 100;
-
-/// What each thread does: rounds of a write and a read of one place.
-#[derive(Clone, Copy, Debug)]
-struct Rounds {
-    threads: u32,
-    /// How many are done untimed, and how many timed after that.
-    warm: u64,
-    timed: u64,
-}
-
-/// The times of one thread, in nanoseconds.
+/// The times of writes and reads, in nanoseconds.
 #[derive(Drop)]
 struct Times {
     writes: Vec<u64>,
@@ -31,19 +21,49 @@ struct Times {
 }
 
 /// Prints a line for the writes of all threads, and one for their reads.
-pub(crate) fn run<R: Threads + Wait + Clock + Sync>(
+pub fn run<R: Threads + Wait + Clock + Sync>(
     rt: &HostRuntime,
     threads: &R,
-    words: &[String],
-) -> Option<()> {
-    let rounds = Rounds {
-        threads: u32::try_from(number_in(words, 1)?).ok()?,
-        warm: number_in(words, 2)?,
-        timed: number_in(words, 3)?,
+    rounds: Rounds,
+) -> Result<(), Stop> {
+    let each = all_times(threads, rt.alloc(), rounds)?;
+    tell_all(rt, each.as_slice())
+}
+
+fn tell_all(rt: &HostRuntime, each: &[Result<Times, Stop>]) -> Result<(), Stop> {
+    let mut all = Times {
+        writes: Vec::new(rt.alloc()),
+        reads: Vec::new(rt.alloc()),
     };
-    let all = all_times(threads, rt.alloc(), rounds)?;
-    tell(rt, "write", "operations", all.writes)?;
-    tell(rt, "read", "operations", all.reads)
+    match add_all(each, &mut all) {
+        Ok(()) => tell_times(rt, &mut all),
+        Err(stop) => Err(stop),
+    }
+}
+
+fn tell_times(rt: &HostRuntime, all: &mut Times) -> Result<(), Stop> {
+    tell(rt, "write", "operations", &mut all.writes)?;
+    tell(rt, "read", "operations", &mut all.reads)
+}
+
+fn add_all(each: &[Result<Times, Stop>], all: &mut Times) -> Result<(), Stop> {
+    for times in each {
+        match times {
+            Ok(times) => {
+                add_list(&times.writes, &mut all.writes)?;
+                add_list(&times.reads, &mut all.reads)?;
+            }
+            Err(stop) => return Err(*stop),
+        }
+    }
+    Ok(())
+}
+
+fn add_list(times: &[u64], all: &mut Vec<u64>) -> Result<(), Stop> {
+    match all.extend_from_slice(times) {
+        Ok(()) => Ok(()),
+        Err(_) => Err(Stop::NoMemory),
+    }
 }
 
 /// The times of all threads.
@@ -51,26 +71,19 @@ fn all_times<R: Threads + Wait + Clock + Sync>(
     rt: &R,
     alloc: Global,
     rounds: Rounds,
-) -> Option<Times> {
-    let (table, workers) = LiveTags::open(alloc, PLACES, rounds.threads).ok()?;
+) -> Result<Vec<Result<Times, Stop>>, Stop> {
+    let (table, workers) = open_tags(alloc, rounds.threads)?;
     let each = thread::map_vec(
         rt,
         workers,
-        &|who: TagWorker| -> Option<Times>
+        &|who: TagWorker| -> Result<Times, Stop>
             requires { IsOf table who }
         { thread_times(rt, alloc, &table, rounds, who) },
-    )
-    .ok()?;
-    let mut all = Times {
-        writes: Vec::new(alloc),
-        reads: Vec::new(alloc),
-    };
-    for times in each {
-        let times = times?;
-        all.writes.extend_from_slice(&times.writes).ok()?;
-        all.reads.extend_from_slice(&times.reads).ok()?;
+    );
+    match each {
+        Ok(each) => Ok(each),
+        Err(_) => Err(Stop::NoMemory),
     }
-    Some(all)
 }
 
 /// The times of one thread.
@@ -80,45 +93,59 @@ fn thread_times<R: Wait + Clock>(
     table: &LiveTags,
     rounds: Rounds,
     who: TagWorker,
-) -> Option<Times>
+) -> Result<Times, Stop>
     requires { IsOf table.now who }
 {
     let mut who = who;
-    let mut ignored = Times {
-        writes: room(alloc, rounds.warm)?,
-        reads: room(alloc, rounds.warm)?,
-    };
-    let mut times = Times {
-        writes: room(alloc, rounds.timed)?,
-        reads: room(alloc, rounds.timed)?,
-    };
-    add_times(rt, table, &mut who, rounds.warm, &mut ignored)?;
-    add_times(rt, table, &mut who, rounds.timed, &mut times)?;
-    Some(times)
+    let mut times = room_for(alloc, rounds.warm.max(rounds.timed))?;
+    match do_rounds(rt, table, &mut who, rounds, &mut times) {
+        Ok(()) => Ok(times),
+        Err(stop) => Err(stop),
+    }
+}
+
+fn room_for(alloc: Global, rounds: u64) -> Result<Times, Stop> {
+    let writes = room(alloc, rounds)?;
+    let reads = room(alloc, rounds)?;
+    Ok(Times { writes, reads })
+}
+
+/// Does untimed rounds, and then those that are timed.
+fn do_rounds<R: Wait + Clock>(
+    rt: &R,
+    table: &LiveTags,
+    who: &mut TagWorker,
+    rounds: Rounds,
+    times: &mut Times,
+) -> Result<(), Stop>
+    requires { IsOf table.now who.old }
+{
+    add_times(rt, table, who, rounds.warm, times)?;
+    times.writes.clear();
+    times.reads.clear();
+    add_times(rt, table, who, rounds.timed, times)
 }
 
 /// Writes and reads one place after the other, and adds how long each operation took: from the end
 /// of the one before to its own.
-#[tactic(auto, using(live_tags::proofs::Crews::same_first, live_tags::proofs::Crews::same_then, live_tags::proofs::Crews::of_same))]
 fn add_times<R: Wait + Clock>(
     rt: &R,
     table: &LiveTags,
     who: &mut TagWorker,
     rounds: u64,
     times: &mut Times,
-) -> Option<()>
+) -> Result<(), Stop>
     requires { IsOf table.now who.old }
-    ensures { IsSameWorker who.old who.new }
+    ensures { IsOf table.now who.new }
 {
     let mut before = nanoseconds(rt);
     for round in 0..rounds {
-        let place = (round % u64::from(PLACES)) as u32;
-        table.write(rt, who, place, round % 1_000_000, 5).ok()?;
+        write_tag(rt, table, who, round)?;
         let written = nanoseconds(rt);
-        times.writes.push(written.saturating_sub(before)).ok()?;
-        table.read(rt, who, place).ok()?;
+        push(&mut times.writes, written.saturating_sub(before))?;
+        read_tag(rt, table, who, round)?;
         before = nanoseconds(rt);
-        times.reads.push(before.saturating_sub(written)).ok()?;
+        push(&mut times.reads, before.saturating_sub(written))?;
     }
-    Some(())
+    Ok(())
 }

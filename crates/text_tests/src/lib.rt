@@ -13,11 +13,11 @@ mod printing;
 #[cfg(test)]
 mod reading;
 #[cfg(test)]
-mod refused;
-#[cfg(test)]
 mod short;
 #[cfg(test)]
 mod std_streams;
+#[cfg(test)]
+mod stopping;
 mod ten_commands;
 #[cfg(test)]
 mod testing;

@@ -8,7 +8,7 @@ use never_heap::Command;
 use std::alloc::{AllocError, Global};
 use std::process::Abort;
 use std::test::Fail;
-use trace_text::{Job, MemSink, MemSource, TraceFault, Why, read_trace, write_job};
+use trace_text::{Job, MemSink, MemSource, TraceFault, read_trace, write_job};
 
 const SMALL: Config = Config {
     width: Width::Four,
@@ -78,24 +78,10 @@ end
 }
 
 #[test]
-fn a_job_may_be_short(rt: HostRuntime) -> Result<(), Fail> {
+fn a_source_that_fails_is_a_read_fault(rt: HostRuntime) -> Result<(), Fail> {
     let text = b"rtheap 1 threads 1 blocks 64 live 20 object 2 shared 0\nthread 0\nend";
-    let job = read(rt.alloc(), text, 64, &[])??;
-    expect_job(&rt, &job, &SMALL, &[&[]]);
     let fault = read(rt.alloc(), text, 8, &[1])?.err();
     assert_eq!(rt; fault, Some(TraceFault::ReadFault));
-    Ok(())
-}
-
-/// That reading these bytes is refused with this fault.
-fn expect_fault(
-    rt: &impl Abort,
-    alloc: Global,
-    bytes: &[u8],
-    fault: TraceFault,
-) -> Result<(), Fail> {
-    let found = read(alloc, bytes, 64, &[])?.err();
-    assert_eq!(rt; found, Some(fault));
     Ok(())
 }
 
@@ -219,75 +205,4 @@ fn thirteen_commands_of_version_2_are_read_and_written(rt: HostRuntime) -> Resul
         &config,
         &[&FIRST, &SECOND, &third],
     )
-}
-
-/// So many bytes of one letter.
-fn letters(alloc: Global, len: usize) -> Result<Vec<u8>, AllocError> {
-    vec![in alloc; b'x'; len]
-}
-
-#[test]
-fn input_ends_early_or_never(rt: HostRuntime) -> Result<(), Fail> {
-    let text = b"rtheap 1 threads 1 blocks 64 live 20 object 2 shared 0\nthread 0\nnew 1 1";
-    let line = TraceFault::BadLine {
-        line: 4,
-        why: Why::End,
-    };
-    expect_fault(&rt, rt.alloc(), text, line)?;
-    let line = TraceFault::BadLine {
-        line: 1,
-        why: Why::Header,
-    };
-    expect_fault(&rt, rt.alloc(), b"", line)?;
-    let most = letters(rt.alloc(), 16_777_216)?;
-    expect_fault(&rt, rt.alloc(), &most, line)?;
-    let more = letters(rt.alloc(), 16_777_217)?;
-    expect_fault(&rt, rt.alloc(), &more, TraceFault::TooLong)
-}
-
-#[test]
-fn a_thread_has_so_many_commands(rt: HostRuntime) -> Result<(), Fail> {
-    let opening = b"rtheap 1 threads 1 blocks 64 live 20 object 2 shared 0\nthread 0\n";
-    let mut text = Vec::from_slice(rt.alloc(), opening)?;
-    for _ in 0..131_072 {
-        text.extend_from_slice(b"nil 1\n")?;
-    }
-    let full = text.len();
-    text.extend_from_slice(b"end\n")?;
-    let job = read(rt.alloc(), &text, 65_536, &[])??;
-    assert_eq!(rt; job.traces.len(), 1);
-    assert_eq!(rt; job.trace(0).len(), 131_072);
-    text.truncate(full);
-    text.extend_from_slice(b"say 1\nend\n")?;
-    let line = TraceFault::BadLine {
-        line: 131_075,
-        why: Why::Size,
-    };
-    expect_fault(&rt, rt.alloc(), &text, line)
-}
-
-#[test]
-fn four_threads_are_read(rt: HostRuntime) -> Result<(), Fail> {
-    let text = b"rtheap 1 threads 4 blocks 4096 live 2000 object 16 shared 16
-thread 0
-thread 1
-len 0
-thread 2
-thread 3
-say 0
-end
-";
-    let config = Config {
-        width: Width::Four,
-        threads: 4,
-        blocks: 4096,
-        live: 2000,
-        object: 16,
-        shared: 16,
-    };
-    let job = read(rt.alloc(), text, 64, &[])??;
-    let length = [Command::Len { s: 0 }];
-    let shown = [Command::Say { s: 0 }];
-    expect_job(&rt, &job, &config, &[&[], &length, &[], &shown]);
-    Ok(())
 }

@@ -1,10 +1,10 @@
-use Rattle.live_rows.proofs.Closing.{are_in_order, come_behind}
+use Rattle.live_rows.proofs.Closing.{are_in_order, come_after}
 use Rattle.live_rings.specs.Live.{rings}
 use Rattle.live_rings.proofs.Decoded.{law}
 use Rattle.live_rings.proofs.laws.operations_keep_real_time.Goals as goal
 
-pub returns-clause-behind : goal.returns-clause-behind
-returns-clause-behind _ = come_behind rings law
+pub returns-clause-after : goal.returns-clause-after
+returns-clause-after _ = come_after rings law
 
 pub returns-clause-either : goal.returns-clause-either
 returns-clause-either _ = are_in_order rings

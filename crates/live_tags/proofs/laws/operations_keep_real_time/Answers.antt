@@ -1,10 +1,10 @@
-use Rattle.live_rows.proofs.Closing.{are_in_order, come_behind}
+use Rattle.live_rows.proofs.Closing.{are_in_order, come_after}
 use Rattle.live_tags.specs.Live.{tags}
 use Rattle.live_tags.proofs.Decoded.{law}
 use Rattle.live_tags.proofs.laws.operations_keep_real_time.Goals as goal
 
-pub returns-clause-behind : goal.returns-clause-behind
-returns-clause-behind _ = come_behind tags law
+pub returns-clause-after : goal.returns-clause-after
+returns-clause-after _ = come_after tags law
 
 pub returns-clause-either : goal.returns-clause-either
 returns-clause-either _ = are_in_order tags

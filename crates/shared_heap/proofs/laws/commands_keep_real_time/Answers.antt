@@ -1,10 +1,10 @@
-use Rattle.shared_heap.proofs.RealTime.{behind, either_way}
+use Rattle.shared_heap.proofs.RealTime.{after, either_way}
 use Rattle.shared_heap.proofs.laws.commands_keep_real_time.Goals as goal
 
-pub returns-clause-behind : goal.returns-clause-behind
-returns-clause-behind _ c ws cycles is v x y m b did sound lined line =
-    behind c ws cycles is x y m b did lined v sound line
+pub returns-clause-after : goal.returns-clause-after
+returns-clause-after _ timeline order ordered v x y m b did sound seen line =
+    after timeline x y m b did seen order ordered v sound line
 
 pub returns-clause-either : goal.returns-clause-either
-returns-clause-either _ c ws cycles is u v x y k m a b first second lined then_lined =
-    either_way c ws cycles is x y m b second then_lined v lined
+returns-clause-either _ timeline u v x y k m a b first second seen then_seen =
+    either_way timeline x y m b second then_seen v seen

@@ -8,4 +8,4 @@ pub returns-clause-noted : goal.returns-clause-noted
 returns-clause-noted _ old new k a is = stands_behind_all old new k a is
 
 pub returns-clause-still : goal.returns-clause-still
-returns-clause-still _ first h order e is more = stands_still first h order e is more
+returns-clause-still _ first h order log e is more = stands_still first h order log e is more

@@ -1,0 +1,83 @@
+//! Why the program stops early: what it prints of that, and its status.
+
+use control_heap::{Fault, OpenFault};
+use saved_heap::{CopyFault, LoadFault, NotSaved, RenewFault};
+
+/// Why the program stops before its task is done.
+#[derive(Clone, Copy)]
+pub enum Stop {
+    /// The words are none of those in the help.
+    Usage,
+    /// A line of the input, counted from 1, is no reading.
+    BadLine(u64),
+    /// The heap was not opened.
+    Open(OpenFault),
+    /// The heap refused a call.
+    Refused(Fault),
+    /// The heap was not saved.
+    NotSaved(NotSaved),
+    /// The saved heap was not loaded.
+    NotLoaded(LoadFault),
+    /// The heap was not renewed.
+    NotRenewed(RenewFault),
+    /// The copy of the heap stopped.
+    NotCopied(CopyFault),
+    /// A reading on the heap is not what was stored.
+    Lost,
+    /// The sum of the readings exceeds a word.
+    TooLarge,
+    Clock,
+    ReadFault,
+    WriteFault,
+    NoMemory,
+}
+
+impl Stop {
+    pub fn status(self) -> u8 {
+        match self {
+            Stop::Clock => 1,
+            Stop::Usage => 2,
+            Stop::BadLine(_) => 3,
+            Stop::ReadFault => 5,
+            Stop::WriteFault => 6,
+            Stop::NoMemory
+            | Stop::Open(OpenFault::NoMemory)
+            | Stop::NotSaved(NotSaved::NoMemory)
+            | Stop::NotRenewed(RenewFault::NoMemory)
+            | Stop::NotLoaded(LoadFault::Build(RenewFault::NoMemory)) => 7,
+            _ => 4,
+        }
+    }
+
+    /// Prints the reason on standard error. Where that can't be written there is nothing to be done.
+    pub fn tell(self, rt: &HostRuntime) {
+        let _ = match self {
+            Stop::BadLine(line) => eprintln!(rt; "askbench: line {line} is no reading"),
+            _ => eprintln!(rt; "askbench: {}", self.text()),
+        };
+    }
+
+    fn text(self) -> &'static str {
+        match self {
+            Stop::Open(fault) => fault.text(),
+            Stop::Refused(fault) => fault.text(),
+            Stop::NotSaved(fault) => fault.text(),
+            Stop::NotLoaded(fault) => fault.text(),
+            Stop::NotRenewed(fault) => fault.text(),
+            Stop::NotCopied(fault) => fault.text(),
+            _ => self.own_text(),
+        }
+    }
+
+    fn own_text(self) -> &'static str {
+        match self {
+            Stop::Usage => "usage",
+            Stop::Lost => "a reading was lost",
+            Stop::TooLarge => "the sum of the readings is 2^64 or more",
+            Stop::Clock => "the clock can't be read",
+            Stop::ReadFault => "read fault",
+            Stop::WriteFault => "write fault",
+            _ => "no memory",
+        }
+    }
+}

@@ -1,0 +1,172 @@
+//! Calls of the libraries, one in each function. They promise no more than the next call needs, so
+//! that no contract of a library is read again where one is called.
+
+ghost use Rattle.std.specs.Prelude.{◌≡◌, IfOk};
+ghost use Rattle.shared_heap.specs.Workers as heaps;
+ghost use Rattle.live_tags.specs.Live.{AreInOrder, IsOf};
+
+use crate::stop::Stop;
+use block_store::Config;
+use live_tags::{LiveTags, TagWorker};
+use never_heap::Command;
+use shared_heap::{SharedHeap, Worker};
+use std::alloc::Global;
+use std::sync::Wait;
+use std::time::Clock;
+use trace_text::{Job, StdSink, StdSource, put_line, read_trace};
+
+/// How many places the table of tags has.
+const PLACES: u32 = 100;
+
+pub fn read_job(rt: &HostRuntime) -> Result<Job, Stop> {
+    match read_trace(rt.alloc(), &mut StdSource::new(rt.stdin())) {
+        Ok(job) => Ok(job),
+        Err(fault) => Err(Stop::NoJob(fault)),
+    }
+}
+
+pub fn open(alloc: Global, config: Config) -> Result<(SharedHeap, Vec<Worker>), Stop>
+    ensures { IfOk result (λ r. heaps.AreInOrder r.0 r.1.items) }
+{
+    match SharedHeap::open(alloc, config) {
+        Ok(opened) => Ok(opened),
+        Err(fault) => Err(Stop::NoHeap(fault)),
+    }
+}
+
+#[inline(always)]
+pub fn ask<R: Wait>(
+    rt: &R,
+    heap: &SharedHeap,
+    who: &mut Worker,
+    command: Command,
+) -> Result<(), Stop>
+    requires { who.old.heap ≡ heap.now.id }
+    ensures { who.new.heap ≡ heap.now.id }
+{
+    match heap.ask(rt, who, command) {
+        Ok(_) => Ok(()),
+        Err(refused) => Err(Stop::Refused(refused)),
+    }
+}
+
+pub fn open_tags(alloc: Global, threads: u32) -> Result<(LiveTags, Vec<TagWorker>), Stop>
+    ensures { IfOk result (λ r. AreInOrder r.0 r.1.items) }
+{
+    match LiveTags::open(alloc, PLACES, threads) {
+        Ok(opened) => Ok(opened),
+        Err(fault) => Err(Stop::NoTable(fault)),
+    }
+}
+
+fn place_of(round: u64) -> u32 {
+    (round % u64::from(PLACES)) as u32
+}
+
+/// Writes the place of a round.
+#[inline(always)]
+#[tactic(auto, using(live_tags::proofs::Crews::of_same))]
+pub fn write_tag<R: Wait>(
+    rt: &R,
+    table: &LiveTags,
+    who: &mut TagWorker,
+    round: u64,
+) -> Result<(), Stop>
+    requires { IsOf table.now who.old }
+    ensures { IsOf table.now who.new }
+{
+    match table.write(rt, who, place_of(round), round % 1_000_000, 5) {
+        Ok(_) => Ok(()),
+        Err(refused) => Err(Stop::TableRefused(refused)),
+    }
+}
+
+/// Reads the place of a round.
+#[inline(always)]
+#[tactic(auto, using(live_tags::proofs::Crews::of_same))]
+pub fn read_tag<R: Wait>(
+    rt: &R,
+    table: &LiveTags,
+    who: &mut TagWorker,
+    round: u64,
+) -> Result<(), Stop>
+    requires { IsOf table.now who.old }
+    ensures { IsOf table.now who.new }
+{
+    match table.read(rt, who, place_of(round)) {
+        Ok(_) => Ok(()),
+        Err(refused) => Err(Stop::TableRefused(refused)),
+    }
+}
+
+/// What the clock reads; 0 if it cannot be read.
+#[inline(always)]
+pub fn nanoseconds<C: Clock>(clock: &C) -> u64 {
+    match clock.monotonic() {
+        Ok(time) => u64::try_from(time.as_nanos()).unwrap_or(u64::MAX),
+        Err(_) => 0,
+    }
+}
+
+#[inline(always)]
+pub fn push(times: &mut Vec<u64>, time: u64) -> Result<(), Stop> {
+    match times.push(time) {
+        Ok(()) => Ok(()),
+        Err(_) => Err(Stop::NoMemory),
+    }
+}
+
+/// An empty list with room for so many times, whose pages have been written before.
+pub fn room(alloc: Global, times: u64) -> Result<Vec<u64>, Stop> {
+    let mut room = with_capacity(alloc, times)?;
+    match fill(&mut room, times) {
+        Ok(()) => Ok(room),
+        Err(stop) => Err(stop),
+    }
+}
+
+fn with_capacity(alloc: Global, times: u64) -> Result<Vec<u64>, Stop> {
+    match Vec::with_capacity(alloc, times as usize) {
+        Ok(room) => Ok(room),
+        Err(_) => Err(Stop::NoMemory),
+    }
+}
+
+fn fill(room: &mut Vec<u64>, times: u64) -> Result<(), Stop> {
+    for _ in 0..times {
+        push(room, 0)?;
+    }
+    room.clear();
+    Ok(())
+}
+
+pub fn number_of(word: &str) -> Option<u64> {
+    trace_text::number_of(word.as_bytes())
+}
+
+pub fn print(rt: &HostRuntime, text: &str) -> Result<(), Stop> {
+    match put_line(text.as_bytes(), 0, &mut StdSink::new(rt.stdout())) {
+        0 => Ok(()),
+        _ => Err(Stop::WriteFault),
+    }
+}
+
+/// Prints the median of times of commands or operations, what 999 of 1,000 are within, and the
+/// longest. Prints nothing if there are none.
+pub fn tell(rt: &HostRuntime, kind: &str, of: &str, times: &mut Vec<u64>) -> Result<(), Stop> {
+    times.sort_unstable();
+    let count = times.len();
+    let most = count.saturating_sub(count / 1000 + 1);
+    match (times.get(count / 2), times.get(most), times.last()) {
+        (Some(median), Some(most), Some(longest)) => {
+            let done = println!(rt;
+                "{kind}: {count} {of}, median {median} ns, 99.9 per cent {most} ns, longest {longest} ns"
+            );
+            match done {
+                Ok(()) => Ok(()),
+                Err(_) => Err(Stop::WriteFault),
+            }
+        }
+        _ => Ok(()),
+    }
+}
