@@ -5,7 +5,7 @@ use Rattle.std.specs.List.{SwappedAt}
 use Rattle.shared_heap.proofs.Stamps.{drawn_same}
 use Rattle.live_tags.specs.Live.{HasDrawn, IsOf, TagWorkerState}
 use Rattle.live_tags.proofs.Crews.{of_same}
-use Rattle.shared_heap.specs.Workers.{AreEachOnce, AreInOrder, AreSome, HasWorker, HeapState, IsWorkerOf, WorkerState}
+use Rattle.shared_heap.specs.Workers.{AreEachOnce, AreInOrder, AreSome, HasWorker, HeapState, IsSame, IsWorkerOf, WorkerState}
 
 -- the two workers of a heap, one by one
 pub two_of : (h : HeapState) (ws rest none : List WorkerState) (a b : WorkerState) → AreInOrder h ws
@@ -40,6 +40,11 @@ one_some h w own = (omega arith, each)
     each : (i : ℕ) (d : WorkerState) → i < 1 → (get_or (w ∷ []) i d).heap ≡ h.id
     each zero d low = own
     each (suc i) d low = absurd (omega (arith, low))
+
+-- a worker of a thread, after more commands
+pub same_worker : (h : HeapState) (t : ℕ) (a b : WorkerState) → IsWorkerOf h t a → IsSame a b
+    → IsWorkerOf h t b
+same_worker h t a b is same = (same.heap ∙ is.0, same.thread ∙ is.1)
 
 -- two workers are exchanged
 pub exchanged : (h : HeapState) (hs ys : List WorkerState) (a b : ℕ) → AreEachOnce h hs

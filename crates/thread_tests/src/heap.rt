@@ -258,6 +258,7 @@ fn passes_on<R: Wait>(rt: &R, heap: &SharedHeap, writer: &mut Worker, reader: &m
 
 // A worker learns the note of another. Then the two are closed in the opposite order.
 #[test]
+#[tactic(auto, using(crate::proofs::Crews::same_worker))]
 fn a_note_passes_between_workers(rt: HostRuntime) -> Result<(), OutOfMemory> {
     let Ok((heap, workers)) = open(rt.alloc(), 2) else {
         assert!(rt; false, "it opens");

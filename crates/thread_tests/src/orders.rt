@@ -83,30 +83,36 @@ struct Point {
 }
 
 impl Point {
-    // With the next request of a thread, if no other one ended before it began, and plain slots
-    // answer it as the thread was answered.
-    fn with_next(&self, logs: &[Vec<Did>], thread: usize) -> Option<Point> {
-        let mut next = *self;
-        let done = next.done.get_mut(thread)?;
-        let did = logs.get(thread)?.get(*done)?;
-        *done = done.saturating_add(1);
-        if self.may_come(logs, did) && did.on(&mut next.slots)? == did.answer {
-            Some(next)
-        } else {
-            None
-        }
+    // The next request of a thread.
+    fn next_of(&self, logs: &[Vec<Did>], thread: usize) -> Option<Did> {
+        let done = self.done.get(thread)?;
+        logs.get(thread)?.get(*done).copied()
     }
 
-    // Whether none of the other requests ended before this one began.
+    // Whether no thread's next request ended before this one began.
     fn may_come(&self, logs: &[Vec<Did>], did: &Did) -> bool {
-        for (log, done) in logs.iter().zip(self.done.iter()) {
-            if let Some(other) = log.get(*done) {
+        for thread in 0..3 {
+            if let Some(other) = self.next_of(logs, thread) {
                 if other.ended < did.began {
                     return false;
                 }
             }
         }
         true
+    }
+
+    // With the next request of a thread, if it may come, and plain slots answer it as the thread was
+    // answered.
+    fn with_next(&self, logs: &[Vec<Did>], thread: usize) -> Option<Point> {
+        let did = self.next_of(logs, thread)?;
+        let mut next = *self;
+        let done = next.done.get_mut(thread)?;
+        *done = done.saturating_add(1);
+        if self.may_come(logs, &did) && did.on(&mut next.slots)? == did.answer {
+            Some(next)
+        } else {
+            None
+        }
     }
 }
 
@@ -297,35 +303,20 @@ fn kept<R: Wait>(
     clock: &AtomicU64,
     logs: &Mutex<Vec<Vec<Did>>>,
 ) -> bool {
-    let thread = seat.thread() as usize;
-    let Ok(log) = log_of(rt, alloc, seat, key, clock) else {
-        return false;
-    };
-    match logs.lock(rt).get_mut(thread) {
-        Some(place) => {
-            *place = log;
-            true
-        }
-        None => false,
+    match log_of(rt, alloc, seat, key, clock) {
+        Ok(log) => logs.lock(rt).push(log).is_ok(),
+        Err(_) => false,
     }
 }
 
 // Checks what the threads of one table were answered.
 fn check(rt: &impl Abort, alloc: Global, logs: &[Vec<Did>], key: u64) -> Result<(), OutOfMemory> {
+    assert_eq!(rt; logs.len(), 3);
     for log in logs {
         assert!(rt; log.len() > REQUESTS / 2, "draws {key}");
     }
     assert!(rt; have_one_order(alloc, logs)?, "draws {key}");
     Ok(())
-}
-
-// A log for each of three threads, empty yet.
-fn empty_logs(alloc: Global) -> Result<Vec<Vec<Did>>, OutOfMemory> {
-    let mut logs = Vec::new(alloc);
-    for _thread in 0..3 {
-        logs.push(Vec::new(alloc))?;
-    }
-    Ok(logs)
 }
 
 #[test]
@@ -336,7 +327,7 @@ fn drawn_requests_have_one_order_that_keeps_real_time(rt: HostRuntime) -> Result
             assert!(rt; false, "it opens");
             return Ok(());
         };
-        let logs = Mutex::new(empty_logs(alloc)?);
+        let logs = Mutex::new(Vec::new(alloc));
         all_draw(&rt, alloc, &table, workers, key, &logs)?;
         check(&rt, alloc, &logs.into_inner(), key)?;
     }

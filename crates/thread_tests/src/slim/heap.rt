@@ -57,6 +57,7 @@ pub fn objects_left(who: &Worker) -> u64 {
 }
 
 // Gives the second worker a note of the first.
+#[tactic(auto, using(shared_heap::proofs::Crews::same_here, shared_heap::proofs::Crews::same_on))]
 pub fn pass_note(heap: &SharedHeap, from: &mut Worker, to: &mut Worker)
     requires from { from.old.heap ≡ heap.now.id }
     requires to { to.old.heap ≡ heap.now.id }
