@@ -1,5 +1,5 @@
 -- All workers of a heap, and some of them.
-use Rattle.std.proofs.Common.{◌≡◌, ℕ, zero, suc, ◌<◌, ◌-◌, arith, subst, sym, ap, ◌∙◌, List, [], ◌∷◌, length, get_or, inl, inr}
+use Rattle.std.proofs.Common.{◌≡◌, ℕ, zero, suc, ◌<◌, arith, subst, sym, ap, ◌∙◌, List, [], ◌∷◌, length, get_or, inl, inr}
 use Rattle.std.proofs.lemmas.Bool.{cases_eq}
 use Rattle.std.specs.List.{SwappedAt}
 use Rattle.shared_heap.proofs.Stamps.{drawn_same}

@@ -170,7 +170,7 @@ fn in_turns<'h, R: Wait>(
 }
 
 // Makes objects by two workers, an event of each in turns, and counts the expected names.
-fn both_make<R: Wait>(rt: &R, first: Seat<'_>, second: Seat<'_>) -> u32 {
+fn both_make<'h, R: Wait>(rt: &R, first: Seat<'h>, second: Seat<'h>) -> u32 {
     let make = Command::New { d: 1, fields: 2 };
     let mut one = first;
     let mut two = second;
@@ -224,7 +224,7 @@ fn started<'h>(rt: &impl Abort, seat: Seat<'h>, command: Command) -> Started<'h>
 
 // A thread that is inside keeps another from the next phase: polls of that one end at once, however
 // many events they allow, until the first is done.
-fn waits<R: Wait + Abort>(rt: &R, first: Seat<'_>, second: Seat<'_>) {
+fn waits<'h, R: Wait + Abort>(rt: &R, first: Seat<'h>, second: Seat<'h>) {
     let inside = started(rt, first, Command::New { d: 1, fields: 2 });
     let inside = polled(rt, inside, 2, "two events only enter");
     let held_up = started(rt, second, Command::Idle { units: 200 });
