@@ -391,7 +391,10 @@ fn has_each(workers: &Vec<Worker>, threads: usize) -> bool
 fn has_worker(workers: &Vec<Worker>, thread: usize) -> bool
     ensures { result ≡ true → HasWorker thread workers.now.items }
 {
-    place_of_worker(workers, thread).is_some()
+    match place_of_worker(workers, thread) {
+        Some(_place) => true,
+        None => false,
+    }
 }
 
 fn place_of_worker(workers: &Vec<Worker>, thread: usize) -> Option<usize>

@@ -113,7 +113,7 @@ impl Crews {
         };
         for _time in 0..times {
             out.clear();
-            in_turns(crew, command, out)?;
+            in_turns(alloc, crew, command, out)?;
         }
         Ok(true)
     }
@@ -241,38 +241,44 @@ fn push_came(out: &mut String, came: Came) -> Result<(), OutOfMemory> {
 }
 
 /// All workers start a command and make an event each in turn, up to the end of the last. Prints
-/// what came of it.
-fn in_turns(crew: &mut Crew, command: Command, out: &mut String) -> Result<(), OutOfMemory> {
+/// what came of it, thread by thread.
+fn in_turns(
+    alloc: Global,
+    crew: &mut Crew,
+    command: Command,
+    out: &mut String,
+) -> Result<(), OutOfMemory> {
+    let mut last = Vec::new(alloc);
     for thread in 0..crew.threads() {
-        let came = crew.act(thread, Deed::Start(command));
-        if !matches!(came, Came::Done) {
-            push_of_thread(out, thread, came)?;
-        }
+        last.push(crew.act(thread, Deed::Start(command)))?;
     }
     for _round in 0..MOST_ROUNDS {
-        if !round(crew, out)? {
+        if !round(crew, &mut last) {
             break;
         }
+    }
+    for thread in 0..last.len() {
+        push_of_thread(out, thread, last[thread])?;
     }
     Ok(())
 }
 
 /// An event of each command under way. Returns whether there was one.
-fn round(crew: &mut Crew, out: &mut String) -> Result<bool, OutOfMemory> {
+fn round(crew: &mut Crew, last: &mut Vec<Came>) -> bool {
     let mut is_going = false;
     for thread in 0..crew.threads() {
         if crew.is_pending(thread) {
             is_going = true;
             let came = crew.act(thread, Deed::Poll(1));
-            if !matches!(came, Came::Waits) {
-                push_of_thread(out, thread, came)?;
+            if let Some(place) = last.get_mut(thread as usize) {
+                *place = came;
             }
         }
     }
-    Ok(is_going)
+    is_going
 }
 
-fn push_of_thread(out: &mut String, thread: u32, came: Came) -> Result<(), OutOfMemory> {
+fn push_of_thread(out: &mut String, thread: usize, came: Came) -> Result<(), OutOfMemory> {
     if !out.is_empty() {
         out.push_str("\n")?;
     }
