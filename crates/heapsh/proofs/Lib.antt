@@ -1,1 +1,1 @@
-mod Crews
+mod WorkerSeats

@@ -76,7 +76,7 @@ impl Model for Crew {
 }
 
 /// A seat for each of these workers.
-#[tactic(auto, using(crate::proofs::Crews::worker_taken, crate::proofs::Crews::seat_added))]
+#[tactic(auto, using(crate::proofs::WorkerSeats::worker_taken, crate::proofs::WorkerSeats::seat_added))]
 fn seats_of(
     alloc: Global,
     _heap: &SharedHeap,
@@ -101,7 +101,7 @@ fn seats_of(
 }
 
 /// The workers of these seats whose threads are wanted.
-#[tactic(auto, using(crate::proofs::Crews::seat_taken, crate::proofs::Crews::worker_added))]
+#[tactic(auto, using(crate::proofs::WorkerSeats::seat_taken, crate::proofs::WorkerSeats::worker_added))]
 fn workers_of(
     alloc: Global,
     _heap: &SharedHeap,
@@ -251,7 +251,7 @@ fn take_note(heap: &SharedHeap, seat: &mut Seat, last: &mut Option<Note>) -> Cam
 }
 
 /// Does what the worker of a seat is to do.
-#[tactic(auto, using(crate::proofs::Crews::seat_changed))]
+#[tactic(auto, using(crate::proofs::WorkerSeats::seat_changed))]
 fn act_at(
     heap: &SharedHeap,
     seats: &mut Vec<Seat>,
@@ -277,7 +277,7 @@ fn place_of(seats: &[Seat], thread: u32) -> Option<usize>
 
 impl Crew {
     /// A heap and its workers.
-    #[tactic(auto, using(crate::proofs::Crews::own))]
+    #[tactic(auto, using(crate::proofs::WorkerSeats::own))]
     pub fn new(alloc: Global, heap: SharedHeap, workers: Vec<Worker>) -> Result<Crew, OutOfMemory>
         requires { AreInOrder heap workers.items }
     {
@@ -362,7 +362,7 @@ fn closed_some(heap: SharedHeap, workers: Vec<Worker>) -> Option<u64>
     Some(heap.close_some(workers))
 }
 
-#[tactic(auto, using(crate::proofs::Crews::each_once))]
+#[tactic(auto, using(crate::proofs::WorkerSeats::each_once))]
 fn closed(heap: SharedHeap, workers: Vec<Worker>) -> Option<u64>
     requires { All (λ w. w.heap ≡ heap.id) workers.items }
 {
@@ -387,7 +387,7 @@ fn has_each(workers: &Vec<Worker>, threads: usize) -> bool
 }
 
 /// Whether one of the workers is of this thread.
-#[tactic(auto, using(crate::proofs::Crews::has))]
+#[tactic(auto, using(crate::proofs::WorkerSeats::has))]
 fn has_worker(workers: &Vec<Worker>, thread: usize) -> bool
     ensures { result ≡ true → HasWorker thread workers.now.items }
 {
