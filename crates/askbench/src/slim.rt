@@ -3,7 +3,7 @@
 
 use crate::stop::Stop;
 use block_store::{Config, Value};
-use control_heap::{ControlHeap, Fault};
+use control_heap::{ControlHeap, Fault, Refused};
 use heap_pictures::Picture;
 use heap_structures::Ring;
 use never_heap::Command;
@@ -19,12 +19,13 @@ pub fn open(alloc: Global, config: Config) -> Result<ControlHeap, Stop> {
     }
 }
 
-/// Asks for a command, whatever the reply.
+/// Asks for a command, whatever the reply. The error is small, since a result is written whole
+/// each time.
 #[inline(always)]
-pub fn ask(heap: &mut ControlHeap, command: Command) -> Result<(), Stop> {
+pub fn ask(heap: &mut ControlHeap, command: Command) -> Result<(), Refused> {
     match heap.ask(command) {
         Ok(_) => Ok(()),
-        Err(refused) => Err(Stop::Refused(Fault::from(refused))),
+        Err(refused) => Err(refused),
     }
 }
 

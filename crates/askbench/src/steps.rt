@@ -87,8 +87,17 @@ pub fn make(rt: &HostRuntime, command: Command, times: u64) -> Result<(), Stop> 
 
 fn make_on(heap: &mut ControlHeap, command: Command, times: u64) -> Result<(), Stop> {
     fill(heap)?;
-    for _ in 0..times {
-        ask(heap, command)?;
+    match requests(heap, command, times) {
+        Some(()) => Ok(()),
+        // What was refused is refused again.
+        None => Ok(ask(heap, command)?),
     }
-    Ok(())
+}
+
+/// The loop that valgrind counts: it calls the library itself.
+fn requests(heap: &mut ControlHeap, command: Command, times: u64) -> Option<()> {
+    for _ in 0..times {
+        heap.ask(command).ok()?;
+    }
+    Some(())
 }

@@ -1,6 +1,6 @@
 //! Why the program stops early: what it prints of that, and its status.
 
-use control_heap::{Fault, OpenFault};
+use control_heap::{Fault, OpenFault, Refused};
 use saved_heap::{CopyFault, LoadFault, NotSaved, RenewFault};
 
 /// Why the program stops before its task is done.
@@ -30,6 +30,12 @@ pub enum Stop {
     ReadFault,
     WriteFault,
     NoMemory,
+}
+
+impl From<Refused> for Stop {
+    fn from(refused: Refused) -> Stop {
+        Stop::Refused(Fault::from(refused))
+    }
 }
 
 impl Stop {
