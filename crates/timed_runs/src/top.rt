@@ -72,15 +72,30 @@ pub fn timed<R: Threads + Wait + Sync, C: Clock + CpuClock + Sync, S: Source, K:
     let reading = reading_time(alloc, clock)?;
     let mut counted = Counted::new(alloc);
     let exit = rtheap(rt, alloc, &asked, source, &mut counted, &stamps);
-    let status = match &exit.run {
-        Some(RunEnd::Ran(run)) => {
-            let form = form.unwrap_or(Form::Table);
-            reported(report_of(alloc, reading, run, &stamps, form), sink)
-        }
-        Some(RunEnd::Replayed(_)) => retold(exit.status, &counted, sink),
-        None => retold(exit.status, &counted, sink),
-    };
+    let form = form.unwrap_or(Form::Table);
+    let status = written(alloc, reading, form, &exit, &stamps, &counted, sink);
     Ok(TimedExit { status, exit })
+}
+
+/// Writes the report of a run that ended, else the line of the refusal.
+fn written<C: Clock + CpuClock + Sync, K: Sink>(
+    alloc: Global,
+    reading: u64,
+    form: Form,
+    exit: &Exit,
+    stamps: &Stamps<'_, C>,
+    counted: &Counted,
+    sink: &mut K,
+) -> u8
+    requires { exit.now.status ≢ 6 }
+    ensures { IsTimed (sides K.held K.faults sink.old sink.new) exit.now.run exit.now.status
+        result }
+{
+    match &exit.run {
+        Some(RunEnd::Ran(run)) => reported(report_of(alloc, reading, run, stamps, form), sink),
+        Some(RunEnd::Replayed(_)) => retold(exit.status, counted, sink),
+        None => retold(exit.status, counted, sink),
+    }
 }
 
 /// The form of the report that the words ask for.
