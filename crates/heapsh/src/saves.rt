@@ -32,7 +32,7 @@ impl Saves {
     ) -> Result<(), OutOfMemory> {
         match save(alloc, heap) {
             Ok(bytes) => {
-                replace_bytes(&mut self.bytes, bytes);
+                self.bytes = bytes;
                 Ok(out.push_str("ok")?)
             }
             Err(NotSaved::NoMemory) => Err(OutOfMemory),
@@ -41,36 +41,32 @@ impl Saves {
     }
 
     /// Prints the bytes that were saved.
-    pub fn push_bytes(&self, out: &mut String) -> Result<bool, OutOfMemory> {
+    pub fn push_bytes(&self, out: &mut String) -> Result<(), OutOfMemory> {
         for byte in self.bytes.iter() {
             write!(out, "{byte:02x}")?;
         }
-        Ok(true)
+        Ok(())
     }
 
     /// Changes bits of a saved byte.
-    pub fn flip(&mut self, n: &[u64], out: &mut String) -> Result<bool, OutOfMemory> {
+    pub fn flip(&mut self, n: &[u64], out: &mut String) -> Result<(), OutOfMemory> {
         let [place, mask] = n else {
-            return Ok(false);
+            return usage(out);
         };
         match self.bytes.get_mut(*place as usize) {
-            Some(byte) => {
-                *byte ^= (*mask % 256) as u8;
-                out.push_str("ok")?;
-            }
-            None => out.push_str("no such byte")?,
+            Some(byte) => *byte ^= (*mask % 256) as u8,
+            None => return Ok(out.push_str("no such byte")?),
         }
-        Ok(true)
+        Ok(out.push_str("ok")?)
     }
 
     /// Keeps so many of the saved bytes.
-    pub fn cut(&mut self, n: &[u64], out: &mut String) -> Result<bool, OutOfMemory> {
+    pub fn cut(&mut self, n: &[u64], out: &mut String) -> Result<(), OutOfMemory> {
         let [length] = n else {
-            return Ok(false);
+            return usage(out);
         };
         self.bytes.truncate(*length as usize);
-        out.push_str("ok")?;
-        Ok(true)
+        Ok(out.push_str("ok")?)
     }
 
     /// Opens a heap from the saved bytes.
@@ -164,31 +160,29 @@ impl Saves {
     }
 
     /// Makes room for so many commands that the copy is to follow.
-    pub fn make_room(&mut self, n: &[u64], out: &mut String) -> Result<bool, OutOfMemory> {
+    pub fn make_room(&mut self, n: &[u64], out: &mut String) -> Result<(), OutOfMemory> {
         let ([commands], Some(renewal)) = (n, &mut self.renewal) else {
-            return no_copy(n.len() == 1, out);
+            return usage(out);
         };
         renewal.make_room(*commands as usize)?;
-        out.push_str("ok")?;
-        Ok(true)
+        Ok(out.push_str("ok")?)
     }
 
     /// Does so many commands of the copy.
-    pub fn copy(&mut self, n: &[u64], out: &mut String) -> Result<bool, OutOfMemory> {
+    pub fn copy(&mut self, n: &[u64], out: &mut String) -> Result<(), OutOfMemory> {
         let ([most], Some(renewal)) = (n, &mut self.renewal) else {
-            return no_copy(n.len() == 1, out);
+            return usage(out);
         };
         match renewal.copy(*most as usize) {
-            Ok(left) => push_left(out, left)?,
-            Err(fault) => push_refused(out, fault.text())?,
+            Ok(left) => push_left(out, left),
+            Err(fault) => push_refused(out, fault.text()),
         }
-        Ok(true)
     }
 
     /// Ends the copy, if it is whole.
     pub fn finish(&mut self, out: &mut String) -> Result<Option<ControlHeap>, OutOfMemory> {
         let Some(renewal) = self.renewal.take() else {
-            no_copy(true, out)?;
+            usage(out)?;
             return Ok(None);
         };
         match renewal.finish() {
@@ -206,14 +200,9 @@ impl Saves {
     }
 }
 
-fn replace_bytes(place: &mut Vec<u8>, bytes: Vec<u8>) {
-    *place = bytes;
-}
-
-/// Says that no copy is under way, unless the words mean nothing.
-fn no_copy(is_understood: bool, out: &mut String) -> Result<bool, OutOfMemory> {
-    out.push_str("no copy is under way")?;
-    Ok(is_understood)
+fn usage(out: &mut String) -> Result<(), OutOfMemory> {
+    out.push_str("unknown; help lists what there is")?;
+    Ok(())
 }
 
 fn push_left(out: &mut String, left: usize) -> Result<(), OutOfMemory> {
