@@ -9,7 +9,8 @@ from rust import Rust, implementation_in
 from text import RustType
 
 # words of the language itself
-BUILT_IN = set("→ × ⊥ ¬ Unit tt absurd Type record let in as : = λ do ← _ where | {0}".split())
+# `omega` proves arithmetic in the files ThreadMemories, which hold proofs of a trait's laws.
+BUILT_IN = set("→ × ⊥ ¬ Unit tt absurd Type record let in as : = λ do ← _ where | {0} omega".split())
 # the states of what a reference points to
 STATES = set("now old new entry exit".split())
 # what a clause reads off a value of the kit: such a state, the elements of a list
