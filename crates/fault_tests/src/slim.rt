@@ -86,7 +86,10 @@ pub fn recorder(alloc: Global, width: Width, fails: &[u64]) -> Result<Recorder<M
         shared: 4,
     };
     let sink = sink_of(alloc, 100_000, fails)?;
-    Ok(Recorder::new(opened(alloc, config)?, sink))
+    match ControlHeap::open(alloc, config) {
+        Ok(heap) => Ok(Recorder::new(heap, sink)),
+        Err(_) => Err("it opens".into()),
+    }
 }
 
 pub fn opened(alloc: Global, config: Config) -> Result<ControlHeap, Fail> {
