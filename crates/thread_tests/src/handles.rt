@@ -166,7 +166,6 @@ fn all_do<R: Threads + Wait + Sync>(
 // Each handle that fills a slot leaves it once: it is released by its own thread, or evicted with
 // its number.
 #[test]
-#[tactic(auto, using(live_handles::proofs::Crews::in_order_each))]
 fn each_handle_leaves_once(rt: HostRuntime) -> Result<(), OutOfMemory> {
     for threads in [1, 2, 4] {
         let Ok((table, workers)) = open(rt.alloc(), SLOTS, threads) else {

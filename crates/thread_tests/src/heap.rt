@@ -150,7 +150,6 @@ fn have_made(workers: &[Worker]) -> bool {
 // Each record has the name of its thread and number, whatever the other threads do, and no
 // allocation is refused.
 #[test]
-#[tactic(auto, using(shared_heap::proofs::Orders::in_order_each))]
 fn threads_make_objects_beside_each_other(rt: HostRuntime) -> Result<(), OutOfMemory> {
     for threads in [1, 2, 3, 4] {
         let Ok((heap, workers)) = open(rt.alloc(), threads) else {
@@ -184,7 +183,6 @@ fn ends_exchanged(heap: &SharedHeap, workers: Vec<Worker>) -> Vec<Worker>
 
 // The shared element ends at the number of successful tries. The workers are closed out of order.
 #[test]
-#[tactic(auto, using(shared_heap::proofs::Orders::in_order_each))]
 fn threads_count_by_cas(rt: HostRuntime) -> Result<(), OutOfMemory> {
     for threads in [2, 3, 4] {
         let Ok((heap, workers)) = open(rt.alloc(), threads) else {
@@ -192,10 +190,10 @@ fn threads_count_by_cas(rt: HostRuntime) -> Result<(), OutOfMemory> {
             return Ok(());
         };
         let yes = AtomicU64::new(0);
-        let done = all_do(&rt, &heap, workers, Task::Count, TRIES, &yes)?;
+        let counted = all_do(&rt, &heap, workers, Task::Count, TRIES, &yes)?;
         let right = AtomicU64::new(0);
         let read = Task::Read(yes.load(Ordering::SeqCst));
-        let done = all_do(&rt, &heap, done, read, 1, &right)?;
+        let done = all_do(&rt, &heap, counted, read, 1, &right)?;
         assert_eq!(rt; right.load(Ordering::SeqCst), u64::from(threads));
         let workers = ends_exchanged(&heap, done);
         // No object was made, so no work was done and no second cycle began.

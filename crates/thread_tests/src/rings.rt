@@ -147,7 +147,6 @@ fn all_use<R: Threads + Wait + Sync>(
 
 // Each thread recalls its own numbers, and others' numbers never get older.
 #[test]
-#[tactic(auto, using(live_rings::proofs::Crews::in_order_each))]
 fn threads_recall_the_last_numbers(rt: HostRuntime) -> Result<(), OutOfMemory> {
     for threads in [1, 2, 4] {
         let Ok((rings, workers)) = open(rt.alloc(), threads) else {

@@ -148,7 +148,6 @@ fn all_do<R: Threads + Wait + Sync>(
 // No thread reads the value of one write with the quality of another. Each pair is returned once,
 // by the next write or clear of its place.
 #[test]
-#[tactic(auto, using(live_tags::proofs::Crews::in_order_each))]
 fn threads_keep_pairs_together(rt: HostRuntime) -> Result<(), OutOfMemory> {
     for threads in [1, 2, 4] {
         let Ok((table, workers)) = open(rt.alloc(), TAGS, threads) else {

@@ -1,0 +1,5 @@
+use Rattle.live_rings.proofs.Crews.{in_order_each}
+use Rattle.thread_tests.proofs.rings.threads_recall_the_last_numbers.Goals as goal
+
+pub close-requires : goal.close-requires
+close-requires g c = in_order_each c.in-Ok.rings c.in_ok-rest.rest.items c.in_ok-rest.ensures
