@@ -147,7 +147,7 @@ def test(beliefs):
         missed = set(belief.kept) - audit(belief)
         if missed:
             fail(f"would not be missed: {', '.join(it.name for it in missed)}")
-    for path in sorted(TOP.glob("crates/*/specs/*.antt")):
+    for path in sorted(TOP.glob("crates/*/specs/**/*.antt")):
         file = antt_file(path)
         lines = set(file.others)
         for it in file.definitions.values():

@@ -77,7 +77,8 @@ def impl_header(file, start):
 def rust_definition(crate, form, name, module=()):
     """A declared item; where several have the name, the one in this module."""
     found = rust_items(crate).get((form, name), [])
-    inside = [(f, n) for f, n in found if module_of(f)[-len(module):] == module]
+    inside = ([(f, n) for f, n in found if module_of(f)[-len(module):] == module]
+              or [(f, n) for f, n in found if is_within(module_of(f), module)])
     if module and inside:
         found = inside
     if len(found) > 1:
@@ -89,6 +90,11 @@ def rust_definition(crate, form, name, module=()):
 
 def module_of(file):
     return file.path.with_suffix("").parts
+
+
+def is_within(parts, module):
+    """Whether a module is below this one, which may re-export its items."""
+    return any(parts[n:n + len(module)] == module for n in range(len(parts)))
 
 
 @lru_cache(maxsize=None)

@@ -1,7 +1,7 @@
 //! The text of bars.
 
 use std::test::Fail;
-use time_histograms::Bar;
+use timed_runs::Bar;
 
 /// How many times a row has, and how many marks beside a fullest row of 200 times: 0.3 times as
 /// many, rounded up.

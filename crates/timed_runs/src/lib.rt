@@ -8,10 +8,12 @@ mod kinds;
 mod samples;
 mod stamps;
 mod telling;
+mod time_histograms;
 mod top;
 
 pub use bounds::turns_alone;
 pub use counted::Counted;
 pub use kinds::{KINDS, Kind, a_command_is_of_one_kind};
 pub use stamps::Stamps;
+pub use time_histograms::{Bar, CLASSES, Times, bucket_of, count_below, fullest, power};
 pub use top::{TimedExit, timed};

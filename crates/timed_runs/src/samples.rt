@@ -8,11 +8,11 @@ ghost use Rattle.timed_runs.specs.Samples.{longest_of, count_of, count_in, IsCom
 
 use crate::kinds::Kind;
 use crate::stamps::Stamps;
+use crate::time_histograms::Times;
 use block_store::{OutOfMemory, Width};
 use never_heap::{Command, Entry, Logs};
 use std::alloc::Global;
 use std::time::{Clock, CpuClock};
-use time_histograms::Times;
 
 /// A command, and how long it took.
 #[derive(Clone, Copy, Debug)]

@@ -1,12 +1,12 @@
 //! The times at which commands began.
 
+use crate::time_histograms::Times;
 use block_store::OutOfMemory;
 use heap_system::Pace;
 use std::alloc::Global;
 use std::sync::Wait;
 use std::sync::atomic::{AtomicU64, Ordering};
 use std::time::{Clock, CpuClock, Duration};
-use time_histograms::Times;
 
 /// The most threads of a job, and the most commands of a thread.
 const THREADS: usize = 16;

@@ -1,7 +1,7 @@
 //! The report of what was measured.
 
 ghost use Rattle.std.specs.Prelude.{◌≡◌, ◌<◌, ◌^◌, ◌⊎◌, length, IfSome, IfNone};
-ghost use Rattle.time_histograms.specs.Counts.{IsPercentile};
+ghost use Rattle.timed_runs.specs.time_histograms.Counts.{IsPercentile};
 
 use crate::bounds::turns_alone;
 use crate::kinds::{KINDS, Kind};
@@ -9,6 +9,7 @@ use crate::samples::{
     Sample, TimedCommand, Which, count_commands, line_of, sample_of, timed_commands,
 };
 use crate::stamps::Stamps;
+use crate::time_histograms::{CLASSES, bucket_of, fullest, power};
 use atom_board::Closed;
 use block_store::OutOfMemory;
 use never_heap::Logs;
@@ -16,7 +17,6 @@ use rate_plan::plan;
 use std::alloc::Global;
 use std::fmt;
 use std::time::{Clock, CpuClock};
-use time_histograms::{CLASSES, bucket_of, fullest, power};
 
 /// What is told of processor time.
 const PROCESSOR: &str =

@@ -2,7 +2,7 @@
 use Rattle.std.proofs.Common.{ℕ, ◌+◌, ◌*◌, ◌^◌, ◌<◌, ◌≤◌, ◌≡◌, ◌≢◌, ◌⊎◌, List, arith, inl, inr, subst, sym, ◌∙◌}
 use Rattle.std.proofs.lemmas.Bool.{cases_eq}
 use Rattle.std.proofs.Math.Pow.{pow-lt}
-use Rattle.time_histograms.specs.Counts.{between, IsOneOf}
+use Rattle.timed_runs.specs.time_histograms.Counts.{between, IsOneOf}
 
 abbrev pub bar_at : List ℕ → ℕ → ℕ
 bar_at times k = between (2 ^ k) (2 * 2 ^ k) times

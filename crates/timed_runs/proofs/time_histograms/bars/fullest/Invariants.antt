@@ -1,6 +1,6 @@
 use Rattle.std.proofs.Common.{ℕ, ◌*◌, ◌^◌, ◌<◌, ◌≤◌}
-use Rattle.time_histograms.specs.Counts.{between, IsOneOf}
-use Rattle.time_histograms.proofs.bars.fullest.Given as goal
+use Rattle.timed_runs.specs.time_histograms.Counts.{between, IsOneOf}
+use Rattle.timed_runs.proofs.time_histograms.bars.fullest.Given as goal
 
 abbrev pub invariant-loop-class : goal.invariant-loop-class
 invariant-loop-class l =

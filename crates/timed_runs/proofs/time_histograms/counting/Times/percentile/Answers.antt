@@ -1,6 +1,6 @@
 use Rattle.std.proofs.Common.{◌<◌, length, arith}
-use Rattle.time_histograms.proofs.Ranks.{picked}
-use Rattle.time_histograms.proofs.counting.Times.percentile.Goals as goal
+use Rattle.timed_runs.proofs.time_histograms.Ranks.{picked}
+use Rattle.timed_runs.proofs.time_histograms.counting.Times.percentile.Goals as goal
 
 pub returns-clause-is : goal.returns-clause-is
 returns-clause-is c =

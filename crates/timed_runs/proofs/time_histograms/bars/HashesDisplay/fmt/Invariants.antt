@@ -1,6 +1,6 @@
 use Rattle.std.proofs.Common.{replicate}
 use Rattle.std.specs.Fmt.{HasWritten, IsPlainFormatter}
-use Rattle.time_histograms.proofs.bars.HashesDisplay.fmt.Given as goal
+use Rattle.timed_runs.proofs.time_histograms.bars.HashesDisplay.fmt.Given as goal
 
 abbrev pub invariant-loop-mark : goal.invariant-loop-mark
 invariant-loop-mark g l =

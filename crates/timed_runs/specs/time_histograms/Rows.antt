@@ -1,7 +1,7 @@
 -- The text of a bar.
 use Rattle.std.specs.Prelude.{ℕ, ◌+◌, ◌-◌, ◌*◌, ◌/◌, ◌%◌, ◌^◌, min, max, List, ◌++◌, codes, replicate}
 use Rattle.std.specs.Fmt.{styled_decimal, format_spec}
-use Rattle.time_histograms.specs.declared.bars.Bar.{Bar}
+use Rattle.timed_runs.specs.declared.time_histograms.bars.Bar.{Bar}
 
 -- a quotient, rounded up
 abbrev pub rounded_up : ℕ → ℕ → ℕ

@@ -4,7 +4,7 @@ use Rattle.std.proofs.lemmas.Grind.{get_or_default_zero}
 use Rattle.std.proofs.Math.Nat.{mul-le-mul, mul-le-mul_left}
 use Rattle.std.proofs.lemmas.List.Elements.{Contains-get_or}
 use Rattle.std.specs.Ordering.{nat_cmp, is_lt}
-use Rattle.time_histograms.specs.Counts.{below, IsPercentile}
+use Rattle.timed_runs.specs.time_histograms.Counts.{below, IsPercentile}
 
 abbrev pub AtLeast : ℕ → List ℕ → Type 0
 AtLeast x [] = Unit {0}

@@ -1,6 +1,6 @@
 use Rattle.std.proofs.Common.{◌<◌, ◌≤◌, ◌≡◌, ◌≢◌, arith}
-use Rattle.time_histograms.proofs.Heights.{one_more}
-use Rattle.time_histograms.proofs.bars.fullest.Goals as goal
+use Rattle.timed_runs.proofs.time_histograms.Heights.{one_more}
+use Rattle.timed_runs.proofs.time_histograms.bars.fullest.Goals as goal
 
 pub loop-class-preserved : goal.loop-class-preserved
 loop-class-preserved c =

@@ -1,6 +1,6 @@
 use Rattle.std.proofs.Common.{◌≡◌, ◌≤◌, ◌+◌, drop}
-use Rattle.time_histograms.specs.Counts.{below}
-use Rattle.time_histograms.proofs.counting.count_below.Given as goal
+use Rattle.timed_runs.specs.time_histograms.Counts.{below}
+use Rattle.timed_runs.proofs.time_histograms.counting.count_below.Given as goal
 
 abbrev pub invariant-loop-time : goal.invariant-loop-time
 invariant-loop-time l =

@@ -1,11 +1,11 @@
 //! A histogram by powers of two.
 
 ghost use Rattle.std.specs.Prelude.{ℕ, ◌≡◌, ◌<◌, ◌≤◌, ◌*◌, ◌^◌};
-ghost use Rattle.time_histograms.specs.Counts.{between, IsOneOf};
-ghost use Rattle.time_histograms.specs.Rows.{marks_of};
-ghost use Rattle.time_histograms.specs.declared.bars.TheConstants.{CLASSES};
+ghost use Rattle.timed_runs.specs.time_histograms.Counts.{between, IsOneOf};
+ghost use Rattle.timed_runs.specs.time_histograms.Rows.{marks_of};
+ghost use Rattle.timed_runs.specs.declared.time_histograms.bars.TheConstants.{CLASSES};
 
-use crate::counting::count_below;
+use crate::time_histograms::counting::count_below;
 use std::fmt;
 
 /// How many classes there are: all times below 2^63 but 0 are in one of them.
@@ -56,7 +56,7 @@ pub fn power(class: u32) -> u64
 
 impl fmt::Display for Bar {
     ghost use Rattle.std.specs.Prelude.{Some};
-    ghost use Rattle.time_histograms.specs.Rows.{row_of};
+    ghost use Rattle.timed_runs.specs.time_histograms.Rows.{row_of};
 
     ghost output = { λ bar. Some (row_of bar) };
 

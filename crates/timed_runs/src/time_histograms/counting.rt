@@ -1,7 +1,7 @@
 //! How many times are below a bound, and percentiles.
 
 ghost use Rattle.std.specs.Prelude.{◌≡◌, ◌≤◌, ◌<◌, ◌^◌, ◌⊎◌, length, IfSome, IfNone, IsPermutation};
-ghost use Rattle.time_histograms.specs.Counts.{below, IsPercentile};
+ghost use Rattle.timed_runs.specs.time_histograms.Counts.{below, IsPercentile};
 
 use std::marker::Model;
 

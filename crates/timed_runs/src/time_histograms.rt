@@ -1,5 +1,4 @@
 //! Counts of times: percentiles, and how many lie between powers of two.
-#![tactic(auto)]
 
 mod bars;
 mod counting;
