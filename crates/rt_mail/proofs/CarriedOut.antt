@@ -7,7 +7,7 @@ use Rattle.exit_statuses.specs.Exits.{IsWritten, IsToldBy}
 use Rattle.exit_statuses.specs.Refusals.{AreNone, status_of, refusal_line}
 use Rattle.exit_statuses.specs.Sides.{Sides}
 use Rattle.exit_statuses.proofs.ExitStatuses.{done_is_ended, refusal_is_ended}
-use Rattle.mail_post.specs.PostStates.{TakenState}
+use Rattle.rt_mail.specs.mail_post.PostStates.{TakenState}
 use Rattle.trace_text.specs.Jobs.{input_limit}
 use Rattle.trace_text.specs.Streams.{Appends, AppendsPrefix}
 use Rattle.rt_mail.specs.declared.exit.MailExit.{MailExit}

@@ -10,9 +10,9 @@ use Rattle.never_heap.specs.Histories.{parts}
 use Rattle.number_rings.specs.Rings.{IsKeepable, last_numbers}
 use Rattle.never_heap.proofs.PartLogs.{logged}
 use Rattle.rate_plan.specs.Rates.{IsAdmitted}
-use Rattle.said_numbers.specs.Said.{numbers_said, says_in, AreNumbers}
-use Rattle.said_numbers.proofs.NumbersPerThread.{few_said}
-use Rattle.said_numbers.proofs.NumberBounds.{said_numbers_small}
+use Rattle.rt_mail.specs.said_numbers.Said.{numbers_said, says_in, AreNumbers}
+use Rattle.rt_mail.proofs.said_numbers.NumbersPerThread.{few_said}
+use Rattle.rt_mail.proofs.said_numbers.NumberBounds.{said_numbers_small}
 use Rattle.threaded_runs.specs.EndedRuns.{HasHistory, commands_of, job_of}
 use Rattle.trace_text.specs.Jobs.{Job, IsJobInBounds}
 use Rattle.rt_mail.specs.Calls.{HasFirst, HasMail}

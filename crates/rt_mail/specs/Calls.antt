@@ -4,11 +4,11 @@ use Rattle.atom_board.specs.Mutators.{ClosedState}
 use Rattle.exit_statuses.specs.Exits.{Exit, IsWritten, IsEnded}
 use Rattle.exit_statuses.specs.Refusals.{AreNone}
 use Rattle.exit_statuses.specs.Sides.{Sides}
-use Rattle.mail_post.specs.PostStates.{TakenState}
+use Rattle.rt_mail.specs.mail_post.PostStates.{TakenState}
 use Rattle.never_heap.specs.Histories.{parts}
 use Rattle.number_rings.specs.Rings.{last_numbers}
 use Rattle.rate_plan.specs.Rates.{IsAdmitted}
-use Rattle.said_numbers.specs.Said.{numbers_said}
+use Rattle.rt_mail.specs.said_numbers.Said.{numbers_said}
 use Rattle.threaded_runs.specs.EndedRuns.{HasHistory, job_of}
 use Rattle.trace_text.specs.Jobs.{input_limit}
 use Rattle.rt_mail.specs.declared.exit.MailExit.{MailExit}

@@ -1,6 +1,6 @@
 -- What a job may ask of a post.
 use Rattle.std.specs.Prelude.{ℕ, ◌<◌, ◌≤◌, [], length, slice_index_or}
-use Rattle.said_numbers.specs.Said.{says_in}
+use Rattle.rt_mail.specs.said_numbers.Said.{says_in}
 use Rattle.trace_text.specs.Jobs.{Job}
 
 -- how many `say` commands thread t has

@@ -1,7 +1,7 @@
 //! What a call answers.
 
+use crate::mail_post::Taken;
 use atom_board::Closed;
-use mail_post::Taken;
 
 /// What became of a call. `due` is the status by all but the writing: 0 where the numbers were
 /// sent and kept, 2 where there were words, 3 for an input that is no job, or a job of too many

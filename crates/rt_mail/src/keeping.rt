@@ -6,10 +6,10 @@ ghost use Rattle.number_rings.specs.Rings.{IsKeepable, ring_traces};
 ghost use Rattle.threaded_runs.specs.EndedRuns.{commands_of};
 ghost use Rattle.rt_mail.specs.Recalled.{HasRings, ring_job, recalled_in};
 
+use crate::mail_post::Taken;
 use atom_board::Closed;
 use block_store::OutOfMemory;
 use heap_system::NoPace;
-use mail_post::Taken;
 use never_heap::Logs;
 use number_rings::{config_of_rings, recalled_numbers, trace_of_ring};
 use std::alloc::Global;

@@ -4,8 +4,8 @@ ghost use Rattle.std.specs.Prelude.{◌≡◌, length, MatchResult};
 ghost use Rattle.rt_mail.specs.Says.{IsWithin};
 ghost use Rattle.rt_mail.specs.Texts.{IsRefusedJob};
 
+use crate::said_numbers::says_of;
 use exit_statuses::Refusal;
-use said_numbers::says_of;
 use trace_text::Job;
 
 /// The most threads of a job.

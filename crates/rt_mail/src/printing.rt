@@ -6,7 +6,7 @@ ghost use Rattle.trace_text.specs.Faults.{Rose};
 ghost use Rattle.trace_text.specs.Streams.{Appends, AppendsPrefix};
 ghost use Rattle.rt_mail.specs.Tellings.{number_text, last_text, mail_line, lines_from};
 
-use mail_post::Taken;
+use crate::mail_post::Taken;
 use trace_text::{Failed, LineBuffer, Sink};
 
 /// Writes a line for each thread, that of thread 0 first: how many numbers were taken of it, and

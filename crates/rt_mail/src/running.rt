@@ -7,12 +7,12 @@ ghost use Rattle.rt_mail.specs.Recalled.{recalled_in};
 ghost use Rattle.rt_mail.specs.Texts.{IsCause};
 
 use crate::keeping::kept;
+use crate::mail_post::Taken;
+use crate::mail_runs::deliver;
 use crate::reading::read_job;
 use atom_board::Closed;
 use exit_statuses::Refusal;
 use heap_system::Pace;
-use mail_post::Taken;
-use mail_runs::deliver;
 use never_heap::Logs;
 use std::alloc::Global;
 use std::sync::Wait;

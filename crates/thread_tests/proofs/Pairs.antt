@@ -1,7 +1,7 @@
 -- Two senders are all of a post for two, in the other order too.
 use Rattle.std.proofs.Common.{ℕ, ◌≡◌, ◌+◌, ◌==◌, cond, nat_lt, [], ◌∷◌, ◌∙◌, arith}
 use Rattle.std.proofs.lemmas.Bool.Decides.{nat_tests}
-use Rattle.mail_post.specs.PostStates.{SenderState, AreAll}
+use Rattle.rt_mail.specs.mail_post.PostStates.{SenderState, AreAll}
 
 one_of_two : (t : ℕ) → (0 + cond (1 == t) 1 0) + cond (0 == t) 1 0 ≡ cond (nat_lt t 2) 1 0
 one_of_two t = grind (arith, nat_tests)

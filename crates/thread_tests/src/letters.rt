@@ -1,9 +1,9 @@
-//! Letters of a `mail_post` that are taken before and after the senders are gathered.
+//! Letters of a `rt_mail` that are taken before and after the senders are gathered.
 
 ghost use Rattle.std.specs.Prelude.{◌≡◌};
 
 use crate::slim::mail::comes;
-use mail_post::Post;
+use rt_mail::Post;
 use std::test::Fail;
 
 #[test]

@@ -1,4 +1,4 @@
-//! Calls of `mail_post`, `mail_runs` and `rt_mail`.
+//! Calls of `rt_mail`, `rt_mail` and `rt_mail`.
 
 ghost use Rattle.std.specs.Prelude.{◌≡◌, ◌≤◌, length, IfOk};
 ghost use Rattle.rate_plan.specs.Rates.{IsAdmitted};
@@ -6,11 +6,9 @@ ghost use Rattle.trace_text.specs.Jobs.{IsJobInBounds};
 
 use atom_board::Closed;
 use heap_system::Pace;
-use mail_post::{Letter, Post, Taken, Taker};
-use mail_runs::{deliver, deliver_through};
 use never_heap::Logs;
 use rate_plan::plan;
-use rt_mail::mail;
+use rt_mail::{Letter, Post, Taken, Taker, deliver, deliver_through, mail};
 use std::alloc::Global;
 use std::marker::Model;
 use std::process::Abort;
@@ -63,7 +61,7 @@ pub struct Mail {
 
 impl Model for Mail {
     ghost use Rattle.std.specs.Prelude.{◌≡◌, List, ℕ, map};
-    ghost use Rattle.said_numbers.specs.Said.{numbers_said};
+    ghost use Rattle.rt_mail.specs.said_numbers.Said.{numbers_said};
 
     ghost Value = { List (List ℕ) };
 

@@ -1,9 +1,0 @@
-use Rattle.std.proofs.Common.{[], slice_index_or, subst, length, ◌<◌}
-use Rattle.mail_post.specs.PostStates.{TakenState, Begins}
-use Rattle.mail_post.proofs.post.Taken.numbers.Goals as goal
-
-pub returns-clause-front : goal.returns-clause-front
-returns-clause-front c = subst (λ (d : TakenState). c.args.t < length d.taken
-    → Begins (slice_index_or d.taken c.args.t [])
-    (slice_index_or d.sent c.args.t [])) c.self.view_is
-    (c.self.invariant.begins c.args.t) c.requires

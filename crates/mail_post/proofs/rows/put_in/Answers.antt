@@ -1,6 +1,0 @@
-use Rattle.mail_post.proofs.EndFacts.{put_row}
-use Rattle.mail_post.proofs.rows.put_in.Goals as goal
-
-pub returns : goal.returns
-returns c = put_row c.args.rows.now.items c.args.thread c.args.number c.push.new.self
-    c.index_mut.result.now c.requires.thread c.push.ensures c.index_mut.ensures.value

@@ -1,7 +1,0 @@
-use Rattle.mail_runs.specs.MailThreads.{IsMailThread}
-use Rattle.mail_runs.proofs.mail_thread.MailThread.send_all.Given as goal
-
-abbrev pub invariant-loop : goal.invariant-loop
-invariant-loop g l =
-    IsMailThread l.mail_board l.fn.self.mutator.local.thread l.who
-    × (goal.iterator-loop g).can_next l.iterator' × (goal.iterator-loop g).is_finite l.iterator'
