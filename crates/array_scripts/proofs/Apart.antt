@@ -8,8 +8,8 @@ use Rattle.exit_statuses.specs.Refusals.{AreNone, status_of, IsReadWhole, IsRead
 use Rattle.exit_statuses.specs.Sides.{Sides, IsUnfailed}
 use Rattle.exit_statuses.proofs.ExitStatuses.{AreApart}
 use Rattle.exit_statuses.proofs.WholeTexts.{few_taken, refused_unread, has_read}
-use Rattle.scripts.specs.Scripts.{Reads}
-use Rattle.scripts.proofs.ScriptOrBadLine.{never_both, scripts_are_one}
+use Rattle.array_scripts.specs.scripts.Scripts.{Reads}
+use Rattle.array_scripts.proofs.scripts.ScriptOrBadLine.{never_both, scripts_are_one}
 use Rattle.trace_text.specs.Reading.{tokenized}
 use Rattle.trace_text.specs.Jobs.{input_limit}
 use Rattle.array_scripts.specs.declared.header.Header.{Header}

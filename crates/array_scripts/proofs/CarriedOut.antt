@@ -5,7 +5,7 @@ use Rattle.exit_statuses.specs.Exits.{Exit, IsToldBy}
 use Rattle.exit_statuses.specs.Refusals.{AreNone, status_of, refusal_line}
 use Rattle.exit_statuses.specs.Sides.{Sides, IsUnfailed}
 use Rattle.exit_statuses.proofs.ExitStatuses.{never_done, done_is_ended, refusal_is_ended}
-use Rattle.scripts.specs.Scripts.{Reads}
+use Rattle.array_scripts.specs.scripts.Scripts.{Reads}
 use Rattle.trace_text.specs.Jobs.{input_limit}
 use Rattle.trace_text.specs.Streams.{Appends, AppendsPrefix}
 use Rattle.array_scripts.specs.declared.header.Header.{Header}

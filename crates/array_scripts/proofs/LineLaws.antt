@@ -3,8 +3,8 @@
 use Rattle.std.proofs.Common.{◌≡◌, ℕ, ◌<◌, ◌≤◌, ◌^◌, ◌==◌, ◌&&◌, ltb, Bool, true, false, cond, Option, Some, None, List, [], ◌∷◌, length, codes, decimal, eq-eqb, refl, ap, ◌∙◌, subst, arith}
 use Rattle.std.proofs.lemmas.Bool.{eqb-true, ltb-true, lt-ltb}
 use Rattle.std.proofs.lemmas.Option.{cond_some}
-use Rattle.scripts.specs.Scripts.{Said, Thread, Told, End, Language, line_of, Stands, Reads}
-use Rattle.scripts.proofs.ScriptOrBadLine.{some_is}
+use Rattle.array_scripts.specs.scripts.Scripts.{Said, Thread, Told, End, Language, line_of, Stands, Reads}
+use Rattle.array_scripts.proofs.scripts.ScriptOrBadLine.{some_is}
 use Rattle.trace_text.specs.Headers.{behind_at, labelled_at}
 use Rattle.trace_text.specs.Reading.{◌>>=◌, number_at, no_more_of, one_token_of}
 use Rattle.trace_text.proofs.NumberLaws.{number_sound, number_complete}

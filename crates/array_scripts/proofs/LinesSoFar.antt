@@ -1,6 +1,6 @@
 -- One line more of a script.
 use Rattle.std.proofs.Common.{◌≡◌, ℕ, ◌+◌, Option, Some, None, List, [], ◌∷◌, ◌++◌, sym, refl, ap, ◌∙◌, append_assoc}
-use Rattle.scripts.specs.Scripts.{Among, Said, Language, behind, front_op, told, told_next, or_bad, bad_line}
+use Rattle.array_scripts.specs.scripts.Scripts.{Among, Said, Language, behind, front_op, told, told_next, or_bad, bad_line}
 use Rattle.trace_text.specs.Reading.{parted, Gives}
 use Rattle.trace_text.proofs.LabelLaws.{parted_some, parted_none}
 use Rattle.array_scripts.specs.declared.header.Header.{Header}

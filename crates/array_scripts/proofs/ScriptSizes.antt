@@ -2,7 +2,7 @@
 -- have.
 use Rattle.std.proofs.Common.{◌≡◌, ℕ, zero, suc, ◌+◌, ◌≤◌, List, [], ◌∷◌, ◌++◌, length, length-append, slice_index_or, arith}
 use Rattle.std.specs.List.{AllByRecursion}
-use Rattle.scripts.specs.Scripts.{AllFit}
+use Rattle.array_scripts.specs.scripts.Scripts.{AllFit}
 use Rattle.array_scripts.specs.declared.header.Header.{Header}
 use Rattle.array_scripts.specs.Kinds.{Kind, Tokens, language, IsHeader, Fits, FitBehind, IsScriptIn}
 

@@ -1,7 +1,7 @@
 -- One thread's operations more of a script.
 use Rattle.std.proofs.Common.{◌≡◌, ℕ, ◌+◌, Option, Some, None, List, [], ◌∷◌, ◌++◌, length, sym, refl, ap, ◌∙◌, subst, append_assoc, append-nil, length-append, arith}
-use Rattle.scripts.specs.Scripts.{Language, Place, Start, Among, Reads, place_after, begins, begin_thread, told, told_next, or_bad, bad_line}
-use Rattle.scripts.proofs.ScriptOrBadLine.{told_is_script}
+use Rattle.array_scripts.specs.scripts.Scripts.{Language, Place, Start, Among, Reads, place_after, begins, begin_thread, told, told_next, or_bad, bad_line}
+use Rattle.array_scripts.proofs.scripts.ScriptOrBadLine.{told_is_script}
 use Rattle.trace_text.specs.Reading.{parted}
 use Rattle.trace_text.proofs.LabelLaws.{parted_some, parted_none}
 use Rattle.array_scripts.specs.declared.header.Header.{Header}
@@ -159,7 +159,7 @@ module _ {Op : Type 0} (kind : Kind Op) where
       → AreRead kind h all before scripts lines.End m rest → parted rest ≡ Some (l, others)
       → bad_line lang (Among h 0 []) 2 all ≡ Some m
   bad_behind h all before scripts m rest l others read some =
-      read.bad ∙ ap (λ (ls : List Tokens). bad_line lang Rattle.scripts.specs.Scripts.Done m ls)
+      read.bad ∙ ap (λ (ls : List Tokens). bad_line lang Rattle.array_scripts.specs.scripts.Scripts.Done m ls)
       (parted_some rest l others some)
 
   -- ---- a header and what is behind it

@@ -7,7 +7,7 @@ use Rattle.trace_text.specs.Headers.{behind_at, labelled_at}
 use Rattle.trace_text.specs.Reading.{◌>>=◌, parted, number_at, no_more_of, one_token_of, two_tokens_of, three_tokens_of}
 use Rattle.trace_text.proofs.NumberLaws.{number_sound, number_complete}
 use Rattle.trace_text.proofs.Binds.{bind_then}
-use Rattle.scripts.proofs.ScriptOrBadLine.{some_is}
+use Rattle.array_scripts.proofs.scripts.ScriptOrBadLine.{some_is}
 use Rattle.array_scripts.specs.Kinds.{Tokens, ranged, below}
 
 pub else_some : {A : Type 0} (b : Bool) (x y : A) → cond b None (Some x) ≡ Some y

@@ -3,7 +3,7 @@
 use Rattle.std.specs.Prelude.{ℕ, ◌<◌, ◌≤◌, ◌==◌, ◌&&◌, ◌||◌, nat_lt, Option, Some, None, if◌then◌else◌, List, [], ◌∷◌, ◌++◌, length, codes, decimal}
 use Rattle.std.specs.Str.{bytes_eq}
 use Rattle.block_store.specs.declared.Config.{Config}
-use Rattle.scripts.specs.Scripts.{Said, Thread, Told, End, Language, AreFit, IsScript}
+use Rattle.array_scripts.specs.scripts.Scripts.{Said, Thread, Told, End, Language, AreFit, IsScript}
 use Rattle.trace_text.specs.Headers.{behind_at, labelled_at}
 use Rattle.trace_text.specs.Reading.{◌>>=◌, tokenized, number_at, no_more_of, one_token_of}
 use Rattle.array_scripts.specs.declared.header.Header.{Header}

@@ -6,3 +6,5 @@ pub mod Answers
 pub mod Runnable
 pub mod Tellings
 pub mod Calls
+pub mod scripts
+pub mod script_runs

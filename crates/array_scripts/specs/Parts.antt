@@ -2,7 +2,7 @@
 use Rattle.std.specs.Prelude.{ℕ, ◌≡◌, Option, Some, None, List, [], ◌++◌, length}
 use Rattle.exit_statuses.specs.declared.refusal.Refusal.{Refusal}
 use Rattle.exit_statuses.specs.declared.refusal.Refusal.TheVariants as refusals
-use Rattle.scripts.specs.Scripts.{Start, Among, place_after, told, told_next, bad_line}
+use Rattle.array_scripts.specs.scripts.Scripts.{Start, Among, place_after, told, told_next, bad_line}
 use Rattle.array_scripts.specs.declared.header.Header.{Header}
 use Rattle.array_scripts.specs.declared.line.Line.{Line}
 use Rattle.array_scripts.specs.declared.line.Line.TheVariants as lines

@@ -3,7 +3,7 @@ use Rattle.std.specs.Prelude.{ℕ, ◌*◌, ◌≡◌, ◌≤◌, List}
 use Rattle.array_trees.specs.InitialHeaps.{opening_blocks}
 use Rattle.never_heap.specs.declared.Command.{Command}
 use Rattle.never_heap.specs.Jobs.{IsJobInBounds}
-use Rattle.scripts.specs.Scripts.{Reads}
+use Rattle.array_scripts.specs.scripts.Scripts.{Reads}
 use Rattle.array_scripts.specs.declared.header.Header.{Header}
 use Rattle.array_scripts.specs.Answers.{traces_in}
 use Rattle.array_scripts.specs.Kinds.{Kind, Tokens, language, IsHeader, Fits, IsScriptIn}

@@ -11,6 +11,8 @@ mod printing;
 mod reading;
 mod runnable;
 mod script;
+mod script_runs;
+mod scripts;
 
 pub use header::{Header, header_of};
 pub use jobs::{all_answers, planned, traces};
@@ -21,3 +23,5 @@ pub use printing::tell_answers;
 pub use reading::read_script;
 pub use runnable::Runnable;
 pub use script::{Fault, script_of};
+pub use script_runs::{ScriptExit, run_script};
+pub use scripts::lines_are_told_apart;

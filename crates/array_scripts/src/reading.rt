@@ -2,7 +2,7 @@
 
 ghost use Rattle.std.specs.Prelude.{◌≡◌, map, [], IfOk, IfErr, OnOk};
 ghost use Rattle.exit_statuses.specs.Sides.{sides};
-ghost use Rattle.scripts.specs.Scripts.{Reads};
+ghost use Rattle.array_scripts.specs.scripts.Scripts.{Reads};
 ghost use Rattle.array_scripts.specs.Kinds.{language, IsHeader, Fits};
 ghost use Rattle.array_scripts.specs.Scripts.{IsReadAs, IsCause};
 

@@ -2,7 +2,7 @@
 
 ghost use Rattle.std.specs.Prelude.{◌≡◌, ◌+◌, ◌≤◌, ◌<◌, ◌^◌, Some, [], length, map, IfOk, IfErr};
 ghost use Rattle.trace_text.specs.Reading.{tokenized};
-ghost use Rattle.scripts.specs.Scripts.{Among, Reads, bad_line};
+ghost use Rattle.array_scripts.specs.scripts.Scripts.{Among, Reads, bad_line};
 ghost use Rattle.array_scripts.specs.Kinds.{language, IsHeader, Fits, IsScriptOf};
 ghost use Rattle.array_scripts.specs.Parts.{Blames, HasTold, IsFirstBad, IsTurned, IsTurn};
 

@@ -6,8 +6,8 @@ use Rattle.array_scripts.specs.declared.header.Header.{Header}
 use Rattle.array_scripts.specs.Kinds.{Tokens, IsHeader, Fits, below, line_at, told_at, language}
 use Rattle.array_scripts.proofs.TokenLaws.{chosen, below_sound, below_again, two_of, three_of, place_sound}
 use Rattle.array_scripts.proofs.LineLaws.{kind_reads}
-use Rattle.scripts.specs.Scripts.{Reads}
-use Rattle.scripts.proofs.ScriptOrBadLine.{some_is}
+use Rattle.array_scripts.specs.scripts.Scripts.{Reads}
+use Rattle.array_scripts.proofs.scripts.ScriptOrBadLine.{some_is}
 use Rattle.handle_table.specs.declared.operation.Operation.{Operation}
 use Rattle.handle_table.specs.declared.operation.Operation.TheVariants.{Make, See, Drop, Take, Evict}
 use Rattle.handle_table.specs.Handles.{slot_of, CanStand}

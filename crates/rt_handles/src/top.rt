@@ -6,8 +6,8 @@ ghost use Rattle.rt_handles.specs.Calls.{IsCarriedOut};
 
 use crate::exit::HandleExit;
 use crate::kind::Handles;
+use array_scripts::{ScriptExit, run_script};
 use heap_system::Pace;
-use script_runs::{ScriptExit, run_script};
 use std::alloc::Global;
 use std::sync::Wait;
 use std::thread::Threads;

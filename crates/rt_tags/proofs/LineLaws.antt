@@ -4,8 +4,8 @@ use Rattle.array_scripts.specs.declared.header.Header.{Header}
 use Rattle.array_scripts.specs.Kinds.{Tokens, IsHeader, Fits, below, line_at, told_at, language}
 use Rattle.array_scripts.proofs.TokenLaws.{chosen, below_sound, below_again, three_of, place_sound}
 use Rattle.array_scripts.proofs.LineLaws.{kind_reads}
-use Rattle.scripts.specs.Scripts.{Reads}
-use Rattle.scripts.proofs.ScriptOrBadLine.{some_is}
+use Rattle.array_scripts.specs.scripts.Scripts.{Reads}
+use Rattle.array_scripts.proofs.scripts.ScriptOrBadLine.{some_is}
 use Rattle.tag_table.specs.declared.operation.Operation.{Operation}
 use Rattle.tag_table.specs.declared.operation.Operation.TheVariants.{Write, Clear, Read}
 use Rattle.tag_table.specs.Tables.{IsOperationInRange}

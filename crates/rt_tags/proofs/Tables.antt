@@ -18,7 +18,7 @@ use Rattle.array_scripts.specs.Runnable.{IsRunnable}
 use Rattle.array_scripts.specs.Tellings.{lines_from}
 use Rattle.array_scripts.proofs.AnswersInOrder.{in_order}
 use Rattle.array_scripts.proofs.ScriptSizes.{count}
-use Rattle.script_runs.specs.Runs.{IsAnswered}
+use Rattle.array_scripts.specs.script_runs.Runs.{IsAnswered}
 use Rattle.rt_tags.specs.Calls.{Headline}
 use Rattle.rt_tags.specs.Lines.{tag_kind}
 use Rattle.rt_tags.specs.Scripts.{commands, job_of_script}

@@ -1,5 +1,5 @@
 use Rattle.array_scripts.specs.Kinds.{language, IsHeader, Fits}
-use Rattle.scripts.proofs.ScriptOrBadLine.{told_apart, never_both, scripts_are_one}
+use Rattle.array_scripts.proofs.scripts.ScriptOrBadLine.{told_apart, never_both, scripts_are_one}
 use Rattle.rt_tags.specs.Lines.{tag_kind}
 use Rattle.rt_tags.proofs.LineLaws.{tag_reads}
 use Rattle.rt_tags.proofs.lines_are_told_apart.Goals as goal

@@ -1,9 +1,8 @@
 //! Scripts of threads: a header, the operations of each thread, and an end. Their lines may be of any
 //! language; the first line that cannot stand at its place is told apart once, for all.
-#![tactic(auto)]
 
 ghost use Rattle.std.specs.Prelude.{◌≡◌, ◌⊎◌, ℕ, Bool, Some, List, IsTrue};
-ghost use Rattle.scripts.specs.Scripts.{Language, Start, IsScript, Reads, bad_line};
+ghost use Rattle.array_scripts.specs.scripts.Scripts.{Language, Start, IsScript, Reads, bad_line};
 
 /// Lines are a script, or one of them is the first that cannot stand at its place, and never both;
 /// and they are one script at most. So it is in each language of which the readers of a header and

@@ -3,8 +3,8 @@ use Rattle.array_scripts.specs.Tellings.{lines_from}
 use Rattle.array_scripts.proofs.CarriedOut.{run_is_carried_out, refusal_is_carried_out}
 use Rattle.exit_statuses.specs.Exits.{IsWritten}
 use Rattle.exit_statuses.specs.Sides.{sides}
-use Rattle.script_runs.specs.Runs.{IsAnswered}
-use Rattle.script_runs.proofs.top.run_script.Goals as goal
+use Rattle.array_scripts.specs.script_runs.Runs.{IsAnswered}
+use Rattle.array_scripts.proofs.script_runs.top.run_script.Goals as goal
 
 pub returns-in-Ok : goal.returns-in-Ok
 returns-in-Ok g c =

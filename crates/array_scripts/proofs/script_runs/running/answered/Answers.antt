@@ -3,7 +3,7 @@ use Rattle.std.proofs.lemmas.List.{length-map}
 use Rattle.never_heap.specs.declared.Command.{Command}
 use Rattle.never_heap.specs.Jobs.{IsJobInBounds}
 use Rattle.array_scripts.proofs.EachThread.{as_many}
-use Rattle.script_runs.proofs.running.answered.Goals as goal
+use Rattle.array_scripts.proofs.script_runs.running.answered.Goals as goal
 
 pub traces-requires-clause-few : goal.traces-requires-clause-few
 traces-requires-clause-few g c =

@@ -1,5 +1,4 @@
 //! Runs scripts of any kind on threads, and writes what their operations answered.
-#![tactic(auto)]
 
 mod exit;
 mod running;

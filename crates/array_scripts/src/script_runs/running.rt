@@ -8,10 +8,10 @@ ghost use Rattle.array_scripts.specs.Scripts.{IsCause};
 ghost use Rattle.exit_statuses.specs.Sides.{sides};
 ghost use Rattle.never_heap.specs.Jobs.{IsJobInBounds};
 ghost use Rattle.rate_plan.specs.Rates.{IsAdmitted};
-ghost use Rattle.script_runs.specs.Runs.{IsRunOf, HasAnswers};
+ghost use Rattle.array_scripts.specs.script_runs.Runs.{IsRunOf, HasAnswers};
 ghost use Rattle.threaded_runs.specs.EndedRuns.{HasHistory};
 
-use array_scripts::{Runnable, all_answers, planned, read_script, traces};
+use crate::{Runnable, all_answers, planned, read_script, traces};
 use atom_board::Closed;
 use block_store::{Config, OutOfMemory};
 use exit_statuses::Refusal;

@@ -1,6 +1,6 @@
 use Rattle.std.proofs.Common.{IsTrue}
-use Rattle.scripts.proofs.ScriptOrBadLine.{told_apart, never_both, scripts_are_one}
-use Rattle.scripts.proofs.lines_are_told_apart.Goals as goal
+use Rattle.array_scripts.proofs.scripts.ScriptOrBadLine.{told_apart, never_both, scripts_are_one}
+use Rattle.array_scripts.proofs.scripts.lines_are_told_apart.Goals as goal
 
 pub returns-clause-either : goal.returns-clause-either
 returns-clause-either c = λ lang is_header fits lines reads.

@@ -2,7 +2,7 @@ use Rattle.std.proofs.Common.{arith, ◌≡◌, [], map, string_bytes, sym, subs
 use Rattle.std.proofs.lemmas.Grind.{common_steps}
 use Rattle.exit_statuses.specs.Sides.{sides}
 use Rattle.array_scripts.specs.Scripts.{IsCause}
-use Rattle.script_runs.proofs.top.asked.Goals as goal
+use Rattle.array_scripts.proofs.script_runs.top.asked.Goals as goal
 
 pub returns-clause-refused : goal.returns-clause-refused
 returns-clause-refused g c =

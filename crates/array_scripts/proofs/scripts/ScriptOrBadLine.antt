@@ -1,6 +1,6 @@
 -- A script has no bad line, and lines without a bad one are those of a script.
 use Rattle.std.proofs.Common.{◌≡◌, ℕ, ◌+◌, ◌<◌, ◌⊎◌, inl, inr, Option, Some, None, List, [], ◌∷◌, ◌++◌, drop, get_or, map, append-nil, refl, sym, ap, ◌∙◌, arith, subst}
-use Rattle.scripts.specs.Scripts.{Said, Thread, Told, End, Start, Among, Done, Language, thread_lines, script_lines, behind, begins, or_bad, bad_line, AreFit, AllFit, IsScript, Reads, begin_thread, front_op, told_next, told}
+use Rattle.array_scripts.specs.scripts.Scripts.{Said, Thread, Told, End, Start, Among, Done, Language, thread_lines, script_lines, behind, begins, or_bad, bad_line, AreFit, AllFit, IsScript, Reads, begin_thread, front_op, told_next, told}
 
 pub some_is : {A : Type 0} {x y : A} → Some x ≡ Some y → x ≡ y
 some_is {A} {x} {y} f = ap (λ (o : Option A). or o) f

@@ -8,8 +8,8 @@ use Rattle.array_scripts.specs.Answers.{traces_in, answers_in}
 use Rattle.array_scripts.specs.Kinds.{AreOfThread}
 use Rattle.array_scripts.proofs.Apart.{without_memory}
 use Rattle.array_scripts.proofs.ScriptSizes.{fit_at}
-use Rattle.script_runs.specs.Runs.{IsRunOf}
-use Rattle.script_runs.proofs.running.kept.Goals as goal
+use Rattle.array_scripts.specs.script_runs.Runs.{IsRunOf}
+use Rattle.array_scripts.proofs.script_runs.running.kept.Goals as goal
 
 pub read_script-requires : goal.read_script-requires
 read_script-requires g c = c.requires.reads

@@ -4,11 +4,11 @@ ghost use Rattle.std.specs.Prelude.{◌≡◌, ◌≤◌, [], map, length, strin
 ghost use Rattle.array_scripts.specs.Runnable.{IsRunnable};
 ghost use Rattle.array_scripts.specs.Scripts.{IsCause};
 ghost use Rattle.exit_statuses.specs.Sides.{sides};
-ghost use Rattle.script_runs.specs.Runs.{HasAnswers, IsCarriedOut};
+ghost use Rattle.array_scripts.specs.script_runs.Runs.{HasAnswers, IsCarriedOut};
 
-use crate::exit::ScriptExit;
-use crate::running::kept;
-use array_scripts::{Runnable, tell_answers};
+use crate::script_runs::exit::ScriptExit;
+use crate::script_runs::running::kept;
+use crate::{Runnable, tell_answers};
 use atom_board::Closed;
 use exit_statuses::{Refusal, refused};
 use heap_system::Pace;
