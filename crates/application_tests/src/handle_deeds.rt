@@ -2,12 +2,12 @@
 //! the order in which their deciding commands were answered.
 
 ghost use Rattle.std.specs.Prelude.{◌≡◌, ◌≤◌, true};
-ghost use Rattle.handle_table.specs.Handles.{size_of, sizes_of};
+ghost use Rattle.array_tables.specs.handle_table.Handles.{size_of, sizes_of};
 
 use crate::deeds::{Deed, walked};
 use crate::replaying::{Replayed, replay_of};
+use array_tables::handle_table::{Operation, Outcome, outcomes};
 use block_store::OutOfMemory;
-use handle_table::{Operation, Outcome, outcomes};
 use heap_system::NoPace;
 use lent_calls::{Call, Lent};
 use never_heap::Logs;

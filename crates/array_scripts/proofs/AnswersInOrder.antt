@@ -3,7 +3,7 @@ use Rattle.std.proofs.Common.{◌≡◌, ℕ, zero, suc, ◌+◌, ◌<◌, List,
 use Rattle.never_heap.specs.declared.Entry.{Entry}
 use Rattle.never_heap.specs.declared.Reply.{Reply}
 use Rattle.never_heap.specs.Histories.{HistoryItem, parts}
-use Rattle.operations.specs.Linearizations.{Call, calls_of, replies_in}
+use Rattle.array_tables.specs.operations.Linearizations.{Call, calls_of, replies_in}
 use Rattle.never_heap.proofs.PartLogs.{logged}
 use Rattle.array_scripts.specs.Answers.{each_from, answers_in, answers_from}
 

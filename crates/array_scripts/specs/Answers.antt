@@ -3,7 +3,7 @@ use Rattle.std.specs.Prelude.{ℕ, zero, suc, ◌+◌, List, [], ◌∷◌, map,
 use Rattle.never_heap.specs.declared.Command.{Command}
 use Rattle.never_heap.specs.declared.Entry.{Entry}
 use Rattle.never_heap.specs.declared.Reply.{Reply}
-use Rattle.operations.specs.Linearizations.{Call, calls_of}
+use Rattle.array_tables.specs.operations.Linearizations.{Call, calls_of}
 
 -- what is made of each of the threads from thread t on
 abbrev pub each_from : {X Y : Type 0} → (ℕ → X → Y) → ℕ → List X → List Y

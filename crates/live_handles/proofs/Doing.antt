@@ -8,11 +8,11 @@ use Rattle.never_heap.specs.Bounds.{IsCommandInBounds}
 use Rattle.never_heap.specs.declared.Reply.{Reply}
 use Rattle.never_heap.specs.declared.Reply.TheVariants as answers
 use Rattle.never_heap.proofs.CommandBounds.{plain_fits}
-use Rattle.operations.proofs.Pairs.{◌▸◌}
+use Rattle.array_tables.proofs.operations.Pairs.{◌▸◌}
 use Rattle.heap_system.specs.Locals.{LocalState}
 use Rattle.shared_heap.specs.Stamps.{HasDrawn}
 use Rattle.shared_heap.specs.Workers.{HasSeenIts, WorkerState}
-use Rattle.handle_table.specs.Handles.{Deed, Make, See, Drop, Take, Evict, handle_config, id}
+use Rattle.array_tables.specs.handle_table.Handles.{Deed, Make, See, Drop, Take, Evict, handle_config, id}
 use Rattle.live_rows.specs.Life.{HasBegun, HasRoomFor, HasRun, last_three}
 use Rattle.live_rows.specs.Rows.{replies}
 use Rattle.live_rows.specs.Workers.{IsNext}

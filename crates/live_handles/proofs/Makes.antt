@@ -1,7 +1,7 @@
 -- What a thread has made, with one deed more.
 use Rattle.std.proofs.Common.{◌≡◌, ℕ, ◌+◌, ◌<◌, ◌≤◌, inl, inr, cond, Option, Some, None, List, [], ◌∷◌, ◌++◌, length, eq-eqb, ne_eqb, sym, refl, ap, ◌∙◌, subst, arith}
 use Rattle.std.proofs.lemmas.Bool.{cases_eq}
-use Rattle.handle_table.specs.Handles.{Deed, Make, See, Drop, Take, Evict, last_after, AreNumbered}
+use Rattle.array_tables.specs.handle_table.Handles.{Deed, Make, See, Drop, Take, Evict, last_after, AreNumbered}
 use Rattle.live_handles.specs.Live.{CanFollow, commands_of}
 use Rattle.live_handles.specs.Makes.{last_behind, made_behind, last_by, slot_after, slot_by, slots_behind}
 

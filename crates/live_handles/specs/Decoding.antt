@@ -2,7 +2,7 @@
 use Rattle.std.specs.Prelude.{ℕ, ◌+◌, ◌-◌, ◌==◌, ◌&&◌, Bool, true, false, if◌then◌else◌, List, [], ◌∷◌}
 use Rattle.never_heap.specs.declared.Command.{Command}
 use Rattle.never_heap.specs.declared.Command.TheVariants as commands
-use Rattle.handle_table.specs.Handles.{Deed, Make, See, Drop, Take, Evict, last_after}
+use Rattle.array_tables.specs.handle_table.Handles.{Deed, Make, See, Drop, Take, Evict, last_after}
 
 -- What was read of the commands so far: how many handles were made, of each h one more than the
 -- number of its last make, the last two numbers that were set, the place that was fetched last, and

@@ -1,7 +1,7 @@
 -- What a worker keeps in memory of its deeds.
 use Rattle.std.specs.Prelude.{ℕ, ◌<◌, ◌≤◌, ◌≡◌, ◌^◌, Option, None, List, [], slice_index_or}
 use Rattle.shared_heap.specs.Workers.{WorkerState}
-use Rattle.handle_table.specs.Handles.{Deed, Make, id}
+use Rattle.array_tables.specs.handle_table.Handles.{Deed, Make, id}
 use Rattle.live_handles.specs.declared.request.Request.{Request}
 use Rattle.live_handles.specs.declared.request.Request.TheVariants as asks
 use Rattle.live_handles.specs.Decoding.{deeds_of}

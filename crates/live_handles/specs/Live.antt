@@ -5,7 +5,7 @@ use Rattle.never_heap.specs.declared.Command.{Command}
 use Rattle.never_heap.specs.declared.Reply.{Reply}
 use Rattle.never_heap.specs.Histories.{HistoryItem}
 use Rattle.shared_heap.specs.Workers.{CanOpen, HeapState, WorkerState}
-use Rattle.handle_table.specs.Handles.{Answer, Matched, Found, Deed, Make, See, Drop, Take, Evict, Slot, Row, answer, slots_after, empty_slots, rows_of, command_at, decides, ends, found_by, handle_config, is_yes, AreNumbered}
+use Rattle.array_tables.specs.handle_table.Handles.{Answer, Matched, Found, Deed, Make, See, Drop, Take, Evict, Slot, Row, answer, slots_after, empty_slots, rows_of, command_at, decides, ends, found_by, handle_config, is_yes, AreNumbered}
 use Rattle.live_rows.specs.Orders as orders
 use Rattle.live_rows.specs.Rows as rows
 use Rattle.live_rows.specs.Rows.{Rows}

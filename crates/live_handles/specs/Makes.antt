@@ -1,6 +1,6 @@
 -- What a thread has made so far, told by its deeds.
 use Rattle.std.specs.Prelude.{ℕ, ◌+◌, ◌==◌, Option, Some, None, if◌then◌else◌, List, [], ◌∷◌}
-use Rattle.handle_table.specs.Handles.{Deed, Make, last_after}
+use Rattle.array_tables.specs.handle_table.Handles.{Deed, Make, last_after}
 
 -- how many handles were made, behind n others
 abbrev pub made_behind : ℕ → List Deed → ℕ

@@ -1,8 +1,8 @@
 //! The commands of each request, its range, and what its replies tell.
 
 ghost use Rattle.std.specs.Prelude.{◌≡◌, ◌+◌, ◌<◌, ◌≤◌, ◌∷◌, [], ◌^◌, ◌↔◌, IsTrue, Some, None, ℕ, slice_index_or};
-ghost use Rattle.handle_table.specs.Handles.{Make, See, Drop, Take, Evict, found_by};
-ghost use Rattle.handle_table.specs.Handles as handles;
+ghost use Rattle.array_tables.specs.handle_table.Handles.{Make, See, Drop, Take, Evict, found_by};
+ghost use Rattle.array_tables.specs.handle_table.Handles as handles;
 ghost use Rattle.live_handles.specs.Live as live;
 ghost use Rattle.live_handles.specs.Live.{IsInRange, commands_of, place_in};
 ghost use Rattle.live_handles.specs.Kept.{NamesHandle, makes, objects_by, slot_next};

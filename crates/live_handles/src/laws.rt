@@ -7,7 +7,7 @@ ghost use Rattle.never_heap.specs.declared.Command.{Command};
 ghost use Rattle.heap_system.specs.Systems.{Whole};
 ghost use Rattle.shared_heap.specs.declared.rules.View.{View};
 ghost use Rattle.shared_heap.specs.Shared.{SharedKept};
-ghost use Rattle.handle_table.specs.Handles.{Deed};
+ghost use Rattle.array_tables.specs.handle_table.Handles.{Deed};
 ghost use Rattle.live_rows.specs.Orders.{OperationsAreInOrder, OperationsComeAfter, OperationsComeAfterStamps, StandBehindWhatWasSeen};
 ghost use Rattle.live_rows.specs.SoFar.{SeenComesBeforeLater, WorkAllAlong};
 ghost use Rattle.live_handles.specs.Live.{IsHandleHeap, handles};

@@ -3,7 +3,7 @@
 ghost use Rattle.std.specs.Prelude.{◌≡◌, ◌∷◌, [], ◌↔◌, IsTrue, IfOk, IfErr, OnOk, OnErr, IfSome};
 ghost use Rattle.shared_heap.specs.Workers as heaps;
 ghost use Rattle.shared_heap.specs.Workers.{CanOpen};
-ghost use Rattle.handle_table.specs.Handles.{Matched, Found};
+ghost use Rattle.array_tables.specs.handle_table.Handles.{Matched, Found};
 ghost use Rattle.live_handles.specs.declared.request.Request.TheVariants as asks;
 ghost use Rattle.live_handles.specs.Kept.{HasSmallId};
 ghost use Rattle.live_handles.specs.Live.{AreInOrder, AreFresh, AreEachOnce, CanDo, HasDone, HasDrawn, HasSeenAll, HaveOneTable, IsInRange, IsMade, IsOf, IsOpenFault, IsRefused, IsSameWorker, IsTableInRange, answer_by, commands_of, deed_of, has_learned, opened_config, slots_of};

@@ -4,12 +4,12 @@ use Rattle.std.proofs.lemmas.List.{append-nil}
 use Rattle.never_heap.specs.declared.Command.{Command}
 use Rattle.never_heap.specs.declared.Reply.{Reply}
 use Rattle.never_heap.specs.declared.Reply.TheVariants as answers
-use Rattle.operations.specs.Linearizations.{answers_told}
-use Rattle.operations.proofs.Applied.{applied}
-use Rattle.operations.proofs.LinearizedRuns.{linearized, linearized_so_far}
-use Rattle.number_rings.specs.Rings.{Cell, Operation, Keep, Recall, Row, cell_config, ends, number_of, rows_of}
-use Rattle.number_rings.proofs.RingTable.{rings_owe, whole}
-use Rattle.number_rings.proofs.RingTable as table
+use Rattle.array_tables.specs.operations.Linearizations.{answers_told}
+use Rattle.array_tables.proofs.operations.Applied.{applied}
+use Rattle.array_tables.proofs.operations.LinearizedRuns.{linearized, linearized_so_far}
+use Rattle.array_tables.specs.number_rings.Rings.{Cell, Operation, Keep, Recall, Row, cell_config, ends, number_of, rows_of}
+use Rattle.array_tables.proofs.number_rings.RingTable.{rings_owe, whole}
+use Rattle.array_tables.proofs.number_rings.RingTable as table
 use Rattle.live_rows.specs.Life.{last_three}
 use Rattle.live_rows.proofs.Lawful.{Lawful}
 use Rattle.live_rings.specs.Decoding.{operations_from, operations_of}

@@ -9,11 +9,11 @@ use Rattle.never_heap.specs.Bounds.{IsCommandInBounds}
 use Rattle.never_heap.specs.declared.Reply.{Reply}
 use Rattle.never_heap.specs.declared.Reply.TheVariants as answers
 use Rattle.never_heap.proofs.CommandBounds.{plain_fits}
-use Rattle.operations.proofs.Pairs.{◌▸◌}
+use Rattle.array_tables.proofs.operations.Pairs.{◌▸◌}
 use Rattle.heap_system.specs.Locals.{LocalState}
 use Rattle.shared_heap.specs.Stamps.{HasDrawn}
 use Rattle.shared_heap.specs.Workers.{HasSeenIts, WorkerState}
-use Rattle.number_rings.specs.Rings.{Operation, Keep, Recall, cell_config}
+use Rattle.array_tables.specs.number_rings.Rings.{Operation, Keep, Recall, cell_config}
 use Rattle.live_rows.specs.Life.{HasBegun, HasRoomFor, HasRun, MakeObjects, last_three}
 use Rattle.live_rows.specs.Rows.{replies}
 use Rattle.live_rows.specs.Workers.{IsNext}

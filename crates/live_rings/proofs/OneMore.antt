@@ -1,6 +1,6 @@
 -- The operations of a thread, with one more.
 use Rattle.std.proofs.Common.{◌≡◌, ℕ, ◌+◌, refl, List, [], ◌∷◌, ◌++◌}
-use Rattle.number_rings.specs.Rings.{Operation, Keep, Recall, AreInCells}
+use Rattle.array_tables.specs.number_rings.Rings.{Operation, Keep, Recall, AreInCells}
 use Rattle.live_rings.specs.Live.{AreOwnFrom, CanBeNext, kept_behind, kept_by}
 
 pub own_more : (t n : ℕ) (ops : List Operation) (op : Operation) → AreOwnFrom t n ops

@@ -6,7 +6,7 @@ use Rattle.block_store.specs.declared.Config.{Config}
 use Rattle.block_store.specs.declared.Width.TheVariants.{Eight}
 use Rattle.shared_heap.specs.Workers as heaps
 use Rattle.shared_heap.specs.Workers.{CanOpen, HeapState, IsFresh, WorkerState}
-use Rattle.number_rings.specs.Rings.{ring_config}
+use Rattle.array_tables.specs.number_rings.Rings.{ring_config}
 use Rattle.live_rows.proofs.Opening.{row_of}
 use Rattle.live_rings.specs.Live.{AreRingsInRange, IsNew, IsRingHeap, rings}
 use Rattle.live_rings.specs.Decoding.{operations_of}

@@ -2,7 +2,7 @@
 use Rattle.std.specs.Prelude.{ℕ, ◌==◌, if◌then◌else◌, List, [], ◌∷◌}
 use Rattle.never_heap.specs.declared.Command.{Command}
 use Rattle.never_heap.specs.declared.Command.TheVariants as commands
-use Rattle.number_rings.specs.Rings.{Operation, Keep, Recall}
+use Rattle.array_tables.specs.number_rings.Rings.{Operation, Keep, Recall}
 
 -- The operations of commands, given the last number that was set. A put in the array, which is in
 -- register 0, is a keep, and a get of register 1 a recall.

@@ -5,7 +5,7 @@ use Rattle.never_heap.specs.declared.Command.{Command}
 use Rattle.never_heap.specs.declared.Reply.{Reply}
 use Rattle.never_heap.specs.Histories.{HistoryItem}
 use Rattle.shared_heap.specs.Workers.{CanOpen, HeapState, WorkerState}
-use Rattle.number_rings.specs.Rings.{Operation, Keep, Recall, Cell, Row, AreInCells, answer, cell_config, cells_after, command_at, decides, empty_cells, ends, number_of, ring_config, ring_place, rows_of}
+use Rattle.array_tables.specs.number_rings.Rings.{Operation, Keep, Recall, Cell, Row, AreInCells, answer, cell_config, cells_after, command_at, decides, empty_cells, ends, number_of, ring_config, ring_place, rows_of}
 use Rattle.live_rows.specs.Orders as orders
 use Rattle.live_rows.specs.Rows as rows
 use Rattle.live_rows.specs.Rows.{Rows}

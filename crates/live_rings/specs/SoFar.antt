@@ -6,7 +6,7 @@ use Rattle.never_heap.specs.declared.Command.{Command}
 use Rattle.never_heap.specs.Histories.{HistoryItem}
 use Rattle.heap_system.specs.Locals.{LocalState}
 use Rattle.shared_heap.specs.declared.rules.View.{View}
-use Rattle.number_rings.specs.Rings.{Operation}
+use Rattle.array_tables.specs.number_rings.Rings.{Operation}
 use Rattle.live_rows.specs.SoFar as so_far
 use Rattle.live_rings.specs.Live.{rings}
 

@@ -1,7 +1,7 @@
 //! The commands of each request, its range, and what its replies tell.
 
 ghost use Rattle.std.specs.Prelude.{◌≡◌, ◌+◌, ◌<◌, ◌≤◌, ◌∷◌, [], ◌^◌, ◌↔◌, IsTrue};
-ghost use Rattle.number_rings.specs.Rings.{Keep, Recall, number_of, ring_place};
+ghost use Rattle.array_tables.specs.number_rings.Rings.{Keep, Recall, number_of, ring_place};
 ghost use Rattle.live_rings.specs.Live.{IsInRange, commands_of, keeps};
 
 use crate::request::Request;

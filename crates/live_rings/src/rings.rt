@@ -3,7 +3,7 @@
 ghost use Rattle.std.specs.Prelude.{◌≡◌, ◌∷◌, [], None, IfOk, IfErr, OnOk, OnErr, IfSome};
 ghost use Rattle.shared_heap.specs.Workers as heaps;
 ghost use Rattle.shared_heap.specs.Workers.{CanOpen};
-ghost use Rattle.number_rings.specs.Rings.{ring_config};
+ghost use Rattle.array_tables.specs.number_rings.Rings.{ring_config};
 ghost use Rattle.live_rings.specs.declared.request.Request.TheVariants as asks;
 ghost use Rattle.live_rings.specs.Live.{AreInOrder, AreFresh, AreEachOnce, AreRingsInRange, CanDo, HasDone, HasDrawn, HasSeenAll, HaveOneOrder, IsInRange, IsOf, IsOpenFault, IsRefused, IsSameWorker, answer_by, commands_of, has_learned, operation_of, threads_of};
 
@@ -14,9 +14,9 @@ use crate::faults::{OpenFault, Refused};
 use crate::note::RingNote;
 use crate::request::Request;
 use crate::worker::RingWorker;
+use array_tables::number_rings::config_of_rings;
 use live_rows::{RowHeap, wrapped};
 use never_heap::{Command, Reply};
-use number_rings::config_of_rings;
 use shared_heap::Worker;
 use std::alloc::Global;
 use std::marker::Model;

@@ -3,7 +3,7 @@ use Rattle.std.proofs.Common.{◌≡◌, refl, arith, sym, ap, ◌∙◌, List, 
 use Rattle.std.specs.Prelude.{flat_map}
 use Rattle.std.proofs.lemmas.List.{append_assoc, append-nil, length-append, length-take, length-drop, map-append, take-append-drop}
 use Rattle.never_heap.specs.declared.Reply.{Reply}
-use Rattle.operations.specs.Linearizations.{answers_told, seen_next, told_next}
+use Rattle.array_tables.specs.operations.Linearizations.{answers_told, seen_next, told_next}
 use Rattle.live_rows.specs.Rows.{Rows, answers_of, commands_of}
 use Rattle.live_rows.proofs.Lawful.{Lawful}
 

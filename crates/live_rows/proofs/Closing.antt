@@ -13,7 +13,7 @@ use Rattle.never_heap.specs.Histories.{HasTraces, part, parts}
 use Rattle.never_heap.specs.Licensed.{NoFulls}
 use Rattle.never_heap.specs.Runs.{IsRun}
 use Rattle.never_heap.proofs.HistoryGrowth.{part_append}
-use Rattle.operations.specs.Linearizations.{Call, IsLinearization, traces_of}
+use Rattle.array_tables.specs.operations.Linearizations.{Call, IsLinearization, traces_of}
 use Rattle.never_heap.proofs.PartLogs.{logged, parts_count}
 use Rattle.shared_heap.specs.declared.rules.Moment.{Moment}
 use Rattle.shared_heap.specs.declared.rules.Moment.TheVariants as moments

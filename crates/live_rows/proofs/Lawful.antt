@@ -7,9 +7,9 @@ use Rattle.never_heap.specs.declared.Reply.{Reply}
 use Rattle.never_heap.specs.Histories.{HistoryItem}
 use Rattle.never_heap.specs.Licensed.{NoFulls}
 use Rattle.never_heap.specs.Runs.{IsRun}
-use Rattle.operations.specs.Applications.{ops_in}
-use Rattle.operations.specs.Linearizations.{Call, IsLinearization, answers_told, traces_of}
-use Rattle.operations.specs.SoFar.{IsRunSoFar, IsLinearizationSoFar}
+use Rattle.array_tables.specs.operations.Applications.{ops_in}
+use Rattle.array_tables.specs.operations.Linearizations.{Call, IsLinearization, answers_told, traces_of}
+use Rattle.array_tables.specs.operations.SoFar.{IsRunSoFar, IsLinearizationSoFar}
 use Rattle.live_rows.specs.Rows.{Rows, commands_of}
 
 pub record Lawful {Op Row Answer S : Type 0} (a : Rows Op Row Answer S) : Type 0 where

@@ -3,8 +3,8 @@ use Rattle.std.proofs.Common.{◌≡◌, ℕ, zero, suc, ◌-◌, ◌≤◌, Opt
 use Rattle.std.specs.Prelude.{flat_map}
 use Rattle.std.proofs.lemmas.List.{append-nil, length-map, take-append-drop}
 use Rattle.never_heap.specs.Histories.{HistoryItem, part}
-use Rattle.operations.specs.Applications.{ops_in, op_by}
-use Rattle.operations.specs.Linearizations.{Call, decided_behind}
+use Rattle.array_tables.specs.operations.Applications.{ops_in, op_by}
+use Rattle.array_tables.specs.operations.Linearizations.{Call, decided_behind}
 use Rattle.shared_heap.specs.declared.rules.Moment.{Moment}
 use Rattle.shared_heap.specs.Shared.{IsWellFormed, IsStartOf, history_of}
 use Rattle.shared_heap.proofs.RealTime.{has_invoked, line_of}

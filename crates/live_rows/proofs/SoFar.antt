@@ -21,8 +21,8 @@ use Rattle.heap_system.specs.Pictures.{entries_waiting}
 use Rattle.heap_system.specs.Systems.{Whole}
 use Rattle.heap_system.proofs.Kept.{Kept, LocalKept}
 use Rattle.heap_system.proofs.RunLaws.{kept_of}
-use Rattle.operations.specs.Linearizations.{Call, calls_of, answers_told, replies_in, traces_of}
-use Rattle.operations.specs.SoFar.{IsRunSoFar, IsLinearizationSoFar}
+use Rattle.array_tables.specs.operations.Linearizations.{Call, calls_of, answers_told, replies_in, traces_of}
+use Rattle.array_tables.specs.operations.SoFar.{IsRunSoFar, IsLinearizationSoFar}
 use Rattle.never_heap.proofs.PartLogs.{logged, parts_count}
 use Rattle.shared_heap.specs.declared.rules.Held.{Held}
 use Rattle.shared_heap.specs.declared.rules.View.{View}

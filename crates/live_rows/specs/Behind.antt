@@ -1,6 +1,6 @@
 -- The place of operations in the order of a table, by what workers had seen.
 use Rattle.std.specs.Prelude.{ℕ, ◌≡◌, ◌++◌, List, map}
-use Rattle.operations.specs.Linearizations.{Call, calls_of}
+use Rattle.array_tables.specs.operations.Linearizations.{Call, calls_of}
 
 module _ {Op Answer : Type 0} where
   -- the operations of thread t in an order

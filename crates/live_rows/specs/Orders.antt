@@ -5,7 +5,7 @@ use Rattle.rate_plan.specs.Rates.{IsRate}
 use Rattle.never_heap.specs.Histories.{HistoryItem, starts_in, work_in}
 use Rattle.never_heap.specs.Licensed.{NoFulls}
 use Rattle.never_heap.specs.Runs.{IsRun}
-use Rattle.operations.specs.Linearizations.{Call, IsLinearization, traces_of}
+use Rattle.array_tables.specs.operations.Linearizations.{Call, IsLinearization, traces_of}
 use Rattle.shared_heap.specs.declared.rules.Moment.{Moment}
 use Rattle.shared_heap.specs.declared.rules.Moment.TheVariants as moments
 use Rattle.shared_heap.specs.Shared.{IsWellFormed, IsStartOf, history_of, invoked_in, stamps_in}

@@ -1,7 +1,7 @@
 -- Real-time order of operations: what is complete comes before what begins later.
 use Rattle.std.specs.Prelude.{ℕ, ◌≤◌, ◌≡◌, ◌++◌, [], List, length, slice_index_or, take}
 use Rattle.never_heap.specs.Histories.{part}
-use Rattle.operations.specs.Linearizations.{Call}
+use Rattle.array_tables.specs.operations.Linearizations.{Call}
 use Rattle.shared_heap.specs.declared.rules.Moment.{Moment}
 use Rattle.shared_heap.specs.Shared.{IsStartOf, history_of, invoked_in}
 use Rattle.live_rows.specs.Behind.{operations_in}

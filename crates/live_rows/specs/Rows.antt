@@ -4,7 +4,7 @@ use Rattle.block_store.specs.declared.Config.{Config}
 use Rattle.never_heap.specs.declared.Command.{Command}
 use Rattle.never_heap.specs.declared.Entry.{Entry}
 use Rattle.never_heap.specs.declared.Reply.{Reply}
-use Rattle.operations.specs.Linearizations.{answers_told}
+use Rattle.array_tables.specs.operations.Linearizations.{answers_told}
 
 -- A table, its operations, and the commands that they are made of.
 pub record Rows (Op Row Answer S : Type 0) : Type 1 where

@@ -11,8 +11,8 @@ use Rattle.never_heap.specs.Licensed.{NoFulls}
 use Rattle.heap_system.specs.Locals.{LocalState}
 use Rattle.heap_system.specs.Systems.{Whole}
 use Rattle.control_heap.specs.Growth.{given}
-use Rattle.operations.specs.Linearizations.{Call, traces_of}
-use Rattle.operations.specs.SoFar.{IsRunSoFar, IsLinearizationSoFar}
+use Rattle.array_tables.specs.operations.Linearizations.{Call, traces_of}
+use Rattle.array_tables.specs.operations.SoFar.{IsRunSoFar, IsLinearizationSoFar}
 use Rattle.shared_heap.specs.declared.rules.Held.{Held}
 use Rattle.shared_heap.specs.declared.rules.View.{View}
 use Rattle.shared_heap.specs.declared.rules.Moment.{Moment}

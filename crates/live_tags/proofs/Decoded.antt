@@ -3,12 +3,12 @@ use Rattle.std.proofs.Common.{◌≡◌, ℕ, Bool, true, false, refl, arith, ap
 use Rattle.never_heap.specs.declared.Command.{Command}
 use Rattle.never_heap.specs.declared.Reply.{Reply}
 use Rattle.never_heap.specs.declared.Reply.TheVariants as answers
-use Rattle.operations.specs.Linearizations.{answers_told}
-use Rattle.tag_table.specs.declared.operation.Operation.{Operation}
-use Rattle.tag_table.specs.declared.operation.Operation.TheVariants.{Write, Clear, Read}
-use Rattle.tag_table.specs.Tables.{Row, rows_of, ends, pair_of, tag_told, AreInTable, IsOperationInRange}
-use Rattle.tag_table.proofs.TableApplication.{tables_are_kept, tables_so_far}
-use Rattle.tag_table.proofs.TagRows.{whole}
+use Rattle.array_tables.specs.operations.Linearizations.{answers_told}
+use Rattle.array_tables.specs.declared.tag_table.operation.Operation.{Operation}
+use Rattle.array_tables.specs.declared.tag_table.operation.Operation.TheVariants.{Write, Clear, Read}
+use Rattle.array_tables.specs.tag_table.Tables.{Row, rows_of, ends, pair_of, tag_told, AreInTable, IsOperationInRange}
+use Rattle.array_tables.proofs.tag_table.TableApplication.{tables_are_kept, tables_so_far}
+use Rattle.array_tables.proofs.tag_table.TagRows.{whole}
 use Rattle.live_rows.specs.Life.{last_three}
 use Rattle.live_rows.proofs.Lawful.{Lawful}
 use Rattle.live_tags.specs.Decoding.{operations_from}

@@ -6,11 +6,11 @@ use Rattle.block_store.specs.declared.Width.TheVariants.{Eight}
 use Rattle.never_heap.specs.Bounds.{IsCommandInBounds}
 use Rattle.never_heap.specs.declared.Reply.{Reply}
 use Rattle.never_heap.proofs.CommandBounds.{plain_fits}
-use Rattle.operations.proofs.Pairs.{◌▸◌}
+use Rattle.array_tables.proofs.operations.Pairs.{◌▸◌}
 use Rattle.shared_heap.specs.Workers.{HasSeenIts, WorkerState}
-use Rattle.tag_table.specs.declared.operation.Operation.{Operation}
-use Rattle.tag_table.specs.declared.operation.Operation.TheVariants.{Write, Clear, Read}
-use Rattle.tag_table.specs.Tables.{Tag, pair_of, tag_config, IsOperationInRange}
+use Rattle.array_tables.specs.declared.tag_table.operation.Operation.{Operation}
+use Rattle.array_tables.specs.declared.tag_table.operation.Operation.TheVariants.{Write, Clear, Read}
+use Rattle.array_tables.specs.tag_table.Tables.{Tag, pair_of, tag_config, IsOperationInRange}
 use Rattle.live_rows.specs.Life.{HasBegun, HasRun, MakeObjects}
 use Rattle.live_rows.specs.Rows.{replies}
 use Rattle.live_rows.proofs.Doing.{replies_long, still, was_done}

@@ -1,8 +1,8 @@
 -- The place of operations in the order of a table, by what workers had seen.
 use Rattle.std.specs.Prelude.{ℕ, List}
-use Rattle.operations.specs.Linearizations.{Call}
-use Rattle.tag_table.specs.declared.operation.Operation.{Operation}
-use Rattle.tag_table.specs.Tables.{Tag}
+use Rattle.array_tables.specs.operations.Linearizations.{Call}
+use Rattle.array_tables.specs.declared.tag_table.operation.Operation.{Operation}
+use Rattle.array_tables.specs.tag_table.Tables.{Tag}
 use Rattle.live_rows.specs.Behind as behind
 
 -- A prefix of the order has at least these operations of thread u, and exactly those of thread t.

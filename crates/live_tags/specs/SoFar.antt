@@ -6,7 +6,7 @@ use Rattle.never_heap.specs.declared.Command.{Command}
 use Rattle.never_heap.specs.Histories.{HistoryItem}
 use Rattle.heap_system.specs.Locals.{LocalState}
 use Rattle.shared_heap.specs.declared.rules.View.{View}
-use Rattle.tag_table.specs.declared.operation.Operation.{Operation}
+use Rattle.array_tables.specs.declared.tag_table.operation.Operation.{Operation}
 use Rattle.live_rows.specs.SoFar as so_far
 use Rattle.live_tags.specs.Live.{tags}
 

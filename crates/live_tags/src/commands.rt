@@ -1,12 +1,12 @@
 //! The commands of each operation, its range, and its answer.
 
 ghost use Rattle.std.specs.Prelude.{◌≡◌, ◌≤◌, ◌∷◌, [], ◌↔◌, IsTrue};
-ghost use Rattle.tag_table.specs.Tables.{IsOperationInRange, pair_of};
+ghost use Rattle.array_tables.specs.tag_table.Tables.{IsOperationInRange, pair_of};
 ghost use Rattle.live_tags.specs.Live.{commands_of, objects_by};
 
+use array_tables::tag_table::Operation;
 use block_store::Value;
 use never_heap::{Command, Reply};
-use tag_table::Operation;
 
 // The commands of a write.
 pub(crate) fn write_commands(place: u32, value: u64, quality: u64) -> [Command; 8]

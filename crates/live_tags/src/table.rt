@@ -8,6 +8,7 @@ ghost use Rattle.live_tags.specs.Live.{AreInOrder, AreFresh, AreEachOnce, CanDo,
 use crate::commands::{clear_commands, in_range, objects_in, pair, read_commands, write_commands};
 use crate::note::TagNote;
 use crate::worker::TagWorker;
+use array_tables::tag_table::Operation;
 use array_trees::blocks_of_array;
 use block_store::{Config, Width};
 use live_rows::{RowHeap, wrapped};
@@ -16,7 +17,6 @@ use shared_heap::Worker;
 use std::alloc::Global;
 use std::marker::Model;
 use std::sync::Wait;
-use tag_table::Operation;
 
 /// Why a table is not opened. Its printed text also says what to do.
 #[derive(Clone, Copy, Debug, PartialEq, Eq)]

@@ -3,10 +3,10 @@ use Rattle.std.proofs.Common.{ℕ, zero, suc, inl, inr, List, [], ◌∷◌, map
 use Rattle.std.specs.Prelude.{slice_set}
 use Rattle.std.specs.List.{AllByRecursion}
 use Rattle.std.proofs.lemmas.Bool.{and_parts, cases_eq}
-use Rattle.operations.specs.Linearizations.{Call, calls_of, AreAnswered}
-use Rattle.tag_table.specs.Tables.{Tag, answer, table_after, empty_table, place_of, IsOperationInRange}
-use Rattle.tag_table.specs.declared.operation.Operation.{Operation}
-use Rattle.tag_table.specs.declared.operation.Operation.TheVariants.{Write, Clear, Read}
+use Rattle.array_tables.specs.operations.Linearizations.{Call, calls_of, AreAnswered}
+use Rattle.array_tables.specs.tag_table.Tables.{Tag, answer, table_after, empty_table, place_of, IsOperationInRange}
+use Rattle.array_tables.specs.declared.tag_table.operation.Operation.{Operation}
+use Rattle.array_tables.specs.declared.tag_table.operation.Operation.TheVariants.{Write, Clear, Read}
 use Rattle.plantrun_core.specs.declared.calls.Done.{Done}
 use Rattle.plantrun_core.specs.Logs.{call_by}
 use Rattle.plantrun_core.specs.Orders.{HasOrder}

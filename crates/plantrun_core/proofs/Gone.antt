@@ -4,10 +4,10 @@ use Rattle.std.specs.Prelude.{IsSome, IsNone}
 use Rattle.std.proofs.lemmas.Bool.{cases_eq}
 use Rattle.std.specs.List.{AllByRecursion}
 use Rattle.std.specs.Vec.{vec_capacity}
-use Rattle.operations.specs.Linearizations.{Call, calls_of}
+use Rattle.array_tables.specs.operations.Linearizations.{Call, calls_of}
 use Rattle.shared_heap.specs.Workers.{HeapState}
-use Rattle.tag_table.specs.Tables.{Tag, empty_table, IsOperationInRange}
-use Rattle.tag_table.specs.declared.operation.Operation.{Operation}
+use Rattle.array_tables.specs.tag_table.Tables.{Tag, empty_table, IsOperationInRange}
+use Rattle.array_tables.specs.declared.tag_table.operation.Operation.{Operation}
 use Rattle.live_tags.specs.Live.{HasScript, HasLife, IsRefused, IsSameWorker, TagWorkerState, places_of, thread_of}
 use Rattle.live_tags.specs.declared.table.Refused.{Refused}
 use Rattle.live_tags.specs.declared.table.Refused.TheVariants.{OutOfRange, NoLifeLeft}

@@ -1,8 +1,8 @@
 -- Each thread changes its own places, and reads these and those of the input.
 use Rattle.std.proofs.Common.{◌≡◌, ℕ, zero, suc, ◌+◌, ◌%◌, ◌<◌, ◌==◌, Bool, true, false, inl, inr, cond, nat_lt, ◌/◌, lt-ltb, le-ltb, List, [], ◌∷◌, ◌++◌, map, Option, Some, None, sym, refl, ap, ◌∙◌, subst, arith}
 use Rattle.std.specs.List.{AllByRecursion}
-use Rattle.tag_table.specs.Tables.{Tag}
-use Rattle.tag_table.specs.declared.operation.Operation.TheVariants.{Write, Read}
+use Rattle.array_tables.specs.tag_table.Tables.{Tag}
+use Rattle.array_tables.specs.declared.tag_table.operation.Operation.TheVariants.{Write, Read}
 use Rattle.plantrun_core.specs.declared.alarms.Move.{Move}
 use Rattle.plantrun_core.specs.declared.alarms.Move.TheVariants as moves
 use Rattle.plantrun_core.specs.declared.alarms.Limits.{Limits}

@@ -8,8 +8,8 @@ use Rattle.trace_text.specs.declared.Failed.{Failed}
 use Rattle.short_lines.specs.declared.Next.{Next}
 use Rattle.short_lines.specs.declared.Next.TheVariants.{Long}
 use Rattle.short_lines.specs.Found.{IsCut, IsFound, IsLong}
-use Rattle.tag_table.specs.declared.operation.Operation.{Operation}
-use Rattle.tag_table.specs.declared.operation.Operation.TheVariants.{Write}
+use Rattle.array_tables.specs.declared.tag_table.operation.Operation.{Operation}
+use Rattle.array_tables.specs.declared.tag_table.operation.Operation.TheVariants.{Write}
 use Rattle.plantrun_core.specs.declared.calls.Done.{Done}
 use Rattle.plantrun_core.specs.declared.hand.Hand.{Hand}
 use Rattle.plantrun_core.specs.declared.readings.Reading.{Reading}

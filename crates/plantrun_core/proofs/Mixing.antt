@@ -5,10 +5,10 @@ use Rattle.std.specs.Prelude.{slice_set, Some, None}
 use Rattle.std.specs.List.{AllByRecursion}
 use Rattle.std.specs.Option.{option_eq}
 use Rattle.std.proofs.lemmas.Bool.{and_parts, cases_eq, not-false}
-use Rattle.operations.specs.Linearizations.{Call, calls_of, after_calls, AreAnswered}
-use Rattle.tag_table.specs.Tables.{Tag, answer, table_after, empty_table, place_of}
-use Rattle.tag_table.specs.declared.operation.Operation.{Operation}
-use Rattle.tag_table.specs.declared.operation.Operation.TheVariants.{Write, Clear, Read}
+use Rattle.array_tables.specs.operations.Linearizations.{Call, calls_of, after_calls, AreAnswered}
+use Rattle.array_tables.specs.tag_table.Tables.{Tag, answer, table_after, empty_table, place_of}
+use Rattle.array_tables.specs.declared.tag_table.operation.Operation.{Operation}
+use Rattle.array_tables.specs.declared.tag_table.operation.Operation.TheVariants.{Write, Clear, Read}
 use Rattle.plantrun_core.specs.declared.calls.Done.{Done}
 use Rattle.plantrun_core.specs.declared.calls.Logs.{Logs}
 use Rattle.plantrun_core.specs.declared.calls.Step.{Step}

@@ -1,12 +1,12 @@
 -- The operations of a worker of a table with 48 places are in range.
 use Rattle.std.proofs.Common.{◌≡◌, ℕ, ◌^◌, ◌&&◌, true, nat_lt, lt-ltb, List, [], ◌∷◌, ◌++◌, map, ◌∙◌, sym, ap, subst}
 use Rattle.std.proofs.lemmas.Bool.{and_parts, ltb-true}
-use Rattle.tag_table.specs.declared.operation.Operation.{Operation}
-use Rattle.tag_table.specs.declared.operation.Operation.TheVariants.{Write, Clear, Read}
+use Rattle.array_tables.specs.declared.tag_table.operation.Operation.{Operation}
+use Rattle.array_tables.specs.declared.tag_table.operation.Operation.TheVariants.{Write, Clear, Read}
 use Rattle.shared_heap.specs.Workers.{HeapState}
 use Rattle.block_store.specs.declared.Config.{Config}
 use Rattle.std.proofs.lemmas.List.{map-append}
-use Rattle.tag_table.specs.Tables.{IsOperationInRange, Tag}
+use Rattle.array_tables.specs.tag_table.Tables.{IsOperationInRange, Tag}
 use Rattle.live_tags.specs.Live.{CanDo, HasDone, IsOf, IsSameWorker, TagWorkerState, opened_config, places_of}
 use Rattle.plantrun_core.specs.declared.calls.Done.{Done}
 use Rattle.plantrun_core.specs.Logs.{IsLog, answer_of, operation_of}

@@ -6,9 +6,9 @@ use Rattle.std.specs.Result.{is_err}
 use Rattle.std.specs.Vec.{vec_capacity}
 use Rattle.live_tags.specs.Live.{IsSameWorker}
 use Rattle.live_tags.proofs.Crews.{same_first, same_then}
-use Rattle.tag_table.specs.Tables.{Tag}
-use Rattle.tag_table.specs.declared.operation.Operation.{Operation}
-use Rattle.tag_table.specs.declared.operation.Operation.TheVariants.{Read}
+use Rattle.array_tables.specs.tag_table.Tables.{Tag}
+use Rattle.array_tables.specs.declared.tag_table.operation.Operation.{Operation}
+use Rattle.array_tables.specs.declared.tag_table.operation.Operation.TheVariants.{Read}
 use Rattle.plantrun_core.specs.declared.alarms.Limits.{Limits}
 use Rattle.plantrun_core.specs.declared.calls.Done.{Done}
 use Rattle.plantrun_core.specs.declared.roles.Role.{Role}

@@ -1,8 +1,8 @@
 -- When an alarm is raised, acknowledged and cleared, and what is done in the list then.
 use Rattle.std.specs.Prelude.{ℕ, ◌+◌, nat_le, nat_lt, ◌==◌, Bool, false, ◌&&◌, ◌||◌, if◌then◌else◌, Option, Some, None}
-use Rattle.tag_table.specs.Tables.{Tag}
-use Rattle.tag_table.specs.declared.operation.Operation.{Operation}
-use Rattle.tag_table.specs.declared.operation.Operation.TheVariants.{Write, Clear}
+use Rattle.array_tables.specs.tag_table.Tables.{Tag}
+use Rattle.array_tables.specs.declared.tag_table.operation.Operation.{Operation}
+use Rattle.array_tables.specs.declared.tag_table.operation.Operation.TheVariants.{Write, Clear}
 use Rattle.plantrun_core.specs.declared.alarms.Limits.{Limits}
 use Rattle.plantrun_core.specs.declared.alarms.Move.{Move}
 use Rattle.plantrun_core.specs.declared.alarms.Move.TheVariants as moves

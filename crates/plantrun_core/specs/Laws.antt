@@ -1,6 +1,6 @@
 -- The control law, in whole numbers. A difference below 0 is 0.
 use Rattle.std.specs.Prelude.{ℕ, ◌+◌, ◌*◌, ◌-◌, ◌/◌, ◌%◌, ◌==◌, nat_lt, ◌&&◌, ◌||◌, min, if◌then◌else◌, Option, Some, None}
-use Rattle.tag_table.specs.Tables.{Tag}
+use Rattle.array_tables.specs.tag_table.Tables.{Tag}
 use Rattle.plantrun_core.specs.declared.law.Loop.{Loop}
 
 -- the value of a tag that is there and good, at most 1,000,000; the word of a good one is odd

@@ -1,8 +1,8 @@
 -- What the threads of a plant did, and an order of it.
 use Rattle.std.specs.Prelude.{ℕ, ◌≡◌, List, map}
-use Rattle.operations.specs.Linearizations.{Call, calls_of, AreAnswered}
-use Rattle.tag_table.specs.declared.operation.Operation.{Operation}
-use Rattle.tag_table.specs.Tables.{Tag, answer, table_after, empty_table}
+use Rattle.array_tables.specs.operations.Linearizations.{Call, calls_of, AreAnswered}
+use Rattle.array_tables.specs.declared.tag_table.operation.Operation.{Operation}
+use Rattle.array_tables.specs.tag_table.Tables.{Tag, answer, table_after, empty_table}
 use Rattle.live_tags.specs.Live.{TagWorkerState}
 use Rattle.plantrun_core.specs.declared.calls.Done.{Done}
 use Rattle.plantrun_core.specs.declared.calls.Logs.{Logs}

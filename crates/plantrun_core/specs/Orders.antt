@@ -1,10 +1,10 @@
 -- What is put in order of the logs of four threads, and that what is left has an order.
 use Rattle.std.specs.Prelude.{ℕ, zero, suc, ◌≡◌, ◌≢◌, ◌⊎◌, nat_lt, if◌then◌else◌, List, [], ◌∷◌, ◌++◌, map}
 use Rattle.std.specs.List.{AllByRecursion}
-use Rattle.operations.specs.Linearizations.{Call, calls_of, after_calls, AreAnswered}
-use Rattle.tag_table.specs.Tables.{Tag, answer, table_after, empty_table}
-use Rattle.tag_table.specs.declared.operation.Operation.{Operation}
-use Rattle.tag_table.specs.declared.operation.Operation.TheVariants.{Write, Clear, Read}
+use Rattle.array_tables.specs.operations.Linearizations.{Call, calls_of, after_calls, AreAnswered}
+use Rattle.array_tables.specs.tag_table.Tables.{Tag, answer, table_after, empty_table}
+use Rattle.array_tables.specs.declared.tag_table.operation.Operation.{Operation}
+use Rattle.array_tables.specs.declared.tag_table.operation.Operation.TheVariants.{Write, Clear, Read}
 use Rattle.plantrun_core.specs.declared.calls.Done.{Done}
 use Rattle.plantrun_core.specs.declared.calls.Logs.{Logs}
 use Rattle.plantrun_core.specs.declared.calls.Step.{Step}

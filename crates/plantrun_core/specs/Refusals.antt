@@ -1,9 +1,9 @@
 -- That a worker was refused an operation, and what is in range.
 use Rattle.std.specs.Prelude.{◌<◌, ◌^◌, ◌≡◌, ◌&&◌, nat_lt, Bool, true, List, [], ◌∷◌, Some, None}
 use Rattle.std.specs.List.{AllByRecursion}
-use Rattle.tag_table.specs.Tables.{Tag, IsOperationInRange}
-use Rattle.tag_table.specs.declared.operation.Operation.{Operation}
-use Rattle.tag_table.specs.declared.operation.Operation.TheVariants.{Write, Clear, Read}
+use Rattle.array_tables.specs.tag_table.Tables.{Tag, IsOperationInRange}
+use Rattle.array_tables.specs.declared.tag_table.operation.Operation.{Operation}
+use Rattle.array_tables.specs.declared.tag_table.operation.Operation.TheVariants.{Write, Clear, Read}
 use Rattle.live_tags.specs.Live.{TagWorkerState, IsRefused}
 use Rattle.live_tags.specs.declared.table.Refused.{Refused}
 use Rattle.plantrun_core.specs.declared.calls.Done.{Done}

@@ -1,8 +1,8 @@
 -- What each thread does at a time, by its log.
 use Rattle.std.specs.Prelude.{ℕ, zero, suc, ◌+◌, ◌*◌, ◌/◌, ◌%◌, ◌≡◌, ◌==◌, ◌≤◌, ◌++◌, min, ◌^◌, ◌-◌, List, [], ◌∷◌, Option, Some, None, Bool, true, false, if◌then◌else◌}
-use Rattle.tag_table.specs.declared.operation.Operation.{Operation}
-use Rattle.tag_table.specs.declared.operation.Operation.TheVariants.{Write, Read}
-use Rattle.tag_table.specs.Tables.{Tag}
+use Rattle.array_tables.specs.declared.tag_table.operation.Operation.{Operation}
+use Rattle.array_tables.specs.declared.tag_table.operation.Operation.TheVariants.{Write, Read}
+use Rattle.array_tables.specs.tag_table.Tables.{Tag}
 use Rattle.plantrun_core.specs.declared.calls.Done.{Done}
 use Rattle.plantrun_core.specs.declared.alarms.Limits.{Limits}
 use Rattle.plantrun_core.specs.declared.law.Loop.{Loop}

@@ -3,9 +3,9 @@ use Rattle.std.specs.List.{flat_map}
 use Rattle.std.specs.Prelude.{ℕ, ◌≡◌, ◌==◌, if◌then◌else◌, ◌⊎◌, Option, List, [], ◌∷◌, ◌++◌, codes, decimal, Some, None}
 use Rattle.trace_text.specs.Lines.{ended}
 use Rattle.trace_text.specs.Streams.{Appends, AppendsPrefix}
-use Rattle.tag_table.specs.Tables.{Tag}
-use Rattle.tag_table.specs.declared.operation.Operation.{Operation}
-use Rattle.tag_table.specs.declared.operation.Operation.TheVariants.{Write, Clear, Read}
+use Rattle.array_tables.specs.tag_table.Tables.{Tag}
+use Rattle.array_tables.specs.declared.tag_table.operation.Operation.{Operation}
+use Rattle.array_tables.specs.declared.tag_table.operation.Operation.TheVariants.{Write, Clear, Read}
 use Rattle.plantrun_core.specs.declared.calls.Step.{Step}
 use Rattle.plantrun_core.specs.declared.telling.Figures.{Figures}
 use Rattle.plantrun_core.specs.declared.telling.Cycles.{Cycles}

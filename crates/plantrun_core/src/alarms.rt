@@ -6,7 +6,7 @@ ghost use Rattle.plantrun_core.specs.Roles as roles;
 
 use crate::law::value_of;
 use crate::places::{ALARMS, LISTED};
-use tag_table::Operation;
+use array_tables::tag_table::Operation;
 
 /// A good value below `low` or above `high` raises an alarm, which is cleared once a good value is
 /// at least `dead` inside both.

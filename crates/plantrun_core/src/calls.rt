@@ -1,6 +1,6 @@
 //! What threads did, and what they were answered.
 
-use tag_table::Operation;
+use array_tables::tag_table::Operation;
 
 /// An operation that a thread did, with its answer: what the tag was before.
 #[derive(Clone, Copy, PartialEq, Eq)]

@@ -2,7 +2,7 @@
 
 ghost use Rattle.std.specs.Prelude.{◌≡◌, ◌<◌, ◌∷◌, ◌++◌, [], length, IfErr, IfOk, OnErr, OnOk};
 ghost use Rattle.std.specs.Vec.{vec_capacity};
-ghost use Rattle.tag_table.specs.Tables.{IsOperationInRange};
+ghost use Rattle.array_tables.specs.tag_table.Tables.{IsOperationInRange};
 ghost use Rattle.live_tags.specs.Live.{CanDo, HasDone, IsOf, IsRefused, IsSameWorker, places_of};
 ghost use Rattle.plantrun_core.specs.Logs.{IsLog};
 ghost use Rattle.plantrun_core.specs.Refusals.{AreFitting, AreInRange, IsRefusedAfter};
@@ -10,10 +10,10 @@ ghost use Rattle.plantrun_core.specs.Refusals.{AreFitting, AreInRange, IsRefused
 use crate::calls::Done;
 use crate::clock::nanoseconds;
 use crate::telling::Figures;
+use array_tables::tag_table::Operation;
 use live_tags::{LiveTags, Refused, TagWorker};
 use std::sync::Wait;
 use std::time::Clock;
-use tag_table::Operation;
 
 /// A worker, all that it did with the answers, and its figures.
 #[derive(Drop)]

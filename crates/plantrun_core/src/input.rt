@@ -14,11 +14,11 @@ use crate::hand::{Hand, Spent};
 use crate::places::INPUTS;
 use crate::readings::{Reading, next_reading};
 use crate::stops::Stop;
+use array_tables::tag_table::Operation;
 use live_tags::LiveTags;
 use std::sync::Wait;
 use std::sync::atomic::{AtomicU64, Ordering};
 use std::time::Clock;
-use tag_table::Operation;
 use trace_text::Source;
 
 /// Writes a reading, that of the line of this number from 1, into its tag. The word of the tag tells

@@ -1,17 +1,17 @@
 //! An order of all that the threads did, in which each was answered as by a plain table.
 
 ghost use Rattle.std.specs.Prelude.{ℕ, List, ◌≡◌, ◌≢◌, ◌∷◌, ◌++◌, [], IfOk, OnOk, slice_set};
-ghost use Rattle.tag_table.specs.Tables as tables;
-ghost use Rattle.tag_table.specs.Tables.{table_after, answer, empty_table};
+ghost use Rattle.array_tables.specs.tag_table.Tables as tables;
+ghost use Rattle.array_tables.specs.tag_table.Tables.{table_after, answer, empty_table};
 ghost use Rattle.plantrun_core.specs.declared.calls.Done.{Done};
 ghost use Rattle.plantrun_core.specs.Logs.{IsOrder};
 ghost use Rattle.plantrun_core.specs.Orders.{AreAtHome, HasOrder, IsMerged, IsStuck, by_thread, logs_of};
 
 use crate::calls::{Done, Logs, Step};
 use crate::places::PLACES;
+use array_tables::tag_table::Operation;
 use block_store::OutOfMemory;
 use std::alloc::Global;
-use tag_table::Operation;
 
 /// What is in order so far, and the table after it.
 #[derive(Drop)]

@@ -12,10 +12,10 @@ use crate::alarms::{Limits, act_of, limits_of, move_of};
 use crate::hand::{Hand, Spent};
 use crate::law::{Loop, value_of};
 use crate::places::{ACKNOWLEDGED, ALARMS, FIRST_KEPT, LISTED, OUTPUT, RING, SET_POINT};
+use array_tables::tag_table::Operation;
 use live_tags::LiveTags;
 use std::sync::Wait;
 use std::time::Clock;
-use tag_table::Operation;
 
 /// How many ticks lie between two scans of the alarms, and between two readings of the history.
 const SCAN: u64 = 5;

@@ -6,7 +6,7 @@ ghost use Rattle.trace_text.specs.Streams.{Appends, AppendsPrefix};
 ghost use Rattle.plantrun_core.specs.Texts.{step_line, tag_text, operation_text, thread_text, figures_line, cycles_line};
 
 use crate::calls::Step;
-use tag_table::Operation;
+use array_tables::tag_table::Operation;
 use trace_text::{Failed, LineBuffer, Sink};
 
 /// The figures of a thread.

@@ -1,7 +1,7 @@
 //! The top call: it alone starts threads and waits.
 
 ghost use Rattle.std.specs.Prelude.{ℕ, ◌≡◌, ◌≢◌, ◌≤◌, None, IfErr, IfOk, IfSome, IsNone, OnOk, OnErr, map, string_bytes};
-ghost use Rattle.tag_table.specs.Tables.{empty_table};
+ghost use Rattle.array_tables.specs.tag_table.Tables.{empty_table};
 ghost use Rattle.trace_text.specs.Streams.{Appends, AppendsPrefix};
 ghost use Rattle.plantrun_core.specs.declared.stops.Stop.TheVariants.{NoMemory};
 ghost use Rattle.plantrun_core.specs.Crews.{HasPlant, HaveWorked, IsStop};

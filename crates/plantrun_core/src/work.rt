@@ -12,11 +12,11 @@ use crate::clock::{Ticks, nanoseconds};
 use crate::hand::Hand;
 use crate::places::{FIRST_KEPT, RING};
 use crate::roles::Role;
+use array_tables::tag_table::Operation;
 use live_tags::LiveTags;
 use std::sync::Wait;
 use std::sync::atomic::{AtomicU64, Ordering};
 use std::time::Clock;
-use tag_table::Operation;
 
 /// A thread at work.
 #[derive(Drop)]

@@ -5,9 +5,9 @@ use Rattle.std.specs.List.{AllByRecursion}
 use Rattle.array_scripts.specs.declared.header.Header.{Header}
 use Rattle.array_scripts.specs.Kinds.{Tokens, FitBehind}
 use Rattle.array_scripts.proofs.ScriptSizes.{few_ops, each_thread, fit_at}
-use Rattle.handle_table.specs.declared.operation.Operation.{Operation}
-use Rattle.handle_table.specs.declared.operation.Operation.TheVariants.{Make, See, Drop, Take, Evict}
-use Rattle.handle_table.specs.Handles.{AreInTurn, AreNamed, CanStand, handle_of, IsScriptInRange}
+use Rattle.array_tables.specs.declared.handle_table.operation.Operation.{Operation}
+use Rattle.array_tables.specs.declared.handle_table.operation.Operation.TheVariants.{Make, See, Drop, Take, Evict}
+use Rattle.array_tables.specs.handle_table.Handles.{AreInTurn, AreNamed, CanStand, handle_of, IsScriptInRange}
 use Rattle.rt_handles.specs.Lines.{handle_kind, IsHandleScript}
 
 pub each_stands : (h : Header) (before ops : List Operation) → FitBehind handle_kind h before ops

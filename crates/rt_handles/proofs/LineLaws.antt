@@ -8,9 +8,9 @@ use Rattle.array_scripts.proofs.TokenLaws.{chosen, below_sound, below_again, two
 use Rattle.array_scripts.proofs.LineLaws.{kind_reads}
 use Rattle.array_scripts.specs.scripts.Scripts.{Reads}
 use Rattle.array_scripts.proofs.scripts.ScriptOrBadLine.{some_is}
-use Rattle.handle_table.specs.declared.operation.Operation.{Operation}
-use Rattle.handle_table.specs.declared.operation.Operation.TheVariants.{Make, See, Drop, Take, Evict}
-use Rattle.handle_table.specs.Handles.{slot_of, CanStand}
+use Rattle.array_tables.specs.declared.handle_table.operation.Operation.{Operation}
+use Rattle.array_tables.specs.declared.handle_table.operation.Operation.TheVariants.{Make, See, Drop, Take, Evict}
+use Rattle.array_tables.specs.handle_table.Handles.{slot_of, CanStand}
 use Rattle.trace_text.specs.Reading.{◌>>=◌, no_more_of, one_token_of, two_tokens_of, three_tokens_of}
 use Rattle.trace_text.proofs.Binds.{bind_then}
 use Rattle.rt_handles.specs.Lines.{op_line, make_at, is_at, handle_at, see_at, drop_at, take_at, evict_at, op_at, handle_kind}

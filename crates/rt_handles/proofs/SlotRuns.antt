@@ -5,13 +5,13 @@ use Rattle.exit_statuses.specs.Exits.{IsWritten}
 use Rattle.exit_statuses.specs.Sides.{Sides}
 use Rattle.never_heap.specs.declared.Command.{Command}
 use Rattle.never_heap.specs.Jobs.{IsJobInBounds}
-use Rattle.operations.specs.Linearizations.{traces_of}
-use Rattle.handle_table.specs.declared.operation.Operation.{Operation}
-use Rattle.handle_table.specs.declared.told.Outcome.{Outcome}
-use Rattle.handle_table.specs.Handles.{rows_of, command_at, all_deeds}
-use Rattle.handle_table.proofs.Jobs.{jobs_fit}
-use Rattle.handle_table.proofs.MakeBeforeUse.{fates_are_told, makes_are_shown}
-use Rattle.handle_table.proofs.SlotApplication.{slots_are_kept}
+use Rattle.array_tables.specs.operations.Linearizations.{traces_of}
+use Rattle.array_tables.specs.declared.handle_table.operation.Operation.{Operation}
+use Rattle.array_tables.specs.declared.handle_table.told.Outcome.{Outcome}
+use Rattle.array_tables.specs.handle_table.Handles.{rows_of, command_at, all_deeds}
+use Rattle.array_tables.proofs.handle_table.Jobs.{jobs_fit}
+use Rattle.array_tables.proofs.handle_table.MakeBeforeUse.{fates_are_told, makes_are_shown}
+use Rattle.array_tables.proofs.handle_table.SlotApplication.{slots_are_kept}
 use Rattle.threaded_runs.specs.EndedRuns.{job_of}
 use Rattle.threaded_runs.proofs.OfJob.{run_of, parts_of}
 use Rattle.trace_text.specs.Reading.{tokenized}

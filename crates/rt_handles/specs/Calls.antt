@@ -8,10 +8,10 @@ use Rattle.atom_board.specs.Mutators.{ClosedState}
 use Rattle.exit_statuses.specs.Exits.{IsWritten}
 use Rattle.exit_statuses.specs.Sides.{Sides}
 use Rattle.never_heap.specs.Licensed.{NoFulls}
-use Rattle.operations.specs.Linearizations.{Call, IsLinearization}
-use Rattle.handle_table.specs.declared.operation.Operation.{Operation}
-use Rattle.handle_table.specs.Fates.{ShowMakes, TellFates}
-use Rattle.handle_table.specs.Handles.{Deed, Answer, all_deeds, answer, slots_after, empty_slots, rows_of, decides, ends}
+use Rattle.array_tables.specs.operations.Linearizations.{Call, IsLinearization}
+use Rattle.array_tables.specs.declared.handle_table.operation.Operation.{Operation}
+use Rattle.array_tables.specs.handle_table.Fates.{ShowMakes, TellFates}
+use Rattle.array_tables.specs.handle_table.Handles.{Deed, Answer, all_deeds, answer, slots_after, empty_slots, rows_of, decides, ends}
 use Rattle.threaded_runs.specs.EndedRuns.{HasHistory, job_of}
 use Rattle.rt_handles.specs.declared.exit.HandleExit.{HandleExit}
 use Rattle.rt_handles.specs.Lines.{handle_kind}

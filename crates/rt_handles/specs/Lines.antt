@@ -3,9 +3,9 @@ use Rattle.std.specs.Prelude.{ℕ, ◌^◌, ◌==◌, Bool, false, Option, Some,
 use Rattle.std.specs.Str.{bytes_eq}
 use Rattle.array_scripts.specs.declared.header.Header.{Header}
 use Rattle.array_scripts.specs.Kinds.{Tokens, Kind, below, IsScriptIn}
-use Rattle.handle_table.specs.declared.operation.Operation.{Operation}
-use Rattle.handle_table.specs.declared.operation.Operation.TheVariants.{Make, See, Drop, Take, Evict}
-use Rattle.handle_table.specs.Handles.{slot_of, CanStand, handle_config}
+use Rattle.array_tables.specs.declared.handle_table.operation.Operation.{Operation}
+use Rattle.array_tables.specs.declared.handle_table.operation.Operation.TheVariants.{Make, See, Drop, Take, Evict}
+use Rattle.array_tables.specs.handle_table.Handles.{slot_of, CanStand, handle_config}
 use Rattle.trace_text.specs.Reading.{◌>>=◌, one_token_of, two_tokens_of, three_tokens_of}
 
 abbrev pub op_line : Operation → Tokens

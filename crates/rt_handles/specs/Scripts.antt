@@ -1,10 +1,10 @@
 -- The commands of a script of handles, and the job that it asks for.
 use Rattle.std.specs.Prelude.{ℕ, List, map, flat_map}
 use Rattle.array_scripts.specs.declared.header.Header.{Header}
-use Rattle.handle_table.specs.declared.operation.Operation.{Operation}
-use Rattle.handle_table.specs.Handles.{rows_of, command_at, deeds_of, all_deeds}
+use Rattle.array_tables.specs.declared.handle_table.operation.Operation.{Operation}
+use Rattle.array_tables.specs.handle_table.Handles.{rows_of, command_at, deeds_of, all_deeds}
 use Rattle.never_heap.specs.declared.Command.{Command}
-use Rattle.operations.specs.Linearizations.{traces_of}
+use Rattle.array_tables.specs.operations.Linearizations.{traces_of}
 use Rattle.trace_text.specs.Jobs.{Job}
 use Rattle.rt_handles.specs.Lines.{handle_kind}
 

@@ -1,8 +1,8 @@
 -- What a reader keeps of a thread's operations.
 use Rattle.std.specs.Prelude.{ℕ, ◌≡◌, ◌<◌, Option, Some, None, List, slice_index_or}
-use Rattle.handle_table.specs.declared.operation.Operation.{Operation}
-use Rattle.handle_table.specs.declared.operation.Operation.TheVariants.{Make}
-use Rattle.handle_table.specs.Handles.{slot_of}
+use Rattle.array_tables.specs.declared.handle_table.operation.Operation.{Operation}
+use Rattle.array_tables.specs.declared.handle_table.operation.Operation.TheVariants.{Make}
+use Rattle.array_tables.specs.handle_table.Handles.{slot_of}
 
 -- for each of the eight handles the slot of its last make
 abbrev pub AreSlotsOf : List (Option ℕ) → List Operation → Type 0

@@ -1,12 +1,12 @@
 -- The lines in which operations on handles are answered.
 use Rattle.std.specs.Prelude.{ℕ, List, ◌++◌, codes, decimal}
 use Rattle.array_scripts.specs.Answers.{answers_from}
-use Rattle.handle_table.specs.declared.operation.Operation.{Operation}
-use Rattle.handle_table.specs.declared.told.Outcome.{Outcome}
-use Rattle.handle_table.specs.declared.told.Outcome.TheVariants.{Made, Taken, Live, Stale, Dropped, Empty, Shown}
-use Rattle.handle_table.specs.Handles.{Deed, Answer, outcome_of, outcomes_told}
+use Rattle.array_tables.specs.declared.handle_table.operation.Operation.{Operation}
+use Rattle.array_tables.specs.declared.handle_table.told.Outcome.{Outcome}
+use Rattle.array_tables.specs.declared.handle_table.told.Outcome.TheVariants.{Made, Taken, Live, Stale, Dropped, Empty, Shown}
+use Rattle.array_tables.specs.handle_table.Handles.{Deed, Answer, outcome_of, outcomes_told}
 use Rattle.never_heap.specs.declared.Reply.{Reply}
-use Rattle.operations.specs.Linearizations.{Call}
+use Rattle.array_tables.specs.operations.Linearizations.{Call}
 
 -- the handle of make k of thread t
 abbrev pub handle_text : ℕ → ℕ → List ℕ

@@ -1,11 +1,11 @@
 //! The operations of a thread that were read so far.
 
 ghost use Rattle.std.specs.Prelude.{◌≡◌, ◌<◌, ◌++◌, ◌∷◌, [], length, OnOk};
-ghost use Rattle.handle_table.specs.Handles.{slot_of};
+ghost use Rattle.array_tables.specs.handle_table.Handles.{slot_of};
 ghost use Rattle.rt_handles.specs.Lines as lines;
 ghost use Rattle.rt_handles.specs.Slots.{make_in};
 
-use handle_table::Operation;
+use array_tables::handle_table::Operation;
 use std::alloc::{AllocFailed, Global};
 use std::marker::Model;
 
@@ -21,7 +21,7 @@ pub struct Before {
 
 impl Model for Before {
     ghost use Rattle.std.specs.Prelude.{List};
-    ghost use Rattle.handle_table.specs.declared.operation.Operation.{Operation};
+    ghost use Rattle.array_tables.specs.declared.handle_table.operation.Operation.{Operation};
     ghost use Rattle.rt_handles.specs.Slots.{AreSlotsOf};
 
     ghost Value = { List Operation };

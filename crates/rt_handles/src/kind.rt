@@ -6,8 +6,8 @@ ghost use Rattle.rt_handles.specs.Tellings.{handle_text};
 use crate::before::Before;
 use crate::line::operation_of;
 use array_scripts::{Header, Scripted, header_of};
+use array_tables::handle_table::{Operation, Outcome};
 use block_store::OutOfMemory;
-use handle_table::{Operation, Outcome};
 use std::alloc::Global;
 use trace_text::LineBuffer;
 

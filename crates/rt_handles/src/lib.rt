@@ -2,7 +2,7 @@
 #![tactic(auto)]
 
 ghost use Rattle.std.specs.Prelude.{◌≡◌, ◌⊎◌, ℕ, List};
-ghost use Rattle.handle_table.specs.declared.operation.Operation.{Operation};
+ghost use Rattle.array_tables.specs.declared.handle_table.operation.Operation.{Operation};
 ghost use Rattle.array_scripts.specs.declared.header.Header.{Header};
 ghost use Rattle.array_scripts.specs.Kinds.{Tokens};
 ghost use Rattle.array_scripts.specs.Parts.{IsFirstBad};

@@ -8,7 +8,7 @@ ghost use Rattle.rt_handles.specs.Lines.{make_at, handle_at, see_at, drop_at, ta
 
 use crate::before::Before;
 use array_scripts::{below, place};
-use handle_table::Operation;
+use array_tables::handle_table::Operation;
 use trace_text::{number_of, one_token, three_tokens, two_tokens};
 
 /// The operation whose word a line begins with.

@@ -2,9 +2,9 @@
 
 use crate::kind::Handles;
 use array_scripts::{Header, Runnable};
+use array_tables::handle_table::{Operation, Outcome, outcomes};
 use array_trees::blocks_of_array;
 use block_store::{Config, OutOfMemory, Width};
-use handle_table::{Operation, Outcome, outcomes};
 use never_heap::{Command, Entry};
 use std::alloc::Global;
 
@@ -37,7 +37,7 @@ impl Runnable for Handles {
         thread: u32,
         ops: &[Operation],
     ) -> Result<Vec<Command>, OutOfMemory> {
-        handle_table::trace_of(alloc, thread, ops)
+        array_tables::handle_table::trace_of(alloc, thread, ops)
     }
 
     fn answers(

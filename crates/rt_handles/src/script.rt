@@ -7,7 +7,7 @@ ghost use Rattle.rt_handles.specs.Lines.{handle_kind, IsHandleScript};
 
 use crate::kind::Handles;
 use array_scripts::{Fault, Header};
-use handle_table::Operation;
+use array_tables::handle_table::Operation;
 use std::alloc::Global;
 
 /// The script that an input is.

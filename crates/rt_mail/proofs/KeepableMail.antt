@@ -7,7 +7,7 @@ use Rattle.atom_board.specs.Mutators.{ClosedState}
 use Rattle.exit_statuses.specs.Sides.{Sides}
 use Rattle.never_heap.specs.declared.Entry.{Entry}
 use Rattle.never_heap.specs.Histories.{parts}
-use Rattle.number_rings.specs.Rings.{IsKeepable, last_numbers}
+use Rattle.array_tables.specs.number_rings.Rings.{IsKeepable, last_numbers}
 use Rattle.never_heap.proofs.PartLogs.{logged}
 use Rattle.rate_plan.specs.Rates.{IsAdmitted}
 use Rattle.rt_mail.specs.said_numbers.Said.{numbers_said, says_in, AreNumbers}

@@ -10,12 +10,12 @@ use Rattle.never_heap.specs.declared.Command.{Command}
 use Rattle.never_heap.specs.declared.Entry.{Entry}
 use Rattle.never_heap.specs.Histories.{parts}
 use Rattle.never_heap.specs.Runs.{IsRun}
-use Rattle.operations.specs.Linearizations.{traces_of}
+use Rattle.array_tables.specs.operations.Linearizations.{traces_of}
 use Rattle.never_heap.proofs.PartLogs.{logged}
-use Rattle.number_rings.specs.Rings.{Operation, rows_of, command_at, script_of, scripts_from, ring_config, ring_traces, recalled, last_numbers, IsKeepable}
-use Rattle.number_rings.proofs.Chunks.{rows_long}
-use Rattle.number_rings.proofs.Jobs.{rings_fit, rings_admitted}
-use Rattle.number_rings.proofs.RingRuns.{rings_show, own_script, scripts_long}
+use Rattle.array_tables.specs.number_rings.Rings.{Operation, rows_of, command_at, script_of, scripts_from, ring_config, ring_traces, recalled, last_numbers, IsKeepable}
+use Rattle.array_tables.proofs.number_rings.Chunks.{rows_long}
+use Rattle.array_tables.proofs.number_rings.Jobs.{rings_fit, rings_admitted}
+use Rattle.array_tables.proofs.number_rings.RingRuns.{rings_show, own_script, scripts_long}
 use Rattle.rate_plan.specs.Rates.{IsAdmitted}
 use Rattle.threaded_runs.specs.EndedRuns.{HasHistory, commands_of, job_of}
 use Rattle.threaded_runs.proofs.OfJob.{run_of, parts_of}

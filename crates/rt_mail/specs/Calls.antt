@@ -6,7 +6,7 @@ use Rattle.exit_statuses.specs.Refusals.{AreNone}
 use Rattle.exit_statuses.specs.Sides.{Sides}
 use Rattle.rt_mail.specs.mail_post.PostStates.{TakenState}
 use Rattle.never_heap.specs.Histories.{parts}
-use Rattle.number_rings.specs.Rings.{last_numbers}
+use Rattle.array_tables.specs.number_rings.Rings.{last_numbers}
 use Rattle.rate_plan.specs.Rates.{IsAdmitted}
 use Rattle.rt_mail.specs.said_numbers.Said.{numbers_said}
 use Rattle.threaded_runs.specs.EndedRuns.{HasHistory, job_of}

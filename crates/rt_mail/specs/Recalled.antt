@@ -4,7 +4,7 @@ use Rattle.atom_board.specs.Mutators.{ClosedState}
 use Rattle.never_heap.specs.declared.Entry.{Entry}
 use Rattle.never_heap.specs.declared.Reply.{Reply}
 use Rattle.never_heap.specs.Licensed.{NoFulls}
-use Rattle.number_rings.specs.Rings.{ring_config, ring_traces, recalled}
+use Rattle.array_tables.specs.number_rings.Rings.{ring_config, ring_traces, recalled}
 use Rattle.threaded_runs.specs.EndedRuns.{HasHistory, job_of}
 use Rattle.trace_text.specs.Jobs.{Job}
 

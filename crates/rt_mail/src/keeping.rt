@@ -2,16 +2,16 @@
 
 ghost use Rattle.std.specs.Prelude.{◌≡◌, ◌≤◌, map, length, IfOk};
 ghost use Rattle.std.specs.List.{AllByRecursion};
-ghost use Rattle.number_rings.specs.Rings.{IsKeepable, ring_traces};
+ghost use Rattle.array_tables.specs.number_rings.Rings.{IsKeepable, ring_traces};
 ghost use Rattle.threaded_runs.specs.EndedRuns.{commands_of};
 ghost use Rattle.rt_mail.specs.Recalled.{HasRings, ring_job, recalled_in};
 
 use crate::mail_post::Taken;
+use array_tables::number_rings::{config_of_rings, recalled_numbers, trace_of_ring};
 use atom_board::Closed;
 use block_store::OutOfMemory;
 use heap_system::NoPace;
 use never_heap::Logs;
-use number_rings::{config_of_rings, recalled_numbers, trace_of_ring};
 use std::alloc::Global;
 use std::sync::Wait;
 use std::thread::Threads;

@@ -6,9 +6,9 @@ use Rattle.array_scripts.proofs.TokenLaws.{chosen, below_sound, below_again, thr
 use Rattle.array_scripts.proofs.LineLaws.{kind_reads}
 use Rattle.array_scripts.specs.scripts.Scripts.{Reads}
 use Rattle.array_scripts.proofs.scripts.ScriptOrBadLine.{some_is}
-use Rattle.tag_table.specs.declared.operation.Operation.{Operation}
-use Rattle.tag_table.specs.declared.operation.Operation.TheVariants.{Write, Clear, Read}
-use Rattle.tag_table.specs.Tables.{IsOperationInRange}
+use Rattle.array_tables.specs.declared.tag_table.operation.Operation.{Operation}
+use Rattle.array_tables.specs.declared.tag_table.operation.Operation.TheVariants.{Write, Clear, Read}
+use Rattle.array_tables.specs.tag_table.Tables.{IsOperationInRange}
 use Rattle.trace_text.specs.Reading.{◌>>=◌, no_more_of, one_token_of, two_tokens_of, three_tokens_of}
 use Rattle.trace_text.proofs.Binds.{bind_then}
 use Rattle.rt_tags.specs.Lines.{op_line, write_at, clear_at, read_at, op_at, tag_kind}

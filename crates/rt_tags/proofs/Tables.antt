@@ -5,11 +5,11 @@ use Rattle.exit_statuses.specs.Exits.{IsWritten}
 use Rattle.exit_statuses.specs.Sides.{Sides}
 use Rattle.never_heap.specs.declared.Command.{Command}
 use Rattle.never_heap.specs.Jobs.{IsJobInBounds}
-use Rattle.operations.specs.Linearizations.{Call, traces_of}
-use Rattle.tag_table.specs.declared.operation.Operation.{Operation}
-use Rattle.tag_table.specs.Tables.{Tag, rows_of, command_at}
-use Rattle.tag_table.proofs.Jobs.{jobs_fit}
-use Rattle.tag_table.proofs.TableApplication.{tables_are_kept}
+use Rattle.array_tables.specs.operations.Linearizations.{Call, traces_of}
+use Rattle.array_tables.specs.declared.tag_table.operation.Operation.{Operation}
+use Rattle.array_tables.specs.tag_table.Tables.{Tag, rows_of, command_at}
+use Rattle.array_tables.proofs.tag_table.Jobs.{jobs_fit}
+use Rattle.array_tables.proofs.tag_table.TableApplication.{tables_are_kept}
 use Rattle.threaded_runs.specs.EndedRuns.{job_of}
 use Rattle.threaded_runs.proofs.OfJob.{run_of, parts_of}
 use Rattle.trace_text.specs.Reading.{tokenized}

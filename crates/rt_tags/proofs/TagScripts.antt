@@ -4,9 +4,9 @@ use Rattle.std.specs.List.{AllByRecursion}
 use Rattle.array_scripts.specs.declared.header.Header.{Header}
 use Rattle.array_scripts.specs.Kinds.{Tokens, FitBehind}
 use Rattle.array_scripts.proofs.ScriptSizes.{few_ops, each_thread, fit_at}
-use Rattle.tag_table.specs.declared.operation.Operation.{Operation}
-use Rattle.tag_table.specs.declared.operation.Operation.TheVariants.{Write, Clear, Read}
-use Rattle.tag_table.specs.Tables.{AreInTable, IsOperationInRange, IsScriptInRange}
+use Rattle.array_tables.specs.declared.tag_table.operation.Operation.{Operation}
+use Rattle.array_tables.specs.declared.tag_table.operation.Operation.TheVariants.{Write, Clear, Read}
+use Rattle.array_tables.specs.tag_table.Tables.{AreInTable, IsOperationInRange, IsScriptInRange}
 use Rattle.rt_tags.specs.Lines.{tag_kind, IsTagScript}
 
 each_fits : (h : Header) (before ops : List Operation) → FitBehind tag_kind h before ops

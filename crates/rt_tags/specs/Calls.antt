@@ -8,9 +8,9 @@ use Rattle.atom_board.specs.Mutators.{ClosedState}
 use Rattle.exit_statuses.specs.Exits.{IsWritten}
 use Rattle.exit_statuses.specs.Sides.{Sides}
 use Rattle.never_heap.specs.Licensed.{NoFulls}
-use Rattle.operations.specs.Linearizations.{Call, IsLinearization}
-use Rattle.tag_table.specs.declared.operation.Operation.{Operation}
-use Rattle.tag_table.specs.Tables.{Tag, answer, table_after, empty_table, rows_of, decides, ends}
+use Rattle.array_tables.specs.operations.Linearizations.{Call, IsLinearization}
+use Rattle.array_tables.specs.declared.tag_table.operation.Operation.{Operation}
+use Rattle.array_tables.specs.tag_table.Tables.{Tag, answer, table_after, empty_table, rows_of, decides, ends}
 use Rattle.threaded_runs.specs.EndedRuns.{HasHistory, job_of}
 use Rattle.rt_tags.specs.declared.exit.TagExit.{TagExit}
 use Rattle.rt_tags.specs.Lines.{tag_kind}

@@ -3,9 +3,9 @@ use Rattle.std.specs.Prelude.{ℕ, ◌^◌, Option, Some, None, if◌then◌else
 use Rattle.std.specs.Str.{bytes_eq}
 use Rattle.array_scripts.specs.declared.header.Header.{Header}
 use Rattle.array_scripts.specs.Kinds.{Tokens, Kind, below, IsScriptIn}
-use Rattle.tag_table.specs.declared.operation.Operation.{Operation}
-use Rattle.tag_table.specs.declared.operation.Operation.TheVariants.{Write, Clear, Read}
-use Rattle.tag_table.specs.Tables.{IsOperationInRange, tag_config}
+use Rattle.array_tables.specs.declared.tag_table.operation.Operation.{Operation}
+use Rattle.array_tables.specs.declared.tag_table.operation.Operation.TheVariants.{Write, Clear, Read}
+use Rattle.array_tables.specs.tag_table.Tables.{IsOperationInRange, tag_config}
 use Rattle.trace_text.specs.Reading.{◌>>=◌, one_token_of, three_tokens_of}
 
 abbrev pub op_line : Operation → Tokens

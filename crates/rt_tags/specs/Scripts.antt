@@ -2,9 +2,9 @@
 use Rattle.std.specs.Prelude.{ℕ, List, map, flat_map}
 use Rattle.array_scripts.specs.declared.header.Header.{Header}
 use Rattle.never_heap.specs.declared.Command.{Command}
-use Rattle.operations.specs.Linearizations.{traces_of}
-use Rattle.tag_table.specs.declared.operation.Operation.{Operation}
-use Rattle.tag_table.specs.Tables.{rows_of, command_at}
+use Rattle.array_tables.specs.operations.Linearizations.{traces_of}
+use Rattle.array_tables.specs.declared.tag_table.operation.Operation.{Operation}
+use Rattle.array_tables.specs.tag_table.Tables.{rows_of, command_at}
 use Rattle.trace_text.specs.Jobs.{Job}
 use Rattle.rt_tags.specs.Lines.{tag_kind}
 

@@ -2,9 +2,9 @@
 use Rattle.std.specs.Prelude.{ℕ, Some, None, List, ◌++◌, codes, decimal}
 use Rattle.array_scripts.specs.Answers as answers
 use Rattle.never_heap.specs.declared.Reply.{Reply}
-use Rattle.operations.specs.Linearizations.{Call}
-use Rattle.tag_table.specs.declared.operation.Operation.{Operation}
-use Rattle.tag_table.specs.Tables.{Tag, answers_of}
+use Rattle.array_tables.specs.operations.Linearizations.{Call}
+use Rattle.array_tables.specs.declared.tag_table.operation.Operation.{Operation}
+use Rattle.array_tables.specs.tag_table.Tables.{Tag, answers_of}
 
 abbrev pub tag_text : Tag → List ℕ
 tag_text None = codes "none"

@@ -2,9 +2,9 @@
 
 use crate::line::operation_of;
 use array_scripts::{Header, Scripted, header_of};
+use array_tables::tag_table::Operation;
 use block_store::OutOfMemory;
 use std::alloc::Global;
-use tag_table::Operation;
 use trace_text::LineBuffer;
 
 /// The most operations of a thread.

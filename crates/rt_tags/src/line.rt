@@ -6,7 +6,7 @@ ghost use Rattle.trace_text.specs.Reading.{tokens_left};
 ghost use Rattle.rt_tags.specs.Lines.{write_at, clear_at, read_at, op_at};
 
 use array_scripts::{below, place};
-use tag_table::Operation;
+use array_tables::tag_table::Operation;
 use trace_text::{one_token, three_tokens};
 
 /// The operation whose word a line begins with.

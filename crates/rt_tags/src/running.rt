@@ -2,11 +2,11 @@
 
 use crate::kind::Tags;
 use array_scripts::{Header, Runnable};
+use array_tables::tag_table::Operation;
 use array_trees::blocks_of_array;
 use block_store::{Config, OutOfMemory, Width};
 use never_heap::{Command, Entry};
 use std::alloc::Global;
-use tag_table::Operation;
 
 impl Runnable for Tags {
     ghost use Rattle.rt_tags.specs.Scripts as scripts;
@@ -37,7 +37,7 @@ impl Runnable for Tags {
         _thread: u32,
         ops: &[Operation],
     ) -> Result<Vec<Command>, OutOfMemory> {
-        tag_table::trace_of(alloc, ops)
+        array_tables::tag_table::trace_of(alloc, ops)
     }
 
     fn answers(
@@ -46,6 +46,6 @@ impl Runnable for Tags {
         ops: &[Operation],
         log: &[Entry],
     ) -> Result<Vec<Option<(u64, u64)>>, OutOfMemory> {
-        tag_table::answers(alloc, ops, log)
+        array_tables::tag_table::answers(alloc, ops, log)
     }
 }

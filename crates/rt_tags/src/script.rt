@@ -7,8 +7,8 @@ ghost use Rattle.rt_tags.specs.Lines.{tag_kind, IsTagScript};
 
 use crate::kind::Tags;
 use array_scripts::{Fault, Header};
+use array_tables::tag_table::Operation;
 use std::alloc::Global;
-use tag_table::Operation;
 
 /// The script that an input is.
 pub fn script_of(alloc: Global, input: &[u8]) -> Result<(Header, Vec<Vec<Operation>>), Fault>

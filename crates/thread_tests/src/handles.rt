@@ -181,7 +181,7 @@ fn each_handle_leaves_once(rt: HostRuntime) -> Result<(), OutOfMemory> {
     Ok(())
 }
 
-// The example of `handle_table`, with a second handle and refusals.
+// The example of `array_tables`, with a second handle and refusals.
 fn follows_the_example<R: Wait + Abort>(rt: &R, seat: &mut Seat<'_>) {
     assert_eq!(rt; seat.see(rt, 0), Err(Refused::NotMade));
     assert_eq!(rt; seat.take(rt, 0), Ok(None));

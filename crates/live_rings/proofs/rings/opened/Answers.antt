@@ -1,7 +1,7 @@
 use Rattle.std.proofs.Common.{refl, subst, sym}
 use Rattle.block_store.specs.declared.Config.{Config}
 use Rattle.shared_heap.specs.Workers as heaps
-use Rattle.number_rings.specs.Rings.{ring_config}
+use Rattle.array_tables.specs.number_rings.Rings.{ring_config}
 use Rattle.live_rows.proofs.Opening.{all_fresh, in_order}
 use Rattle.live_rings.specs.Live.{AreFresh, AreInOrder, IsRingHeap, rings}
 use Rattle.live_rings.proofs.Crews.{in_order_each}

@@ -6,7 +6,7 @@ use Rattle.block_store.specs.declared.Width.TheVariants.{Eight}
 use Rattle.never_heap.specs.Bounds.{IsCommandInBounds}
 use Rattle.never_heap.specs.declared.Command.{Command}
 use Rattle.shared_heap.specs.Workers.{WorkerState}
-use Rattle.tag_table.specs.Tables.{IsOperationInRange}
+use Rattle.array_tables.specs.tag_table.Tables.{IsOperationInRange}
 use Rattle.live_rows.specs.Life.{HasRun, MakeObjects}
 use Rattle.live_rows.proofs.Lawful.{some_commands}
 use Rattle.live_tags.specs.Live.{HasDone, TagWorkerState, commands_of, tag_worker, tags}

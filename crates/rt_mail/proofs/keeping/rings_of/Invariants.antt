@@ -1,6 +1,6 @@
 -- The traces so far and those of the threads that are left are all traces.
 use Rattle.std.proofs.Common.{◌≡◌, ◌++◌, drop, map}
-use Rattle.number_rings.specs.Rings.{ring_traces}
+use Rattle.array_tables.specs.number_rings.Rings.{ring_traces}
 use Rattle.rt_mail.proofs.RingJob.{traces_from}
 use Rattle.rt_mail.proofs.keeping.rings_of.Given as goal
 

@@ -1,5 +1,5 @@
 use Rattle.std.proofs.Common.{◌≡◌, ◌∙◌, ap}
-use Rattle.handle_table.specs.Handles.{id}
+use Rattle.array_tables.specs.handle_table.Handles.{id}
 use Rattle.live_handles.specs.Live.{HandleWorkerState, thread_of}
 use Rattle.live_handles.specs.Makes.{made_by}
 use Rattle.live_handles.proofs.slots.LiveHandles.make.Goals as goal

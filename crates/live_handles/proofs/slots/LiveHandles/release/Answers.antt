@@ -1,5 +1,5 @@
 use Rattle.std.proofs.Common.{ℕ, ◌∙◌, ◌∷◌, [], ap}
-use Rattle.handle_table.specs.Handles.{Drop}
+use Rattle.array_tables.specs.handle_table.Handles.{Drop}
 use Rattle.live_handles.specs.Live.{commands_of, place_in}
 use Rattle.live_handles.proofs.slots.LiveHandles.release.Goals as goal
 

@@ -1,5 +1,5 @@
 use Rattle.std.proofs.Common.{List, ◌≡◌, ◌∷◌, ◌++◌, [], sym, ap, ◌∙◌, subst}
-use Rattle.tag_table.specs.Tables.{Tag, answer}
+use Rattle.array_tables.specs.tag_table.Tables.{Tag, answer}
 use Rattle.plantrun_core.specs.declared.calls.Done.{Done}
 use Rattle.plantrun_core.specs.declared.calls.Step.{Step}
 use Rattle.plantrun_core.proofs.Mixing.{LeavesTo, Runs, leaves_more, runs_more, same_answer}

@@ -1,7 +1,7 @@
 use Rattle.std.proofs.Common.{arith}
 use Rattle.std.specs.Prelude.{flat_map}
 use Rattle.std.proofs.lemmas.List.{length-map}
-use Rattle.tag_table.specs.Tables.{rows_of, command_at}
+use Rattle.array_tables.specs.tag_table.Tables.{rows_of, command_at}
 use Rattle.rt_tags.proofs.running.TagsRunnable.answers.Goals as goal
 
 pub answers-requires : goal.answers-requires

@@ -1,8 +1,0 @@
-use Rattle.handle_table.proofs.AnswersSoFar.{all_commands}
-use Rattle.handle_table.proofs.operation.trace_of.Goals as goal
-
-pub returns : goal.returns
-returns c =
-    all_commands c.args.thread c.loop-op.made c.loop-op.op-index c.args.ops.now
-    c.loop-op.trace.items
-    c.loop-op-test.false c.loop-op.invariant.commands
