@@ -7,9 +7,8 @@ use crate::slim::{
 use crate::stop::Stop;
 use block_store::{Config, Width};
 use control_heap::ControlHeap;
-use heap_pictures::Picture;
 use heap_structures::Ring;
-use saved_heap::Renewal;
+use saved_heap::{Picture, Renewal};
 use std::alloc::Global;
 use std::io::{self, BufRead, BufReader, ErrorKind};
 use std::mem;

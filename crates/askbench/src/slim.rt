@@ -4,10 +4,9 @@
 use crate::stop::Stop;
 use block_store::{Config, Value};
 use control_heap::{ControlHeap, Fault, Refused};
-use heap_pictures::Picture;
 use heap_structures::Ring;
 use never_heap::Command;
-use saved_heap::Renewal;
+use saved_heap::{Picture, Renewal};
 use std::alloc::Global;
 use std::io;
 use std::time::Instant;

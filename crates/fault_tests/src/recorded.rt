@@ -6,7 +6,7 @@ use control_heap::Refused;
 use never_heap::{Command, Reply};
 use rand_core::utils::NextWord;
 use rand_pcg::Lcg64Xsh32;
-use recorded_heap::RecordFault;
+use saved_heap::RecordFault;
 use std::alloc::Global;
 use std::test::Fail;
 use trace_text::MemSink;

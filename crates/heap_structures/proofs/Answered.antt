@@ -19,7 +19,7 @@ use Rattle.control_heap.specs.Controls.{Control, HasLeft}
 use Rattle.control_heap.specs.declared.faults.Fault.{Fault}
 use Rattle.control_heap.specs.declared.faults.Fault.TheVariants as faults
 use Rattle.graph_view.specs.Asked.{HasDone}
-use Rattle.heap_pictures.specs.Following.{HasOneThread}
+use Rattle.saved_heap.specs.heap_pictures.Following.{HasOneThread}
 use Rattle.heap_structures.specs.declared.cells.Cells.{Cells}
 use Rattle.heap_structures.specs.Cells.{IsCells, held}
 use Rattle.heap_structures.specs.Heaps.{Does, Has, HasRoom, IsQuiet, Ready, Sight, Took}

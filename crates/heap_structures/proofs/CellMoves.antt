@@ -14,7 +14,7 @@ use Rattle.never_heap.specs.Steps.{made, step}
 use Rattle.never_heap.proofs.FieldStores.{has_name_with_field}
 use Rattle.never_heap.proofs.UnchangedBySteps.{next_is_new, step_names}
 use Rattle.never_heap.proofs.Effects.{Effect, gets, makes, puts, puts_is, stores}
-use Rattle.heap_pictures.specs.Following.{HasOneThread}
+use Rattle.saved_heap.specs.heap_pictures.Following.{HasOneThread}
 use Rattle.heap_structures.specs.declared.cells.Cells.{Cells}
 use Rattle.heap_structures.specs.Cells.{IsCells, IsNone, IsPlaced, Saves, Spares, held}
 

@@ -17,9 +17,9 @@ use Rattle.never_heap.specs.Steps.{step}
 use Rattle.never_heap.proofs.CommandBounds.{plain_fits}
 use Rattle.never_heap.proofs.StepChanges.{has_field}
 use Rattle.heap_machine.specs.Memories.{Acts}
-use Rattle.heap_pictures.specs.UpToNames.{AreOneUpToNames, renamed}
-use Rattle.heap_pictures.specs.Following.{HasOneThread}
-use Rattle.heap_pictures.proofs.Following.{any_thread_stays}
+use Rattle.saved_heap.specs.heap_pictures.UpToNames.{AreOneUpToNames, renamed}
+use Rattle.saved_heap.specs.heap_pictures.Following.{HasOneThread}
+use Rattle.saved_heap.proofs.heap_pictures.Following.{any_thread_stays}
 use Rattle.heap_system.specs.Lives.{most_objects, most_units}
 use Rattle.control_heap.specs.Calls.{HasTold}
 use Rattle.control_heap.specs.Controls.{Control, HasLeft, units}

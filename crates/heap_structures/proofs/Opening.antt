@@ -28,7 +28,7 @@ use Rattle.control_heap.specs.declared.faults.Fault.TheVariants as faults
 use Rattle.graph_view.specs.Asked.{HasDone, HasDoneAll, HasUsed}
 use Rattle.graph_view.specs.Shown.{Follows, Goes, HasMetNoFull, IsSmall, Leaves, Shows, graph_told}
 use Rattle.graph_view.proofs.GraphAnswers.{follows_ok, goes_ok, never_ok}
-use Rattle.heap_pictures.specs.Following.{HasOneThread}
+use Rattle.saved_heap.specs.heap_pictures.Following.{HasOneThread}
 use Rattle.heap_structures.specs.declared.cells.Cells.{Cells}
 use Rattle.heap_structures.specs.Cells.{IsCells, IsPlaced, Spares}
 use Rattle.heap_structures.specs.Heaps.{Any, Small, Always, Has, Sight}

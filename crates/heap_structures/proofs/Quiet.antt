@@ -16,8 +16,8 @@ use Rattle.control_heap.specs.Controls.{Control, Stands}
 use Rattle.graph_view.specs.Asked.{HasDone, HasDoneAll, HasUsed}
 use Rattle.graph_view.specs.Shown.{Follows, Goes, HasMetNoFull, IsSmall, Leaves, Shows, graph_told}
 use Rattle.graph_view.proofs.GraphAnswers.{follows_ok, goes_ok, never_ok}
-use Rattle.heap_pictures.specs.Following.{HasOneThread}
-use Rattle.heap_pictures.proofs.Following.{thread_of_replay}
+use Rattle.saved_heap.specs.heap_pictures.Following.{HasOneThread}
+use Rattle.saved_heap.proofs.heap_pictures.Following.{thread_of_replay}
 use Rattle.heap_structures.specs.Heaps.{Any, Small, Always, Has, IsQuiet, Sight, Took}
 
 -- the run that a heap has with a graph

@@ -7,7 +7,7 @@ use Rattle.block_store.specs.declared.Name.{Name}
 use Rattle.block_store.specs.declared.Value.{Value}
 use Rattle.block_store.specs.declared.Value.TheVariants.{Nil, Ref}
 use Rattle.never_heap.specs.Graphs.{Graph}
-use Rattle.heap_pictures.specs.UpToNames.{AreOneUpToNames, renamed}
+use Rattle.saved_heap.specs.heap_pictures.UpToNames.{AreOneUpToNames, renamed}
 use Rattle.heap_structures.specs.declared.cells.Cells.{Cells}
 use Rattle.heap_structures.specs.Alarms.{value_of}
 use Rattle.heap_structures.specs.declared.alarms.Alarm.{Alarm}

@@ -3,7 +3,7 @@ use Rattle.std.specs.Prelude.{List, map}
 use Rattle.block_store.specs.declared.Name.{Name}
 use Rattle.block_store.specs.declared.Value.{Value}
 use Rattle.never_heap.specs.Graphs.{Graph}
-use Rattle.heap_pictures.specs.UpToNames.{AreOneUpToNames, renamed}
+use Rattle.saved_heap.specs.heap_pictures.UpToNames.{AreOneUpToNames, renamed}
 use Rattle.control_heap.specs.Controls.{Control}
 use Rattle.graph_view.specs.Shown.{Leaves}
 use Rattle.heap_structures.specs.declared.cells.Cells.{Cells}

@@ -6,7 +6,7 @@ ghost use Rattle.block_store.specs.declared.Value.TheVariants.{Int, Nil};
 ghost use Rattle.never_heap.specs.declared.Command.TheVariants.{Arr};
 ghost use Rattle.never_heap.specs.Graphs.{Graph};
 ghost use Rattle.control_heap.specs.Controls.{HasLeft};
-ghost use Rattle.heap_pictures.specs.UpToNames.{AreOneUpToNames};
+ghost use Rattle.saved_heap.specs.heap_pictures.UpToNames.{AreOneUpToNames};
 ghost use Rattle.graph_view.specs.Shown.{Leaves};
 ghost use Rattle.heap_structures.specs.declared.cells.Cells.{Cells};
 ghost use Rattle.heap_structures.specs.Cells.{HasPlace, IsCells, held};

@@ -2,9 +2,8 @@
 
 use block_store::{Config, OutOfMemory};
 use control_heap::ControlHeap;
-use heap_pictures::Planning;
 use never_heap::{Command, Reply};
-use saved_heap::{Reading, Renewal};
+use saved_heap::{Planning, Reading, Renewal};
 use std::alloc::Global;
 use std::fmt::Write;
 

@@ -9,10 +9,10 @@ use Rattle.never_heap.specs.Histories.{Started, is_full, replay}
 use Rattle.never_heap.specs.Steps.{step}
 use Rattle.block_store.specs.declared.Config.{Config}
 use Rattle.heap_system.specs.Machines.{Run}
-use Rattle.heap_pictures.specs.Pictures.{Content, graph_of, is_sound}
-use Rattle.heap_pictures.specs.Plans.{graph_after, plan_of}
-use Rattle.heap_pictures.specs.UpToNames.{AreOneUpToNames}
-use Rattle.heap_pictures.proofs.Building.{after_append}
+use Rattle.saved_heap.specs.heap_pictures.Pictures.{Content, graph_of, is_sound}
+use Rattle.saved_heap.specs.heap_pictures.Plans.{graph_after, plan_of}
+use Rattle.saved_heap.specs.heap_pictures.UpToNames.{AreOneUpToNames}
+use Rattle.saved_heap.proofs.heap_pictures.Building.{after_append}
 use Rattle.control_heap.specs.Controls.{Control, HasAnswered, Stands}
 use Rattle.control_heap.specs.WayBack.{AllDone, NoneFull}
 use Rattle.graph_view.specs.Asked.{HasDone, HasDoneAll}

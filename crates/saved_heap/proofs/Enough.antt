@@ -24,9 +24,9 @@ use Rattle.never_heap.specs.Steps.{blocks_of, makes_object, step}
 use Rattle.never_heap.proofs.StepAnswers.{step_not_full}
 use Rattle.heap_system.specs.Lives.{objects_of, sum_after, most_commands, most_objects, most_units}
 use Rattle.heap_system.specs.Machines.{Run}
-use Rattle.heap_pictures.specs.Needs.{Meets, needs_of, table_blocks}
-use Rattle.heap_pictures.specs.Pictures.{Content, is_sound}
-use Rattle.heap_pictures.specs.Plans.{plan_of}
+use Rattle.saved_heap.specs.heap_pictures.Needs.{Meets, needs_of, table_blocks}
+use Rattle.saved_heap.specs.heap_pictures.Pictures.{Content, is_sound}
+use Rattle.saved_heap.specs.heap_pictures.Plans.{plan_of}
 use Rattle.control_heap.specs.declared.control.OpenFault.TheVariants as opening
 use Rattle.control_heap.specs.declared.control.Refused.{Refused}
 use Rattle.control_heap.specs.Controls.{CanOpen, Control, HasAnswered, HasLeft, Stands, asked, units}

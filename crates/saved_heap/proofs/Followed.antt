@@ -12,11 +12,11 @@ use Rattle.never_heap.specs.Histories.{HistoryItem, Legal, is_full, replay}
 use Rattle.never_heap.specs.Licensed.{Licensed}
 use Rattle.never_heap.specs.Steps.{step}
 use Rattle.heap_system.specs.Machines.{Run}
-use Rattle.heap_pictures.specs.Following.{HasOneThread, StayOneUpToNames, replies_to}
-use Rattle.heap_pictures.specs.Pictures.{Content, graph_of, is_sound}
-use Rattle.heap_pictures.specs.Plans.{graph_after, plan_of}
-use Rattle.heap_pictures.specs.UpToNames.{AreOneUpToNames}
-use Rattle.heap_pictures.proofs.Building.{after_append}
+use Rattle.saved_heap.specs.heap_pictures.Following.{HasOneThread, StayOneUpToNames, replies_to}
+use Rattle.saved_heap.specs.heap_pictures.Pictures.{Content, graph_of, is_sound}
+use Rattle.saved_heap.specs.heap_pictures.Plans.{graph_after, plan_of}
+use Rattle.saved_heap.specs.heap_pictures.UpToNames.{AreOneUpToNames}
+use Rattle.saved_heap.proofs.heap_pictures.Building.{after_append}
 use Rattle.control_heap.specs.Controls.{Control, Stands}
 use Rattle.control_heap.specs.WayBack.{AllDone}
 use Rattle.graph_view.specs.Shown.{Goes, Leaves, graph_at_last, graph_told}

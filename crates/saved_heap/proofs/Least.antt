@@ -8,9 +8,9 @@ use Rattle.block_store.specs.Registers.{registers_end}
 use Rattle.block_store.specs.Widths.{payloads}
 use Rattle.array_trees.specs.Trees.{array_blocks, leaves, tree, IsTree}
 use Rattle.never_heap.specs.LiveBlocks.{object_blocks}
-use Rattle.heap_pictures.specs.declared.needs.Needs.{Needs}
-use Rattle.heap_pictures.specs.Needs.{IsRaised, Meets, needs_of, table_blocks}
-use Rattle.heap_pictures.specs.Pictures.{Content, is_sound}
+use Rattle.saved_heap.specs.declared.heap_pictures.needs.Needs.{Needs}
+use Rattle.saved_heap.specs.heap_pictures.Needs.{IsRaised, Meets, needs_of, table_blocks}
+use Rattle.saved_heap.specs.heap_pictures.Pictures.{Content, is_sound}
 use Rattle.control_heap.specs.Controls.{CanOpen}
 use Rattle.saved_heap.specs.Enough.{SomeIsEnough, HasRoom, IsEnough, IsNoLarger}
 

@@ -3,13 +3,13 @@ use Rattle.std.proofs.Common.{◌≡◌, ℕ, ◌^◌, ◌<◌, List, length, Re
 use Rattle.block_store.specs.declared.Config.{Config}
 use Rattle.never_heap.specs.Graphs.{Graph}
 use Rattle.never_heap.specs.Histories.{replay}
-use Rattle.heap_pictures.specs.declared.faults.SaveFault.{SaveFault}
-use Rattle.heap_pictures.specs.Pictures.{Content, graph_of, is_sound}
-use Rattle.heap_pictures.specs.Plans.{plan_of}
-use Rattle.heap_pictures.specs.Reading.{picture_at}
-use Rattle.heap_pictures.specs.Spelling.{saved}
-use Rattle.heap_pictures.specs.UpToNames.{AreOneUpToNames}
-use Rattle.heap_pictures.proofs.Again.{saved_again}
+use Rattle.saved_heap.specs.declared.heap_pictures.faults.SaveFault.{SaveFault}
+use Rattle.saved_heap.specs.heap_pictures.Pictures.{Content, graph_of, is_sound}
+use Rattle.saved_heap.specs.heap_pictures.Plans.{plan_of}
+use Rattle.saved_heap.specs.heap_pictures.Reading.{picture_at}
+use Rattle.saved_heap.specs.heap_pictures.Spelling.{saved}
+use Rattle.saved_heap.specs.heap_pictures.UpToNames.{AreOneUpToNames}
+use Rattle.saved_heap.proofs.heap_pictures.Again.{saved_again}
 use Rattle.control_heap.specs.Controls.{Control}
 use Rattle.saved_heap.specs.declared.faults.RenewFault.{RenewFault}
 use Rattle.saved_heap.specs.declared.faults.RenewFault.TheVariants as renew_faults

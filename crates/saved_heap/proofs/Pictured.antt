@@ -9,11 +9,11 @@ use Rattle.block_store.specs.declared.Value.TheVariants.{Nil, Int, Ref}
 use Rattle.never_heap.specs.Graphs.{Graph, Object, Array, field_of, has_name, mutator_at, nil_object, no_object, object_of, register_of}
 use Rattle.never_heap.specs.Histories.{replay}
 use Rattle.heap_system.specs.Machines.{Run}
-use Rattle.heap_pictures.specs.declared.picture.Item.{Item}
-use Rattle.heap_pictures.specs.Pictures.{Content, are_within, graph_of, is_item, is_sound, is_within, view}
-use Rattle.heap_pictures.specs.UpToNames.{AreOneUpToNames, renamed, renamed_object}
-use Rattle.heap_pictures.proofs.Building.{name_is, object_is}
-use Rattle.heap_pictures.proofs.Lists.{get_map, length_map, length_front}
+use Rattle.saved_heap.specs.declared.heap_pictures.picture.Item.{Item}
+use Rattle.saved_heap.specs.heap_pictures.Pictures.{Content, are_within, graph_of, is_item, is_sound, is_within, view}
+use Rattle.saved_heap.specs.heap_pictures.UpToNames.{AreOneUpToNames, renamed, renamed_object}
+use Rattle.saved_heap.proofs.heap_pictures.Building.{name_is, object_is}
+use Rattle.saved_heap.proofs.heap_pictures.Lists.{get_map, length_map, length_front}
 use Rattle.control_heap.specs.Controls.{Control}
 use Rattle.control_heap.specs.Images.{HasRun, Image, image_of}
 use Rattle.control_heap.specs.Seen.{HasSeen, IsSeen, IsSeenAt, value_seen}

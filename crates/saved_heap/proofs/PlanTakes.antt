@@ -16,10 +16,10 @@ use Rattle.never_heap.specs.LiveBlocks.{blocks_of_kind, object_blocks}
 use Rattle.never_heap.specs.RightWork.{units_owed, units_told}
 use Rattle.never_heap.specs.Steps.{blocks_of}
 use Rattle.heap_system.specs.Lives.{objects_of, sum_after}
-use Rattle.heap_pictures.specs.Needs.{largest, table_blocks}
-use Rattle.heap_pictures.specs.Pictures.{Content, are_within, is_item, is_sound, is_within}
-use Rattle.heap_pictures.specs.Plans.{all_loads, fills, load, loads, make, make_of, make_table, makes, plan_of, store, stores}
-use Rattle.heap_pictures.proofs.Building.{named_parts, sound_is}
+use Rattle.saved_heap.specs.heap_pictures.Needs.{largest, table_blocks}
+use Rattle.saved_heap.specs.heap_pictures.Pictures.{Content, are_within, is_item, is_sound, is_within}
+use Rattle.saved_heap.specs.heap_pictures.Plans.{all_loads, fills, load, loads, make, make_of, make_table, makes, plan_of, store, stores}
+use Rattle.saved_heap.proofs.heap_pictures.Building.{named_parts, sound_is}
 
 module _ (c : Config) (rate : ℕ) where
   -- commands that are in bounds: b blocks, as many units as these owe, and at most l commands

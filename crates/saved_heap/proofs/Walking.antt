@@ -8,7 +8,7 @@ use Rattle.block_store.specs.declared.Name.{Name}
 use Rattle.block_store.specs.declared.Value.{Value}
 use Rattle.block_store.specs.declared.Value.TheVariants.{Nil, Int, Ref}
 use Rattle.heap_system.specs.Machines.{Run}
-use Rattle.heap_pictures.proofs.Lists.{at_front, length_front}
+use Rattle.saved_heap.proofs.heap_pictures.Lists.{at_front, length_front}
 use Rattle.control_heap.specs.Seen.{IsSeen, IsSeenAt}
 use Rattle.control_heap.specs.declared.control.seen.Seen.{Seen}
 use Rattle.saved_heap.specs.Orders.{AreInTurn, named_after, serial_in}

@@ -1,8 +1,8 @@
 -- What is enough to build a picture.
 use Rattle.std.specs.Prelude.{◌≡◌, ◌+◌, ◌*◌, ◌≤◌, true}
 use Rattle.block_store.specs.declared.Config.{Config}
-use Rattle.heap_pictures.specs.Needs.{Meets, needs_of}
-use Rattle.heap_pictures.specs.Pictures.{Content, is_sound}
+use Rattle.saved_heap.specs.heap_pictures.Needs.{Meets, needs_of}
+use Rattle.saved_heap.specs.heap_pictures.Pictures.{Content, is_sound}
 use Rattle.control_heap.specs.declared.control.OpenFault.TheVariants as opening
 use Rattle.control_heap.specs.Controls.{CanOpen}
 use Rattle.saved_heap.specs.declared.faults.LoadFault.{LoadFault}

@@ -6,11 +6,11 @@ use Rattle.never_heap.specs.declared.Command.{Command}
 use Rattle.never_heap.specs.declared.Reply.TheVariants.{Full as FullReply}
 use Rattle.never_heap.specs.Bounds.{IsCommandInBounds}
 use Rattle.never_heap.specs.Graphs.{Graph}
-use Rattle.heap_pictures.specs.Faults.{save_fault_text}
-use Rattle.heap_pictures.specs.Needs.{needs_of}
-use Rattle.heap_pictures.specs.Pictures.{Content, is_sound}
-use Rattle.heap_pictures.specs.Plans.{plan_of}
-use Rattle.heap_pictures.specs.Reading.{picture_at}
+use Rattle.saved_heap.specs.heap_pictures.Faults.{save_fault_text}
+use Rattle.saved_heap.specs.heap_pictures.Needs.{needs_of}
+use Rattle.saved_heap.specs.heap_pictures.Pictures.{Content, is_sound}
+use Rattle.saved_heap.specs.heap_pictures.Plans.{plan_of}
+use Rattle.saved_heap.specs.heap_pictures.Reading.{picture_at}
 use Rattle.control_heap.specs.Calls.{refused_text}
 use Rattle.control_heap.specs.Controls.{Control, HasAnswered}
 use Rattle.control_heap.specs.Refusals.{IsOpenFault, IsRefused, open_fault_text}

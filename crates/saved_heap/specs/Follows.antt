@@ -5,8 +5,8 @@ use Rattle.never_heap.specs.declared.Reply.{Reply}
 use Rattle.never_heap.specs.Bounds.{IsCommandInBounds}
 use Rattle.never_heap.specs.Graphs.{Graph}
 use Rattle.never_heap.specs.Histories.{is_full}
-use Rattle.heap_pictures.specs.Pictures.{Content}
-use Rattle.heap_pictures.specs.Plans.{plan_of}
+use Rattle.saved_heap.specs.heap_pictures.Pictures.{Content}
+use Rattle.saved_heap.specs.heap_pictures.Plans.{plan_of}
 use Rattle.control_heap.specs.Controls.{Control, HasAnswered, HasLeft}
 use Rattle.control_heap.specs.WayBack.{AllDone}
 use Rattle.graph_view.specs.Shown.{Leaves, graph_at_last}

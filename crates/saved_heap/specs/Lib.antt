@@ -4,3 +4,5 @@ pub mod Renewals
 pub mod Follows
 pub mod Faults
 pub mod Enough
+pub mod heap_pictures
+pub mod recorded_heap

@@ -3,7 +3,7 @@ use Rattle.std.specs.Prelude.{ℕ, suc, ◌<◌, ◌≤◌, ◌≡◌, List, [],
 use Rattle.block_store.specs.declared.Value.{Value}
 use Rattle.block_store.specs.declared.Value.TheVariants.{Nil, Int, Ref}
 use Rattle.never_heap.specs.Graphs.{Object}
-use Rattle.heap_pictures.specs.Pictures.{Content}
+use Rattle.saved_heap.specs.heap_pictures.Pictures.{Content}
 
 -- the number of the object to which a value refers, or 0
 abbrev pub serial_in : Value → ℕ

@@ -5,9 +5,9 @@ use Rattle.never_heap.specs.declared.Command.{Command}
 use Rattle.never_heap.specs.declared.Reply.{Reply}
 use Rattle.never_heap.specs.Graphs.{Graph, start_graph}
 use Rattle.never_heap.specs.Histories.{Started, replay}
-use Rattle.heap_pictures.specs.Pictures.{Content, graph_of, is_sound}
-use Rattle.heap_pictures.specs.Plans.{graph_after, plan_of}
-use Rattle.heap_pictures.specs.UpToNames.{AreOneUpToNames}
+use Rattle.saved_heap.specs.heap_pictures.Pictures.{Content, graph_of, is_sound}
+use Rattle.saved_heap.specs.heap_pictures.Plans.{graph_after, plan_of}
+use Rattle.saved_heap.specs.heap_pictures.UpToNames.{AreOneUpToNames}
 use Rattle.heap_system.specs.Machines.{Run}
 use Rattle.control_heap.specs.Controls.{Control, Stands, asked, units}
 use Rattle.control_heap.specs.WayBack.{AllDone, NoneFull}

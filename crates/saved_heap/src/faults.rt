@@ -3,9 +3,9 @@
 ghost use Rattle.std.specs.Prelude.{◌≡◌};
 ghost use Rattle.saved_heap.specs.Faults.{copy_fault_text, load_fault_text, not_saved_text, on_fault_text, renew_fault_text};
 
+use crate::heap_pictures::SaveFault;
 use block_store::OutOfMemory;
 use control_heap::{OpenFault, Refused};
-use heap_pictures::SaveFault;
 use std::error::Error;
 use std::fmt;
 

@@ -2,17 +2,17 @@
 
 ghost use Rattle.std.specs.Prelude.{◌≡◌, ◌≤◌, true, false, Ok, IfOk, IfErr, IfSome, IfNone};
 ghost use Rattle.block_store.specs.declared.Config.{Config};
-ghost use Rattle.heap_pictures.specs.Needs.{IsRaised, needs_of};
-ghost use Rattle.heap_pictures.specs.Pictures.{Content, content_of, is_sound};
-ghost use Rattle.heap_pictures.specs.Reading.{picture_at};
+ghost use Rattle.saved_heap.specs.heap_pictures.Needs.{IsRaised, needs_of};
+ghost use Rattle.saved_heap.specs.heap_pictures.Pictures.{Content, content_of, is_sound};
+ghost use Rattle.saved_heap.specs.heap_pictures.Reading.{picture_at};
 ghost use Rattle.control_heap.specs.Controls.{CanOpen};
 ghost use Rattle.saved_heap.specs.Enough.{SomeIsEnough, HasRoom, IsEnough, IsNoLarger};
 ghost use Rattle.saved_heap.specs.Faults.{IsNeedsFault};
 
+use crate::heap_pictures::{Needs, Picture, ReadError, decode};
 use crate::{LoadFault, RenewFault};
 use array_trees::tree_counts;
 use block_store::{Config, Width};
-use heap_pictures::{Needs, Picture, ReadError, decode};
 use std::alloc::Global;
 
 /// A configuration for one thread with room for a cycle is enough for a picture once it is raised to

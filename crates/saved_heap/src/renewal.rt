@@ -4,8 +4,8 @@ ghost use Rattle.std.specs.Prelude.{◌≡◌, ◌+◌, ◌-◌, ◌<◌, ◌≤
 ghost use Rattle.never_heap.specs.declared.Command.{Command};
 ghost use Rattle.never_heap.specs.Graphs.{Graph};
 ghost use Rattle.never_heap.specs.Steps.{step};
-ghost use Rattle.heap_pictures.specs.Pictures.{Content, content_of, graph_of, is_sound};
-ghost use Rattle.heap_pictures.specs.Plans.{graph_after, plan_of};
+ghost use Rattle.saved_heap.specs.heap_pictures.Pictures.{Content, content_of, graph_of, is_sound};
+ghost use Rattle.saved_heap.specs.heap_pictures.Plans.{graph_after, plan_of};
 ghost use Rattle.block_store.specs.declared.Config.{Config};
 ghost use Rattle.control_heap.specs.Controls.{CanOpen, Control, asked};
 ghost use Rattle.control_heap.specs.Unused.{IsUnused};
@@ -19,14 +19,14 @@ ghost use Rattle.saved_heap.specs.Faults.{AreAllowed, CannotBuild, CannotRenew, 
 
 mod follow;
 
+use crate::heap_pictures::{
+    Picture, commands_keep_names, names_follow_one_another, pictures_are_built, plan,
+};
 use crate::{CopyFault, OnFault, RenewFault, picture_of};
 use block_store::Config;
 use control_heap::{ControlHeap, histories_are_right};
 pub use follow::Behind;
 use graph_view::{ask, lives_add_up, small_histories_are_shown};
-use heap_pictures::{
-    Picture, commands_keep_names, names_follow_one_another, pictures_are_built, plan,
-};
 use never_heap::{Command, Reply, live_grows, opening_blocks_are_live};
 use rate_plan::one_rate;
 use std::alloc::Global;

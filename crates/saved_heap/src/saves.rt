@@ -1,21 +1,21 @@
 //! Heaps as bytes.
 
 ghost use Rattle.std.specs.Prelude.{◌≡◌, ◌^◌, ◌<◌, Ok, true, length, IfOk, IfErr};
-ghost use Rattle.heap_pictures.specs.Pictures.{Content, content_of, graph_of, is_sound};
-ghost use Rattle.heap_pictures.specs.Plans.{plan_of};
-ghost use Rattle.heap_pictures.specs.Spelling.{saved};
-ghost use Rattle.heap_pictures.specs.Reading.{picture_at};
+ghost use Rattle.saved_heap.specs.heap_pictures.Pictures.{Content, content_of, graph_of, is_sound};
+ghost use Rattle.saved_heap.specs.heap_pictures.Plans.{plan_of};
+ghost use Rattle.saved_heap.specs.heap_pictures.Spelling.{saved};
+ghost use Rattle.saved_heap.specs.heap_pictures.Reading.{picture_at};
 ghost use Rattle.control_heap.specs.Controls.{Control};
 ghost use Rattle.saved_heap.specs.Enough.{SomeIsEnough, IsEnough, IsLoadOutOfMemory};
 ghost use Rattle.saved_heap.specs.Faults.{IsLoadFault, IsNotSaved};
 ghost use Rattle.saved_heap.specs.Orders.{IsInOrder};
 ghost use Rattle.saved_heap.specs.Renewals.{IsBuilt, IsPictureOf, ShowOneGraph, ShowsUpToNames};
 
+use crate::heap_pictures::{Picture, ReadError, decode, encode, names_follow_one_another};
 use crate::needs::some_is_enough;
 use crate::{LoadFault, NotSaved, RenewFault, build, needs_are_enough, picture_of};
 use block_store::{Config, OutOfMemory};
 use control_heap::ControlHeap;
-use heap_pictures::{Picture, ReadError, decode, encode, names_follow_one_another};
 use std::alloc::Global;
 
 // The bytes of a picture.

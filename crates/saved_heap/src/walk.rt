@@ -1,7 +1,7 @@
 //! The picture of a heap: a walk over all objects that its registers reach.
 
 ghost use Rattle.std.specs.Prelude.{◌≡◌, ◌^◌, ◌<◌, ◌++◌, ◌∷◌, [], ℕ, suc, true, length, slice_index, slice_set, IfOk, OnOk};
-ghost use Rattle.heap_pictures.specs.Pictures.{content_of, is_sound, kind_of, view};
+ghost use Rattle.saved_heap.specs.heap_pictures.Pictures.{content_of, is_sound, kind_of, view};
 ghost use Rattle.control_heap.specs.Seen.{kind_seen};
 ghost use Rattle.saved_heap.specs.Orders.{IsInOrder};
 ghost use Rattle.saved_heap.specs.Renewals.{IsPictureOf};
@@ -9,9 +9,9 @@ ghost use Rattle.saved_heap.specs.Walks.{AreRegisters, HasNoted, IsEmpty, Reads,
 
 mod reading;
 
+use crate::heap_pictures::{Item, Kind, Picture};
 use block_store::{Name, OutOfMemory, REGISTERS, Shape, Value};
 use control_heap::{ControlHeap, Seen, Snapshot};
-use heap_pictures::{Item, Kind, Picture};
 pub use reading::Reading;
 use std::alloc::Global;
 

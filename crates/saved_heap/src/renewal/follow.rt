@@ -3,7 +3,7 @@
 
 ghost use Rattle.std.specs.Prelude.{◌≡◌, ◌≤◌, ◌-◌, ◌++◌, false, length, OnOk, OnErr};
 ghost use Rattle.never_heap.specs.Histories.{is_full};
-ghost use Rattle.heap_pictures.specs.Pictures.{Content};
+ghost use Rattle.saved_heap.specs.heap_pictures.Pictures.{Content};
 ghost use Rattle.control_heap.specs.Controls.{Control};
 ghost use Rattle.saved_heap.specs.Follows.{HasReplied, IsFollowed, noted};
 

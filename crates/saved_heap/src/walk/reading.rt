@@ -1,7 +1,7 @@
 //! A heap that is read in pieces, while it goes on.
 
 ghost use Rattle.std.specs.Prelude.{◌≡◌, ◌≤◌, ◌+◌, ◌⊎◌, true, false, length, map, IfOk, IfErr, OnOk, OnErr};
-ghost use Rattle.heap_pictures.specs.Pictures.{content_of, is_sound, view};
+ghost use Rattle.saved_heap.specs.heap_pictures.Pictures.{content_of, is_sound, view};
 ghost use Rattle.control_heap.specs.Controls.{Control};
 ghost use Rattle.control_heap.specs.Images.{image_of};
 ghost use Rattle.saved_heap.specs.Orders.{IsInOrder};
@@ -9,9 +9,9 @@ ghost use Rattle.saved_heap.specs.Renewals.{IsPictureOf};
 ghost use Rattle.saved_heap.specs.Walks.{State, Walks, is_whole, state_of};
 
 use super::{Found, item_of, registers_of};
+use crate::heap_pictures::{Item, Picture};
 use block_store::{OutOfMemory, Value};
 use control_heap::{ControlHeap, Snapshot};
-use heap_pictures::{Item, Picture};
 use std::alloc::Global;
 use std::marker::Model;
 
@@ -27,7 +27,7 @@ pub struct Reading {
 
 impl Model for Reading {
     ghost use Rattle.std.specs.Prelude.{length, map};
-    ghost use Rattle.heap_pictures.specs.Pictures.{view as object_of};
+    ghost use Rattle.saved_heap.specs.heap_pictures.Pictures.{view as object_of};
     ghost use Rattle.saved_heap.specs.Walks.{IsReading, Progress, is_whole, state_of};
 
     ghost Value = { Progress };

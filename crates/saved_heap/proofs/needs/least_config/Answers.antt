@@ -1,4 +1,4 @@
-use Rattle.heap_pictures.specs.Pictures.{content_of}
+use Rattle.saved_heap.specs.heap_pictures.Pictures.{content_of}
 use Rattle.saved_heap.proofs.Least.{least_none, least_of}
 use Rattle.saved_heap.proofs.needs.least_config.Goals as goal
 

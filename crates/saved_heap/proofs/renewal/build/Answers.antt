@@ -1,6 +1,6 @@
 use Rattle.std.proofs.Common.{◌∙◌, length, ap}
-use Rattle.heap_pictures.specs.Pictures.{content_of}
-use Rattle.heap_pictures.specs.Plans.{plan_of}
+use Rattle.saved_heap.specs.heap_pictures.Pictures.{content_of}
+use Rattle.saved_heap.specs.heap_pictures.Plans.{plan_of}
 use Rattle.saved_heap.proofs.Copied.{all_built}
 use Rattle.saved_heap.proofs.renewal.build.Goals as goal
 

@@ -1,5 +1,5 @@
 use Rattle.std.proofs.Common.{◌<◌, ◌∙◌, length, take, arith}
-use Rattle.heap_pictures.specs.Plans.{graph_after}
+use Rattle.saved_heap.specs.heap_pictures.Plans.{graph_after}
 use Rattle.saved_heap.proofs.Copied.{built_more, copy_keeps, leaves_more}
 use Rattle.saved_heap.proofs.renewal.copied.Goals as goal
 

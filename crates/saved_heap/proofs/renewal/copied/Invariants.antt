@@ -1,6 +1,6 @@
 use Rattle.std.proofs.Common.{◌≡◌, ◌≤◌, ◌+◌, take}
 use Rattle.never_heap.specs.Graphs.{Graph}
-use Rattle.heap_pictures.specs.Plans.{graph_after}
+use Rattle.saved_heap.specs.heap_pictures.Plans.{graph_after}
 use Rattle.control_heap.specs.Controls.{asked}
 use Rattle.graph_view.specs.Shown.{Leaves}
 use Rattle.saved_heap.specs.Renewals.{HasBuilt}

@@ -1,4 +1,4 @@
-use Rattle.heap_pictures.specs.Pictures.{content_of}
+use Rattle.saved_heap.specs.heap_pictures.Pictures.{content_of}
 use Rattle.saved_heap.proofs.Loaded.{renewed, renewed_built, renewed_not}
 use Rattle.saved_heap.proofs.renewal.renew.Goals as goal
 

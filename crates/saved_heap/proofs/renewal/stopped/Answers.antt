@@ -1,8 +1,8 @@
 use Rattle.std.proofs.Common.{◌≤◌, ap, refl, subst, arith, length}
-use Rattle.heap_pictures.specs.declared.needs.Needs.{Needs}
-use Rattle.heap_pictures.specs.Pictures.{content_of}
-use Rattle.heap_pictures.specs.Plans.{plan_of}
-use Rattle.heap_pictures.proofs.Turns.{count_is}
+use Rattle.saved_heap.specs.declared.heap_pictures.needs.Needs.{Needs}
+use Rattle.saved_heap.specs.heap_pictures.Pictures.{content_of}
+use Rattle.saved_heap.specs.heap_pictures.Plans.{plan_of}
+use Rattle.saved_heap.proofs.heap_pictures.Turns.{count_is}
 use Rattle.saved_heap.specs.Faults.{StopsBuilding}
 use Rattle.saved_heap.proofs.Enough.{Heaps, Lives, live_lacks}
 use Rattle.saved_heap.proofs.renewal.stopped.Goals as goal

@@ -1,7 +1,7 @@
 use Rattle.std.proofs.Common.{◌≡◌, ◌∙◌, ap, refl, subst, sym, arith, length, ◌≤◌}
-use Rattle.heap_pictures.specs.declared.needs.Needs.{Needs}
-use Rattle.heap_pictures.specs.Pictures.{content_of}
-use Rattle.heap_pictures.proofs.Turns.{count_is}
+use Rattle.saved_heap.specs.declared.heap_pictures.needs.Needs.{Needs}
+use Rattle.saved_heap.specs.heap_pictures.Pictures.{content_of}
+use Rattle.saved_heap.proofs.heap_pictures.Turns.{count_is}
 use Rattle.saved_heap.proofs.Enough.{object_lacks}
 use Rattle.saved_heap.proofs.renewal.too_large.Goals as goal
 

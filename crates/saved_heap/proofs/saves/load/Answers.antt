@@ -1,4 +1,4 @@
-use Rattle.heap_pictures.specs.Pictures.{content_of}
+use Rattle.saved_heap.specs.heap_pictures.Pictures.{content_of}
 use Rattle.saved_heap.proofs.Loaded.{loaded_again, read_again}
 use Rattle.saved_heap.proofs.saves.load.Goals as goal
 

@@ -1,6 +1,6 @@
 use Rattle.std.proofs.Common.{◌≡◌, arith, false, rules}
-use Rattle.heap_pictures.specs.Pictures.{content_of}
-use Rattle.heap_pictures.proofs.Turns.{count_is}
+use Rattle.saved_heap.specs.heap_pictures.Pictures.{content_of}
+use Rattle.saved_heap.proofs.heap_pictures.Turns.{count_is}
 use Rattle.saved_heap.proofs.saves.save.Goals as goal
 
 pub returns-then-not-some_is_enough-clause-refused :

@@ -1,5 +1,5 @@
 use Rattle.std.proofs.Common.{◌∙◌, subst}
-use Rattle.heap_pictures.specs.Pictures.{view}
+use Rattle.saved_heap.specs.heap_pictures.Pictures.{view}
 use Rattle.saved_heap.specs.Walks.{Reads, state_of}
 use Rattle.saved_heap.proofs.Pictured.{item_read}
 use Rattle.saved_heap.proofs.walk.item_of.Goals as goal

@@ -1,4 +1,4 @@
-use Rattle.heap_pictures.specs.Pictures.{content_of}
+use Rattle.saved_heap.specs.heap_pictures.Pictures.{content_of}
 use Rattle.saved_heap.proofs.Followed.{followed_none}
 use Rattle.saved_heap.proofs.renewal.Renewal.of.Goals as goal
 

@@ -1,5 +1,5 @@
 use Rattle.std.proofs.Common.{◌≡◌, ◌+◌, length, map}
-use Rattle.heap_pictures.specs.Pictures.{view}
+use Rattle.saved_heap.specs.heap_pictures.Pictures.{view}
 use Rattle.saved_heap.specs.Walks.{State, Walks, state_of}
 use Rattle.saved_heap.proofs.walk.reading.read_more.Given as goal
 

@@ -1,6 +1,6 @@
 use Rattle.std.proofs.Common.{◌≡◌, length, map, true, sym, ap, ◌∙◌, rules}
-use Rattle.heap_pictures.specs.Pictures.{view}
-use Rattle.heap_pictures.proofs.Lists.{length_map}
+use Rattle.saved_heap.specs.heap_pictures.Pictures.{view}
+use Rattle.saved_heap.proofs.heap_pictures.Lists.{length_map}
 use Rattle.saved_heap.specs.Walks.{Progress, is_whole, state_of}
 use Rattle.saved_heap.proofs.Pictured.{end_of, ordered, pictured, sound_whole}
 use Rattle.saved_heap.proofs.walk.reading.Reading.finish.Goals as goal

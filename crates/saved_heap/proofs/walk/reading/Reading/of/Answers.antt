@@ -1,5 +1,5 @@
 use Rattle.std.proofs.Common.{ap, map}
-use Rattle.heap_pictures.specs.Pictures.{view}
+use Rattle.saved_heap.specs.heap_pictures.Pictures.{view}
 use Rattle.saved_heap.specs.Walks.{state_of}
 use Rattle.saved_heap.proofs.Pictured.{begun}
 use Rattle.saved_heap.proofs.walk.reading.Reading.of.Goals as goal

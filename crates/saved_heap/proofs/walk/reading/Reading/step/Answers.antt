@@ -1,6 +1,6 @@
 use Rattle.std.proofs.Common.{◌≡◌, ◌<◌, ◌≤◌, ◌+◌, ◌⊎◌, length, map, ap, ◌∙◌, arith, rules}
-use Rattle.heap_pictures.specs.Pictures.{view}
-use Rattle.heap_pictures.proofs.Lists.{length_map}
+use Rattle.saved_heap.specs.heap_pictures.Pictures.{view}
+use Rattle.saved_heap.proofs.heap_pictures.Lists.{length_map}
 use Rattle.saved_heap.specs.Walks.{Progress, State, Walks, state_of}
 use Rattle.saved_heap.proofs.Pictured.{left_over, read_on}
 use Rattle.saved_heap.proofs.walk.reading.Reading.step.Goals as goal

@@ -1,5 +1,0 @@
-use Rattle.heap_pictures.proofs.LiveUpToNames.{live_stays}
-use Rattle.heap_pictures.proofs.command_laws.names_take_no_blocks.Goals as goal
-
-pub returns : goal.returns
-returns c = λ w g z lone also one. live_stays g z lone also one w

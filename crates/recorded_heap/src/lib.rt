@@ -1,6 +1,0 @@
-//! A heap for one thread that writes what it is asked as the text of a job.
-#![tactic(auto)]
-
-mod recorder;
-
-pub use recorder::{Ended, RecordFault, Recorder};
