@@ -9,3 +9,4 @@ pub mod Refusals
 pub mod WayBack
 pub mod Seen
 pub mod Unused
+pub mod graph_view

@@ -18,7 +18,7 @@ use Rattle.control_heap.specs.Calls.{HasAsked, HasTold, stored}
 use Rattle.control_heap.specs.Controls.{Control, HasLeft}
 use Rattle.control_heap.specs.declared.faults.Fault.{Fault}
 use Rattle.control_heap.specs.declared.faults.Fault.TheVariants as faults
-use Rattle.graph_view.specs.Asked.{HasDone}
+use Rattle.control_heap.specs.graph_view.Asked.{HasDone}
 use Rattle.saved_heap.specs.heap_pictures.Following.{HasOneThread}
 use Rattle.heap_structures.specs.declared.cells.Cells.{Cells}
 use Rattle.heap_structures.specs.Cells.{IsCells, held}

@@ -25,9 +25,9 @@ use Rattle.control_heap.specs.Calls.{HasAsked, HasTold}
 use Rattle.control_heap.specs.Controls.{Control, HasLeft, Stands, units}
 use Rattle.control_heap.specs.declared.faults.Fault.{Fault}
 use Rattle.control_heap.specs.declared.faults.Fault.TheVariants as faults
-use Rattle.graph_view.specs.Asked.{HasDone, HasDoneAll, HasUsed}
-use Rattle.graph_view.specs.Shown.{Follows, Goes, HasMetNoFull, IsSmall, Leaves, Shows, graph_told}
-use Rattle.graph_view.proofs.GraphAnswers.{follows_ok, goes_ok, never_ok}
+use Rattle.control_heap.specs.graph_view.Asked.{HasDone, HasDoneAll, HasUsed}
+use Rattle.control_heap.specs.graph_view.Shown.{Follows, Goes, HasMetNoFull, IsSmall, Leaves, Shows, graph_told}
+use Rattle.control_heap.proofs.graph_view.GraphAnswers.{follows_ok, goes_ok, never_ok}
 use Rattle.saved_heap.specs.heap_pictures.Following.{HasOneThread}
 use Rattle.heap_structures.specs.declared.cells.Cells.{Cells}
 use Rattle.heap_structures.specs.Cells.{IsCells, IsPlaced, Spares}

@@ -13,9 +13,9 @@ use Rattle.never_heap.proofs.StepAnswers.{others_have_none, owes_told, step_not_
 use Rattle.heap_system.specs.Lives.{objects_of}
 use Rattle.heap_system.specs.Machines.{Run}
 use Rattle.control_heap.specs.Controls.{Control, Stands}
-use Rattle.graph_view.specs.Asked.{HasDone, HasDoneAll, HasUsed}
-use Rattle.graph_view.specs.Shown.{Follows, Goes, HasMetNoFull, IsSmall, Leaves, Shows, graph_told}
-use Rattle.graph_view.proofs.GraphAnswers.{follows_ok, goes_ok, never_ok}
+use Rattle.control_heap.specs.graph_view.Asked.{HasDone, HasDoneAll, HasUsed}
+use Rattle.control_heap.specs.graph_view.Shown.{Follows, Goes, HasMetNoFull, IsSmall, Leaves, Shows, graph_told}
+use Rattle.control_heap.proofs.graph_view.GraphAnswers.{follows_ok, goes_ok, never_ok}
 use Rattle.saved_heap.specs.heap_pictures.Following.{HasOneThread}
 use Rattle.saved_heap.proofs.heap_pictures.Following.{thread_of_replay}
 use Rattle.heap_structures.specs.Heaps.{Any, Small, Always, Has, IsQuiet, Sight, Took}

@@ -20,7 +20,7 @@ use Rattle.never_heap.specs.LiveBlocks.{blocks_of_kind, live_blocks, object_bloc
 use Rattle.control_heap.specs.Controls.{Control, HasLeft, units}
 use Rattle.control_heap.specs.declared.faults.Fault.{Fault}
 use Rattle.control_heap.specs.declared.faults.Fault.TheVariants as faults
-use Rattle.graph_view.specs.Shown.{HasMetNoFull}
+use Rattle.control_heap.specs.graph_view.Shown.{HasMetNoFull}
 use Rattle.heap_structures.specs.declared.alarms.Alarm.{Alarm}
 use Rattle.heap_structures.specs.declared.alarms.AlarmList.{AlarmList}
 use Rattle.heap_structures.specs.declared.alarms.Raised.{Raised}

@@ -20,7 +20,7 @@ use Rattle.rate_plan.proofs.Rates.{rate_low}
 use Rattle.heap_system.proofs.TextLives.{one_owes}
 use Rattle.control_heap.specs.Controls.{Control, asked, units}
 use Rattle.control_heap.specs.declared.faults.Fault.{Fault}
-use Rattle.graph_view.specs.Shown.{IsSmall}
+use Rattle.control_heap.specs.graph_view.Shown.{IsSmall}
 use Rattle.heap_structures.specs.declared.alarms.AlarmList.{AlarmList}
 use Rattle.heap_structures.specs.declared.cells.Cells.{Cells}
 use Rattle.heap_structures.specs.declared.records.Records.{Records}

@@ -12,7 +12,7 @@ use Rattle.heap_system.specs.Lives.{most_commands, most_objects, most_units}
 use Rattle.control_heap.specs.Controls.{Control, asked, units}
 use Rattle.control_heap.specs.declared.faults.Fault.{Fault}
 use Rattle.control_heap.specs.declared.faults.Fault.TheVariants as faults
-use Rattle.graph_view.specs.Shown.{HasMetNoFull, Leaves, Shows}
+use Rattle.control_heap.specs.graph_view.Shown.{HasMetNoFull, Leaves, Shows}
 use Rattle.heap_structures.specs.Cells.{IsCells, Spares, held}
 use Rattle.heap_structures.specs.declared.cells.Cells.{Cells}
 

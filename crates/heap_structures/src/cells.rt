@@ -7,7 +7,7 @@ ghost use Rattle.never_heap.specs.declared.Command.TheVariants.{Arr};
 ghost use Rattle.never_heap.specs.Graphs.{Graph};
 ghost use Rattle.control_heap.specs.Controls.{HasLeft};
 ghost use Rattle.saved_heap.specs.heap_pictures.UpToNames.{AreOneUpToNames};
-ghost use Rattle.graph_view.specs.Shown.{Leaves};
+ghost use Rattle.control_heap.specs.graph_view.Shown.{Leaves};
 ghost use Rattle.heap_structures.specs.declared.cells.Cells.{Cells};
 ghost use Rattle.heap_structures.specs.Cells.{HasPlace, IsCells, held};
 ghost use Rattle.heap_structures.specs.Heaps.{Does, Fills, Has, Ready, Sight, Takes};
@@ -18,8 +18,7 @@ ghost use Rattle.heap_structures.specs.Rings.{IsNoTarget};
 use crate::laws::quiet_commands_keep_graphs;
 use crate::places::REGISTERS;
 use block_store::{Name, Value};
-use control_heap::{ControlHeap, Fault, histories_are_right};
-use graph_view::lives_add_up;
+use control_heap::{ControlHeap, Fault, histories_are_right, lives_add_up};
 use never_heap::live_grows;
 
 /// An array of `size` values. Register `base` refers to it; register `spare` is the structure's

@@ -8,15 +8,14 @@ ghost use Rattle.never_heap.specs.declared.Command.{Command};
 ghost use Rattle.never_heap.specs.Graphs.{Graph};
 ghost use Rattle.never_heap.specs.Steps.{step};
 ghost use Rattle.control_heap.specs.Controls.{Control};
-ghost use Rattle.graph_view.specs.Asked.{HasDone};
+ghost use Rattle.control_heap.specs.graph_view.Asked.{HasDone};
 ghost use Rattle.heap_structures.specs.declared.cells.Cells.{Cells};
 ghost use Rattle.heap_structures.specs.Cells.{IsNone, Spares};
 ghost use Rattle.heap_structures.specs.Heaps.{Has, IsQuiet, Sight, Took};
 ghost use Rattle.heap_structures.specs.Rings.{IsRound};
 
 use block_store::Width;
-use control_heap::histories_are_right;
-use graph_view::lives_add_up;
+use control_heap::{histories_are_right, lives_add_up};
 use never_heap::{Command, live_grows};
 
 /// A command that makes neither an object nor a unit is answered as the graph says, whatever is

@@ -18,8 +18,7 @@ mod stops;
 mod texts;
 
 use block_store::{Config, Width};
-use control_heap::{Fault, OpenFault};
-use graph_view::shown_heaps_met_no_full;
+use control_heap::{Fault, OpenFault, shown_heaps_met_no_full};
 use heap_structures::{Sample, Trend};
 use std::alloc::Global;
 pub use stops::{Stop, Why, report_with_status, say_stop};

@@ -31,9 +31,9 @@ use Rattle.control_heap.specs.declared.control.OpenFault.TheVariants as opening
 use Rattle.control_heap.specs.declared.control.Refused.{Refused}
 use Rattle.control_heap.specs.Controls.{CanOpen, Control, HasAnswered, HasLeft, Stands, asked, units}
 use Rattle.control_heap.specs.Refusals.{IsOpenFault, IsRefused}
-use Rattle.graph_view.specs.Asked.{HasDone, HasDoneAll, HasRoomFor, RefusesOne}
-use Rattle.graph_view.specs.Shown.{AllAreSmall, HasMetNoFull, IsSmall, StaySmall}
-use Rattle.graph_view.proofs.GraphAnswers.{never_ok}
+use Rattle.control_heap.specs.graph_view.Asked.{HasDone, HasDoneAll, HasRoomFor, RefusesOne}
+use Rattle.control_heap.specs.graph_view.Shown.{AllAreSmall, HasMetNoFull, IsSmall, StaySmall}
+use Rattle.control_heap.proofs.graph_view.GraphAnswers.{never_ok}
 use Rattle.saved_heap.specs.declared.faults.CopyFault.{CopyFault}
 use Rattle.saved_heap.specs.declared.faults.CopyFault.TheVariants as copy_faults
 use Rattle.saved_heap.specs.declared.faults.RenewFault.{RenewFault}

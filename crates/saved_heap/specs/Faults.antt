@@ -14,8 +14,8 @@ use Rattle.saved_heap.specs.heap_pictures.Reading.{picture_at}
 use Rattle.control_heap.specs.Calls.{refused_text}
 use Rattle.control_heap.specs.Controls.{Control, HasAnswered}
 use Rattle.control_heap.specs.Refusals.{IsOpenFault, IsRefused, open_fault_text}
-use Rattle.graph_view.specs.Asked.{HasDone}
-use Rattle.graph_view.specs.Shown.{Leaves}
+use Rattle.control_heap.specs.graph_view.Asked.{HasDone}
+use Rattle.control_heap.specs.graph_view.Shown.{Leaves}
 use Rattle.saved_heap.specs.declared.faults.CopyFault.{CopyFault}
 use Rattle.saved_heap.specs.declared.faults.CopyFault.TheVariants as copy_faults
 use Rattle.saved_heap.specs.declared.faults.LoadFault.{LoadFault}

@@ -11,8 +11,8 @@ use Rattle.saved_heap.specs.heap_pictures.UpToNames.{AreOneUpToNames}
 use Rattle.heap_system.specs.Machines.{Run}
 use Rattle.control_heap.specs.Controls.{Control, Stands, asked, units}
 use Rattle.control_heap.specs.WayBack.{AllDone, NoneFull}
-use Rattle.graph_view.specs.Asked.{HasDoneAll}
-use Rattle.graph_view.specs.Shown.{Leaves}
+use Rattle.control_heap.specs.graph_view.Asked.{HasDoneAll}
+use Rattle.control_heap.specs.graph_view.Shown.{Leaves}
 use Rattle.saved_heap.specs.Orders.{IsInOrder}
 
 -- the new heap, the commands that build it, how many of them are done, and for how many more there

@@ -9,7 +9,7 @@ ghost use Rattle.saved_heap.specs.heap_pictures.Plans.{graph_after, plan_of};
 ghost use Rattle.block_store.specs.declared.Config.{Config};
 ghost use Rattle.control_heap.specs.Controls.{CanOpen, Control, asked};
 ghost use Rattle.control_heap.specs.Unused.{IsUnused};
-ghost use Rattle.graph_view.specs.Shown.{Leaves};
+ghost use Rattle.control_heap.specs.graph_view.Shown.{Leaves};
 ghost use Rattle.saved_heap.specs.Follows.{HasFollowed, IsFollowed};
 ghost use Rattle.saved_heap.specs.Renewals.{HasBuilt, IsBuilt, IsBuiltFrom, IsOpened, ShowOneGraph, ShowsPicture, ShowsUpToNames, rest_of};
 ghost use Rattle.saved_heap.specs.declared.faults.OnFault.TheVariants.{NotAllowed, Used};
@@ -24,9 +24,10 @@ use crate::heap_pictures::{
 };
 use crate::{CopyFault, OnFault, RenewFault, picture_of};
 use block_store::Config;
-use control_heap::{ControlHeap, histories_are_right};
+use control_heap::{
+    ControlHeap, ask, histories_are_right, lives_add_up, small_histories_are_shown,
+};
 pub use follow::Behind;
-use graph_view::{ask, lives_add_up, small_histories_are_shown};
 use never_heap::{Command, Reply, live_grows, opening_blocks_are_live};
 use rate_plan::one_rate;
 use std::alloc::Global;

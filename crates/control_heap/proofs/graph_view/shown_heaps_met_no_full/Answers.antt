@@ -1,5 +1,5 @@
-use Rattle.graph_view.proofs.GraphAnswers.{starts_small}
-use Rattle.graph_view.proofs.shown_heaps_met_no_full.Goals as goal
+use Rattle.control_heap.proofs.graph_view.GraphAnswers.{starts_small}
+use Rattle.control_heap.proofs.graph_view.shown_heaps_met_no_full.Goals as goal
 
 pub returns : goal.returns
 returns c h g s =

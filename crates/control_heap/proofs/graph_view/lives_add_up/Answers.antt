@@ -1,5 +1,5 @@
-use Rattle.graph_view.proofs.LifeUse.{used, fits}
-use Rattle.graph_view.proofs.lives_add_up.Goals as goal
+use Rattle.control_heap.proofs.graph_view.LifeUse.{used, fits}
+use Rattle.control_heap.proofs.graph_view.lives_add_up.Goals as goal
 
 pub returns-clause-used : goal.returns-clause-used
 returns-clause-used c =

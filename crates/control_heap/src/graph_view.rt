@@ -1,5 +1,4 @@
 //! A heap that does one command at a time, described by the graph of its objects.
-#![tactic(auto)]
 
 ghost use Rattle.std.specs.Prelude.{◌≡◌, ◌≤◌, ◌<◌, ◌+◌, ◌*◌, List, IfOk, IfErr, OnOk, OnErr};
 ghost use Rattle.block_store.specs.declared.Config.{Config};
@@ -12,12 +11,12 @@ ghost use Rattle.heap_system.specs.Machines.{Run};
 ghost use Rattle.control_heap.specs.declared.control.Refused.{Refused};
 ghost use Rattle.control_heap.specs.Controls.{Control, Stands, CanOpen, HasAnswered, asked, units};
 ghost use Rattle.control_heap.specs.Refusals.{IsOpenFault, IsRefused};
-ghost use Rattle.graph_view.specs.Asked.{HasDone, HasDoneAll, HasReplied, RefusesOne, HasRoomFor, HasUsed};
+ghost use Rattle.control_heap.specs.graph_view.Asked.{HasDone, HasDoneAll, HasReplied, RefusesOne, HasRoomFor, HasUsed};
 ghost use Rattle.control_heap.specs.WayBack.{AllDone};
-ghost use Rattle.graph_view.specs.Shown.{Shows, HasMetNoFull, Leaves, Goes, IsSmall, StaySmall, Follows, AllFollow, AllAreSmall, AllStaySmall, graph_at_last};
+ghost use Rattle.control_heap.specs.graph_view.Shown.{Shows, HasMetNoFull, Leaves, Goes, IsSmall, StaySmall, Follows, AllFollow, AllAreSmall, AllStaySmall, graph_at_last};
 
+use crate::{ControlHeap, OpenFault, Refused, histories_are_right};
 use block_store::Config;
-use control_heap::{ControlHeap, OpenFault, Refused, histories_are_right};
 use never_heap::{Command, Reply};
 use std::alloc::Global;
 

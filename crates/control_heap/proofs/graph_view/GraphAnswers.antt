@@ -23,7 +23,7 @@ use Rattle.control_heap.specs.Growth.{run_grown}
 use Rattle.control_heap.specs.WayBack.{StartsSmallFrom}
 use Rattle.control_heap.proofs.Items.{Added, added_alone}
 use Rattle.control_heap.proofs.WayBacks.{licensed_behind, none_from}
-use Rattle.graph_view.specs.Shown.{IsSmall, StaySmall, Shows, HasMetNoFull, Leaves, Follows, Goes, graph_told}
+use Rattle.control_heap.specs.graph_view.Shown.{IsSmall, StaySmall, Shows, HasMetNoFull, Leaves, Follows, Goes, graph_told}
 
 pub small_append : (c : Config) (g : Graph) (h k : List HistoryItem) → StaySmall c g h
     → StaySmall c (replay_from g h) k → StaySmall c g (h ++ k)

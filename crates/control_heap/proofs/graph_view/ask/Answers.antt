@@ -5,9 +5,9 @@ use Rattle.never_heap.specs.Bounds.{IsCommandInBounds}
 use Rattle.heap_system.specs.Lives.{objects_of}
 use Rattle.control_heap.specs.declared.control.Refused.{Refused}
 use Rattle.control_heap.specs.Controls.{Control, HasLeft, HasAnswered, asked}
-use Rattle.graph_view.specs.Asked.{HasDone}
-use Rattle.graph_view.proofs.GraphAnswers.{follows_ok, goes_ok, never_ok}
-use Rattle.graph_view.proofs.ask.Goals as goal
+use Rattle.control_heap.specs.graph_view.Asked.{HasDone}
+use Rattle.control_heap.proofs.graph_view.GraphAnswers.{follows_ok, goes_ok, never_ok}
+use Rattle.control_heap.proofs.graph_view.ask.Goals as goal
 
 pub returns-clause-shown : goal.returns-clause-shown
 returns-clause-shown c =

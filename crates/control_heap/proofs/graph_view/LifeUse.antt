@@ -14,7 +14,7 @@ use Rattle.heap_system.specs.Machines.{Run}
 use Rattle.control_heap.specs.Controls.{Control, Stands, Answers, entries_in, units}
 use Rattle.control_heap.specs.declared.control.Refused.{Refused}
 use Rattle.control_heap.specs.declared.control.Refused.TheVariants.{OutOfBounds, NoLifeLeft}
-use Rattle.graph_view.specs.Asked.{HasDone, HasDoneAll, RefusesOne, HasRoomFor, HasUsed}
+use Rattle.control_heap.specs.graph_view.Asked.{HasDone, HasDoneAll, RefusesOne, HasRoomFor, HasUsed}
 
 work_none : (is : List HistoryItem) → entries_in is ≡ [] → work_in is ≡ 0
 work_none [] e = refl

@@ -1,8 +1,8 @@
 use Rattle.std.proofs.Common.{◌∙◌, ◌<◌, drop, length, arith}
 use Rattle.std.proofs.lemmas.List.{drop_all}
-use Rattle.graph_view.specs.Shown.{HasMetNoFull, Shows}
-use Rattle.graph_view.proofs.Leading.{done_on, leads_on, led, refused_on, replied, replied_on}
-use Rattle.graph_view.proofs.ask_all.Goals as goal
+use Rattle.control_heap.specs.graph_view.Shown.{HasMetNoFull, Shows}
+use Rattle.control_heap.proofs.graph_view.Leading.{done_on, leads_on, led, refused_on, replied, replied_on}
+use Rattle.control_heap.proofs.graph_view.ask_all.Goals as goal
 
 pub loop-command-preserved : goal.loop-command-preserved
 loop-command-preserved c =

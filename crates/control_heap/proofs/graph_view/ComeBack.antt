@@ -17,8 +17,8 @@ use Rattle.control_heap.specs.Controls.{Control, Stands, Answers, units}
 use Rattle.control_heap.specs.WayBack.{AllDone, StartsSmallFrom}
 use Rattle.control_heap.proofs.Pace.{Onward, onward_on}
 use Rattle.control_heap.proofs.WayBacks.{command_at, few_cycles, paced}
-use Rattle.graph_view.specs.Shown.{IsSmall, StaySmall, Leaves, Shows, AllStaySmall, graph_at_last, graph_told}
-use Rattle.graph_view.proofs.GraphAnswers.{HasOne, one_entry, own_items, small_append, small_behind, small_last, told_is}
+use Rattle.control_heap.specs.graph_view.Shown.{IsSmall, StaySmall, Leaves, Shows, AllStaySmall, graph_at_last, graph_told}
+use Rattle.control_heap.proofs.graph_view.GraphAnswers.{HasOne, one_entry, own_items, small_append, small_behind, small_last, told_is}
 
 module _ (c : Config) (rate : ℕ) (planned : IsRate c rate) where
   record Told (z : Control) (ks : List Command) (ys : List Reply) (g : Graph) (r : Run) (from : RunTallied c rate r) : Type 0 where
