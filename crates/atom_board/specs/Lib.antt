@@ -4,3 +4,4 @@ pub mod LoneTurns
 pub mod Mutators
 pub mod Ports
 pub mod ThreadMemories
+pub mod threaded_runs

@@ -9,6 +9,7 @@ mod mutator;
 mod port;
 mod rules;
 mod telling;
+mod threaded_runs;
 
 pub use board::AtomBoard;
 pub use closed::Closed;
@@ -16,3 +17,4 @@ pub use driver::drives;
 pub use laws::{closed_runs_show_their_logs, turns_lengthen_the_list};
 pub use mutator::Mutator;
 pub use rules::{Both, Cut, Held, Law, Turned, View};
+pub use threaded_runs::run_job;

@@ -12,8 +12,8 @@ use Rattle.array_tables.specs.handle_table.Handles.{rows_of, command_at, all_dee
 use Rattle.array_tables.proofs.handle_table.Jobs.{jobs_fit}
 use Rattle.array_tables.proofs.handle_table.MakeBeforeUse.{fates_are_told, makes_are_shown}
 use Rattle.array_tables.proofs.handle_table.SlotApplication.{slots_are_kept}
-use Rattle.threaded_runs.specs.EndedRuns.{job_of}
-use Rattle.threaded_runs.proofs.OfJob.{run_of, parts_of}
+use Rattle.atom_board.specs.threaded_runs.EndedRuns.{job_of}
+use Rattle.atom_board.proofs.threaded_runs.OfJob.{run_of, parts_of}
 use Rattle.trace_text.specs.Reading.{tokenized}
 use Rattle.array_scripts.specs.Answers.{each_from}
 use Rattle.array_scripts.specs.Runnable.{IsRunnable}

@@ -12,7 +12,7 @@ use Rattle.array_tables.specs.operations.Linearizations.{Call, IsLinearization}
 use Rattle.array_tables.specs.declared.handle_table.operation.Operation.{Operation}
 use Rattle.array_tables.specs.handle_table.Fates.{ShowMakes, TellFates}
 use Rattle.array_tables.specs.handle_table.Handles.{Deed, Answer, all_deeds, answer, slots_after, empty_slots, rows_of, decides, ends}
-use Rattle.threaded_runs.specs.EndedRuns.{HasHistory, job_of}
+use Rattle.atom_board.specs.threaded_runs.EndedRuns.{HasHistory, job_of}
 use Rattle.rt_handles.specs.declared.exit.HandleExit.{HandleExit}
 use Rattle.rt_handles.specs.Lines.{handle_kind}
 use Rattle.rt_handles.specs.Scripts.{job_of_script}

@@ -13,7 +13,7 @@ use Rattle.rate_plan.specs.Rates.{IsAdmitted}
 use Rattle.rt_mail.specs.said_numbers.Said.{numbers_said, says_in, AreNumbers}
 use Rattle.rt_mail.proofs.said_numbers.NumbersPerThread.{few_said}
 use Rattle.rt_mail.proofs.said_numbers.NumberBounds.{said_numbers_small}
-use Rattle.threaded_runs.specs.EndedRuns.{HasHistory, commands_of, job_of}
+use Rattle.atom_board.specs.threaded_runs.EndedRuns.{HasHistory, commands_of, job_of}
 use Rattle.trace_text.specs.Jobs.{Job, IsJobInBounds}
 use Rattle.rt_mail.specs.Calls.{HasFirst, HasMail}
 use Rattle.rt_mail.specs.Recalled.{HasRings, recalled_in}

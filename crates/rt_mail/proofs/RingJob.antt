@@ -17,8 +17,8 @@ use Rattle.array_tables.proofs.number_rings.Chunks.{rows_long}
 use Rattle.array_tables.proofs.number_rings.Jobs.{rings_fit, rings_admitted}
 use Rattle.array_tables.proofs.number_rings.RingRuns.{rings_show, own_script, scripts_long}
 use Rattle.rate_plan.specs.Rates.{IsAdmitted}
-use Rattle.threaded_runs.specs.EndedRuns.{HasHistory, commands_of, job_of}
-use Rattle.threaded_runs.proofs.OfJob.{run_of, parts_of}
+use Rattle.atom_board.specs.threaded_runs.EndedRuns.{HasHistory, commands_of, job_of}
+use Rattle.atom_board.proofs.threaded_runs.OfJob.{run_of, parts_of}
 use Rattle.trace_text.specs.Jobs.{Job}
 use Rattle.trace_text.specs.Jobs as jobs
 use Rattle.rt_mail.specs.Recalled.{ring_job, HasRings, replies_of, recalled_in}

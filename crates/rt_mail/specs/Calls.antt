@@ -9,7 +9,7 @@ use Rattle.never_heap.specs.Histories.{parts}
 use Rattle.array_tables.specs.number_rings.Rings.{last_numbers}
 use Rattle.rate_plan.specs.Rates.{IsAdmitted}
 use Rattle.rt_mail.specs.said_numbers.Said.{numbers_said}
-use Rattle.threaded_runs.specs.EndedRuns.{HasHistory, job_of}
+use Rattle.atom_board.specs.threaded_runs.EndedRuns.{HasHistory, job_of}
 use Rattle.trace_text.specs.Jobs.{input_limit}
 use Rattle.rt_mail.specs.declared.exit.MailExit.{MailExit}
 use Rattle.rt_mail.specs.Recalled.{HasRings, recalled_in}

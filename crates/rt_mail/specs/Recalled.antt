@@ -5,7 +5,7 @@ use Rattle.never_heap.specs.declared.Entry.{Entry}
 use Rattle.never_heap.specs.declared.Reply.{Reply}
 use Rattle.never_heap.specs.Licensed.{NoFulls}
 use Rattle.array_tables.specs.number_rings.Rings.{ring_config, ring_traces, recalled}
-use Rattle.threaded_runs.specs.EndedRuns.{HasHistory, job_of}
+use Rattle.atom_board.specs.threaded_runs.EndedRuns.{HasHistory, job_of}
 use Rattle.trace_text.specs.Jobs.{Job}
 
 -- the job of threads that keep these numbers, each those of one list in a ring of its own

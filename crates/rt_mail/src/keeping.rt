@@ -3,19 +3,18 @@
 ghost use Rattle.std.specs.Prelude.{◌≡◌, ◌≤◌, map, length, IfOk};
 ghost use Rattle.std.specs.List.{AllByRecursion};
 ghost use Rattle.array_tables.specs.number_rings.Rings.{IsKeepable, ring_traces};
-ghost use Rattle.threaded_runs.specs.EndedRuns.{commands_of};
+ghost use Rattle.atom_board.specs.threaded_runs.EndedRuns.{commands_of};
 ghost use Rattle.rt_mail.specs.Recalled.{HasRings, ring_job, recalled_in};
 
 use crate::mail_post::Taken;
 use array_tables::number_rings::{config_of_rings, recalled_numbers, trace_of_ring};
-use atom_board::Closed;
+use atom_board::{Closed, run_job};
 use block_store::OutOfMemory;
 use heap_system::NoPace;
 use never_heap::Logs;
 use std::alloc::Global;
 use std::sync::Wait;
 use std::thread::Threads;
-use threaded_runs::run_job;
 use trace_text::Job;
 
 /// Keeps what was taken of so many threads in rings on a heap of its own, and gives the run and the

@@ -10,8 +10,8 @@ use Rattle.array_tables.specs.declared.tag_table.operation.Operation.{Operation}
 use Rattle.array_tables.specs.tag_table.Tables.{Tag, rows_of, command_at}
 use Rattle.array_tables.proofs.tag_table.Jobs.{jobs_fit}
 use Rattle.array_tables.proofs.tag_table.TableApplication.{tables_are_kept}
-use Rattle.threaded_runs.specs.EndedRuns.{job_of}
-use Rattle.threaded_runs.proofs.OfJob.{run_of, parts_of}
+use Rattle.atom_board.specs.threaded_runs.EndedRuns.{job_of}
+use Rattle.atom_board.proofs.threaded_runs.OfJob.{run_of, parts_of}
 use Rattle.trace_text.specs.Reading.{tokenized}
 use Rattle.array_scripts.specs.Answers.{each_from}
 use Rattle.array_scripts.specs.Runnable.{IsRunnable}

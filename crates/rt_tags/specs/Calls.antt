@@ -11,7 +11,7 @@ use Rattle.never_heap.specs.Licensed.{NoFulls}
 use Rattle.array_tables.specs.operations.Linearizations.{Call, IsLinearization}
 use Rattle.array_tables.specs.declared.tag_table.operation.Operation.{Operation}
 use Rattle.array_tables.specs.tag_table.Tables.{Tag, answer, table_after, empty_table, rows_of, decides, ends}
-use Rattle.threaded_runs.specs.EndedRuns.{HasHistory, job_of}
+use Rattle.atom_board.specs.threaded_runs.EndedRuns.{HasHistory, job_of}
 use Rattle.rt_tags.specs.declared.exit.TagExit.{TagExit}
 use Rattle.rt_tags.specs.Lines.{tag_kind}
 use Rattle.rt_tags.specs.Scripts.{job_of_script}

@@ -27,8 +27,8 @@ use Rattle.rtheap_core.specs.EndedRuns.{EndsIn, EndsBy, job_of, run_of}
 use Rattle.rtheap_core.specs.Outcomes.{HasTotals}
 use Rattle.rtheap_core.specs.Refusals.{LeavesUndone}
 use Rattle.rtheap_core.specs.Outcomes as outcomes
-use Rattle.threaded_runs.specs.EndedRuns.{commands_of}
-use Rattle.threaded_runs.proofs.Shown.{TurnLaws, has_history, history_is, turned_is, traces_logged}
+use Rattle.atom_board.specs.threaded_runs.EndedRuns.{commands_of}
+use Rattle.atom_board.proofs.threaded_runs.Shown.{TurnLaws, has_history, history_is, turned_is, traces_logged}
 
 after_traces : (c : Config) (r : Run) (ts : List ℕ)
     → traces_of (after_turns c r ts).state ≡ traces_of r.state

@@ -10,7 +10,7 @@ use Rattle.heap_system.specs.Systems as systems
 use Rattle.schedules.specs.declared.Schedule.{Schedule}
 use Rattle.schedules.specs.Replays.{IsReplayed}
 use Rattle.schedules.specs.Schedules.{turns_of}
-use Rattle.threaded_runs.specs.EndedRuns as runs
+use Rattle.atom_board.specs.threaded_runs.EndedRuns as runs
 use Rattle.trace_text.specs.Jobs.{Job}
 use Rattle.trace_text.specs.Orders.{text_in_order}
 use Rattle.trace_text.specs.Texts.{text_by_threads}

@@ -5,7 +5,7 @@ use Rattle.heap_system.specs.Machines as machines
 use Rattle.heap_system.specs.Machines.{IsRunOf}
 use Rattle.never_heap.specs.Licensed.{StartsSmall}
 use Rattle.schedules.specs.declared.Schedule.{Schedule}
-use Rattle.threaded_runs.specs.EndedRuns.{HasOwnTurns}
+use Rattle.atom_board.specs.threaded_runs.EndedRuns.{HasOwnTurns}
 use Rattle.rtheap_core.specs.declared.exit.RunEnd.{RunEnd}
 use Rattle.rtheap_core.specs.declared.exit.RunEnd.TheVariants.{Replayed, Ran}
 use Rattle.rtheap_core.specs.declared.task.Task.TheVariants.{Run, Replay}

@@ -10,7 +10,7 @@ use Rattle.heap_system.specs.Systems.{Finish}
 use Rattle.rate_plan.specs.Rates.{IsAdmitted, IsRate}
 use Rattle.schedules.specs.declared.Schedule.{Schedule}
 use Rattle.schedules.specs.declared.Schedule.TheVariants.{Serial}
-use Rattle.threaded_runs.specs.EndedRuns.{HasOwnTurns}
+use Rattle.atom_board.specs.threaded_runs.EndedRuns.{HasOwnTurns}
 use Rattle.trace_text.specs.Jobs.{Job}
 use Rattle.trace_text.specs.Orders.{IsOrderOf}
 use Rattle.rtheap_core.specs.declared.exit.RunEnd.{RunEnd}

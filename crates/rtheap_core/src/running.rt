@@ -16,13 +16,12 @@ ghost use Rattle.rtheap_core.specs.Refusals.{IsCause};
 use crate::exit::{Exit, RunEnd};
 use crate::reading::planned_job;
 use crate::telling::refused;
-use atom_board::Closed;
+use atom_board::{Closed, run_job};
 use exit_statuses::Refusal;
 use heap_system::Pace;
 use std::alloc::Global;
 use std::sync::Wait;
 use std::thread::Threads;
-use threaded_runs::run_job;
 use trace_text::{Sink, Source, WRITE_FAULT, write_run};
 
 /// Reads a job, runs its threads beside each other, and writes the run by threads.

@@ -12,7 +12,7 @@ use Rattle.exit_statuses.specs.Exits.{IsWritten}
 use Rattle.exit_statuses.specs.Sides.{Sides}
 use Rattle.never_heap.specs.declared.Command.{Command}
 use Rattle.never_heap.specs.declared.Reply.{Reply}
-use Rattle.threaded_runs.specs.EndedRuns.{HasHistory, job_of}
+use Rattle.atom_board.specs.threaded_runs.EndedRuns.{HasHistory, job_of}
 use Rattle.array_scripts.specs.declared.script_runs.exit.ScriptExit.{ScriptExit}
 
 -- a run is of the job that scripts make on this heap

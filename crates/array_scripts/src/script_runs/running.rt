@@ -9,17 +9,16 @@ ghost use Rattle.exit_statuses.specs.Sides.{sides};
 ghost use Rattle.never_heap.specs.Jobs.{IsJobInBounds};
 ghost use Rattle.rate_plan.specs.Rates.{IsAdmitted};
 ghost use Rattle.array_scripts.specs.script_runs.Runs.{IsRunOf, HasAnswers};
-ghost use Rattle.threaded_runs.specs.EndedRuns.{HasHistory};
+ghost use Rattle.atom_board.specs.threaded_runs.EndedRuns.{HasHistory};
 
 use crate::{Runnable, all_answers, planned, read_script, traces};
-use atom_board::Closed;
+use atom_board::{Closed, run_job};
 use block_store::{Config, OutOfMemory};
 use exit_statuses::Refusal;
 use heap_system::Pace;
 use std::alloc::Global;
 use std::sync::Wait;
 use std::thread::Threads;
-use threaded_runs::run_job;
 use trace_text::{Job, Source};
 
 /// Reads a script, runs its job, and reads the answers off the logs.

@@ -4,7 +4,7 @@ ghost use Rattle.std.specs.Prelude.{◌≡◌, ◌≤◌, ◌+◌, ◌*◌, map,
 ghost use Rattle.rate_plan.specs.Rates.{IsAdmitted};
 ghost use Rattle.trace_text.specs.Jobs.{IsJobInBounds};
 ghost use Rattle.rt_mail.specs.said_numbers.Said.{numbers_said, says_in};
-ghost use Rattle.threaded_runs.specs.EndedRuns.{HasHistory, HasTurns, job_of};
+ghost use Rattle.atom_board.specs.threaded_runs.EndedRuns.{HasHistory, HasTurns, job_of};
 ghost use Rattle.rt_mail.specs.mail_runs.Rooms.{room_of};
 ghost use Rattle.rt_mail.specs.mail_runs.MailThreads.{AreMailThreads, IsFirst};
 

@@ -1,6 +1,6 @@
 use Rattle.std.proofs.Common.{◌≡◌, refl}
-use Rattle.threaded_runs.specs.EndedRuns.{HasTurns, job_of}
-use Rattle.threaded_runs.proofs.Shown.{run_shows}
+use Rattle.atom_board.specs.threaded_runs.EndedRuns.{HasTurns, job_of}
+use Rattle.atom_board.proofs.threaded_runs.Shown.{run_shows}
 use Rattle.rt_mail.proofs.mail_runs.letters.deliver_through.Given.{Over}
 use Rattle.rt_mail.proofs.mail_runs.letters.deliver_through.Goals as goal
 

@@ -3,7 +3,7 @@ use Rattle.std.proofs.Common.{◌≡◌, subst}
 use Rattle.atom_board.specs.Mutators.{ClosedState}
 use Rattle.never_heap.specs.Histories.{parts}
 use Rattle.never_heap.specs.Runs.{IsRun}
-use Rattle.threaded_runs.specs.EndedRuns.{HasHistory, job_of}
+use Rattle.atom_board.specs.threaded_runs.EndedRuns.{HasHistory, job_of}
 use Rattle.trace_text.specs.Jobs.{Job}
 
 module _ (run : ClosedState) (job : Job) (is : job_of run ≡ job) (ran : HasHistory run) where

@@ -3,10 +3,10 @@ use Rattle.heap_system.specs.Machines.{IsJob}
 use Rattle.heap_system.proofs.TextLives.{job_of_text}
 use Rattle.trace_text.specs.Jobs.{Job}
 use Rattle.atom_board.proofs.Orders.{in_order_each}
-use Rattle.threaded_runs.specs.EndedRuns.{HasTurns, job_of}
-use Rattle.threaded_runs.proofs.Shown.{run_shows}
-use Rattle.threaded_runs.proofs.run_job.Given.{Over}
-use Rattle.threaded_runs.proofs.run_job.Goals as goal
+use Rattle.atom_board.specs.threaded_runs.EndedRuns.{HasTurns, job_of}
+use Rattle.atom_board.proofs.threaded_runs.Shown.{run_shows}
+use Rattle.atom_board.proofs.threaded_runs.run_job.Given.{Over}
+use Rattle.atom_board.proofs.threaded_runs.run_job.Goals as goal
 
 pub close-requires-clause-mutators : goal.close-requires-clause-mutators
 close-requires-clause-mutators g c =

@@ -15,7 +15,7 @@ use Rattle.heap_system.specs.Machines.{Run, IsAfterTurns}
 use Rattle.heap_system.specs.Costs.{units_so_far}
 use Rattle.heap_system.specs.Serials.{AreOfThreads, AreFew}
 use Rattle.heap_system.specs.Systems.{AllDone, IsFinished}
-use Rattle.threaded_runs.specs.EndedRuns.{HasHistory, HasTurns, commands_of, job_of}
+use Rattle.atom_board.specs.threaded_runs.EndedRuns.{HasHistory, HasTurns, commands_of, job_of}
 
 -- the job that was run is the one that is shown
 job_shown : (c : Config) (traces : List (List Command)) (f : ClosedState) → f.config ≡ c

@@ -1,14 +1,13 @@
 //! Running a job on threads: a call of its own for each of its threads, on shared atomic words.
-#![tactic(auto)]
 
 ghost use Rattle.std.specs.Prelude.{◌≡◌, IfOk, true};
 ghost use Rattle.rate_plan.specs.Rates.{IsAdmitted};
 ghost use Rattle.trace_text.specs.Jobs.{IsJobInBounds};
 ghost use Rattle.heap_system.specs.Locals.{is_done};
 ghost use Rattle.atom_board.specs.Mutators.{AreInOrder, AllAreDone, IsLater};
-ghost use Rattle.threaded_runs.specs.EndedRuns.{HasHistory, HasTurns, job_of};
+ghost use Rattle.atom_board.specs.threaded_runs.EndedRuns.{HasHistory, HasTurns, job_of};
 
-use atom_board::{AtomBoard, Closed, Mutator};
+use crate::{AtomBoard, Closed, Mutator};
 use block_store::OutOfMemory;
 use heap_system::{Pace, cycles_cost_few_units, cycles_give_few_blocks, fulls_are_licensed};
 use std::alloc::Global;
