@@ -11,7 +11,8 @@ use heap_system::{Finished, System};
 use never_heap::{Command, Logs, Reply};
 use rate_plan::plan;
 use reference_runs::{Happened, history_of};
-use schedules::{Schedule, replay};
+use rtheap_core::Schedule;
+use rtheap_core::schedules::replay;
 use std::alloc::{AllocError, Global};
 
 /// More turns than any of the jobs takes.

@@ -18,7 +18,8 @@ use reference_runs::{
     Happened, given_in, history_of, in_bounds, is_legal, is_licensed, is_right_work, live_at,
     starts, work,
 };
-use schedules::{Schedule, replay};
+use rtheap_core::Schedule;
+use rtheap_core::schedules::replay;
 use std::alloc::Global;
 use std::process::Abort;
 

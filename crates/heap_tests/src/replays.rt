@@ -10,7 +10,8 @@ ghost use Rattle.heap_system.specs.Systems.{commands_in};
 use block_store::{Config, OutOfMemory, Value, Width};
 use heap_system::System;
 use never_heap::{Command, Item, Logs, Reply};
-use schedules::{Schedule, replay};
+use rtheap_core::Schedule;
+use rtheap_core::schedules::replay;
 use std::alloc::Global;
 
 const TWO: Config = Config {

@@ -5,7 +5,8 @@ ghost use Rattle.trace_text.specs.Jobs.{IsJobInBounds};
 
 use block_store::OutOfMemory;
 use heap_system::System;
-use schedules::{Schedule, replay};
+use rtheap_core::Schedule;
+use rtheap_core::schedules::replay;
 use std::alloc::Global;
 use std::marker::Model;
 use trace_text::Job;

@@ -11,9 +11,9 @@ use Rattle.heap_system.proofs.Rooms.{done_agree}
 use Rattle.rate_plan.specs.declared.PlanFault.{PlanFault}
 use Rattle.rate_plan.specs.declared.PlanFault.TheVariants as plans
 use Rattle.rate_plan.specs.Rates.{IsAdmitted, IsRefusal}
-use Rattle.schedules.specs.declared.Schedule.{Schedule}
-use Rattle.schedules.specs.Schedules.{turns_of}
-use Rattle.schedules.proofs.SameTurns.{first_run, second_run}
+use Rattle.rtheap_core.specs.declared.schedules.Schedule.{Schedule}
+use Rattle.rtheap_core.specs.schedules.Schedules.{turns_of}
+use Rattle.rtheap_core.proofs.schedules.SameTurns.{first_run, second_run}
 use Rattle.trace_text.specs.Jobs.{Job, IsJob, input_limit}
 use Rattle.trace_text.proofs.OneJob.{one_job}
 use Rattle.trace_text.proofs.WholeLaws.{apart}

@@ -8,7 +8,7 @@ use Rattle.exit_statuses.specs.Sides.{IsUnfailed, IsUntouched}
 use Rattle.exit_statuses.proofs.ExitStatuses.{never_done, done_is_ended, refusal_is_ended}
 use Rattle.heap_system.specs.Systems.{Finish}
 use Rattle.heap_system.specs.Systems.{units_of as units_in}
-use Rattle.schedules.specs.declared.Schedule.{Schedule}
+use Rattle.rtheap_core.specs.declared.schedules.Schedule.{Schedule}
 use Rattle.trace_text.specs.Jobs.{input_limit}
 use Rattle.trace_text.specs.JobTexts.{job_text}
 use Rattle.trace_text.specs.Orders.{text_in_order}

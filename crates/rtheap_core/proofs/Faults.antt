@@ -3,7 +3,7 @@ use Rattle.std.proofs.Common.{ℕ, ◌≡◌, List, Result, Ok, Err, IfOk, IfErr
 use Rattle.exit_statuses.specs.Sides.{Sides, IsUnfailed}
 use Rattle.rate_plan.specs.Rates.{IsAdmitted}
 use Rattle.heap_system.specs.Systems.{Finish}
-use Rattle.schedules.specs.declared.Schedule.{Schedule}
+use Rattle.rtheap_core.specs.declared.schedules.Schedule.{Schedule}
 use Rattle.trace_text.specs.Jobs.{Job}
 use Rattle.rtheap_core.specs.declared.exit.RunEnd.TheVariants.{Replayed}
 use Rattle.exit_statuses.specs.declared.refusal.Refusal.{Refusal}

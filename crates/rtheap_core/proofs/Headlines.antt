@@ -7,7 +7,7 @@ use Rattle.atom_board.specs.Mutators.{ClosedState}
 use Rattle.trace_text.specs.Texts.{run_text, text_by_threads}
 use Rattle.heap_system.specs.Systems.{Finish}
 use Rattle.heap_system.specs.Systems.{units_of as units_in}
-use Rattle.schedules.specs.declared.Schedule.{Schedule}
+use Rattle.rtheap_core.specs.declared.schedules.Schedule.{Schedule}
 use Rattle.trace_text.specs.Orders.{text_in_order}
 use Rattle.rtheap_core.specs.declared.exit.RunEnd.TheVariants.{Replayed, Ran}
 use Rattle.rtheap_core.specs.EndedRuns.{HasHistory}

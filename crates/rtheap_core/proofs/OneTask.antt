@@ -1,8 +1,8 @@
 -- Words ask for one task at most.
 use Rattle.std.proofs.Common.{ℕ, ◌≡◌, ◌==◌, cond, List, [], ◌∷◌, Option, Some, None, codes, slice_index, refl, sym, ap, ◌∙◌, subst}
 use Rattle.trace_text.specs.Reading.{digits_on, number_at}
-use Rattle.schedules.specs.declared.Schedule.{Schedule}
-use Rattle.schedules.specs.declared.Schedule.TheVariants.{Robin, Serial, Key}
+use Rattle.rtheap_core.specs.declared.schedules.Schedule.{Schedule}
+use Rattle.rtheap_core.specs.declared.schedules.Schedule.TheVariants.{Robin, Serial, Key}
 use Rattle.rtheap_core.specs.declared.task.Task.{Task}
 use Rattle.rtheap_core.specs.declared.task.Task.TheVariants.{Run, Replay, Plan, Make, Trial}
 use Rattle.rtheap_core.specs.Tasks.{Names, AsksFor}

@@ -5,7 +5,7 @@ use Rattle.never_heap.specs.declared.Item.{Item}
 use Rattle.never_heap.specs.Histories.{HistoryItem, starts_in, work_in}
 use Rattle.never_heap.specs.Orders.{item_of, IsHistoryOf}
 use Rattle.heap_system.specs.Systems.{Finish, units_of}
-use Rattle.schedules.specs.declared.Schedule.{Schedule}
+use Rattle.rtheap_core.specs.declared.schedules.Schedule.{Schedule}
 use Rattle.trace_text.specs.Orders.{IsOrderOf, order_text, text_in_order}
 use Rattle.exit_statuses.specs.Exits.{IsWritten}
 use Rattle.rtheap_core.specs.Outcomes.{IsReplayShown, HasOrder}

@@ -16,10 +16,10 @@ use Rattle.heap_system.proofs.FinishedRun.{all_done, done_run, done_turns, logge
 use Rattle.heap_system.proofs.TurnFacts.{turned_traces}
 use Rattle.heap_system.proofs.SystemStart.{opened_traces}
 use Rattle.rate_plan.specs.Rates.{IsRate}
-use Rattle.schedules.specs.declared.Schedule.{Schedule}
-use Rattle.schedules.specs.declared.Schedule.TheVariants.{Serial}
-use Rattle.schedules.specs.Replays.{IsReplayed, ShowsRun, system_turned, system_after}
-use Rattle.schedules.specs.Schedules.{turns_of}
+use Rattle.rtheap_core.specs.declared.schedules.Schedule.{Schedule}
+use Rattle.rtheap_core.specs.declared.schedules.Schedule.TheVariants.{Serial}
+use Rattle.rtheap_core.specs.schedules.Replays.{IsReplayed, ShowsRun, system_turned, system_after}
+use Rattle.rtheap_core.specs.schedules.Schedules.{turns_of}
 use Rattle.trace_text.specs.Jobs.{Job}
 use Rattle.rtheap_core.specs.declared.exit.RunEnd.TheVariants.{Replayed}
 use Rattle.rtheap_core.specs.declared.trial.Totals.{Totals}

@@ -6,9 +6,9 @@ use Rattle.rate_plan.specs.Rates.{IsAdmitted, IsRate}
 use Rattle.heap_system.specs.Machines.{Run, IsJob, IsOpening}
 use Rattle.heap_system.specs.Serials.{job_bound}
 use Rattle.heap_system.specs.Systems.{Whole, AllDone}
-use Rattle.schedules.specs.declared.Schedule.TheVariants.{Serial}
-use Rattle.schedules.specs.Replays.{IsReplayed, system_after}
-use Rattle.schedules.specs.Schedules.{turns_of}
+use Rattle.rtheap_core.specs.declared.schedules.Schedule.TheVariants.{Serial}
+use Rattle.rtheap_core.specs.schedules.Replays.{IsReplayed, system_after}
+use Rattle.rtheap_core.specs.schedules.Schedules.{turns_of}
 use Rattle.never_heap.specs.Jobs.{IsJobInBounds}
 use Rattle.rtheap_core.proofs.JobTurnBound.{job_low}
 use Rattle.rtheap_core.proofs.Replays.{RunsLaw, StopLaw, IsAfter, is_after, first_turns, sooner, opens_none, all_of_run}

@@ -16,9 +16,9 @@ use Rattle.heap_system.specs.Machines as machines
 use Rattle.heap_system.specs.Serials.{job_bound}
 use Rattle.heap_system.specs.Systems.{AllDone}
 use Rattle.heap_system.proofs.TextLives.{job_of_text}
-use Rattle.schedules.specs.declared.Schedule.{Schedule}
-use Rattle.schedules.specs.declared.Schedule.TheVariants.{Serial}
-use Rattle.schedules.specs.Replays.{IsReplayed}
+use Rattle.rtheap_core.specs.declared.schedules.Schedule.{Schedule}
+use Rattle.rtheap_core.specs.declared.schedules.Schedule.TheVariants.{Serial}
+use Rattle.rtheap_core.specs.schedules.Replays.{IsReplayed}
 use Rattle.trace_text.specs.Jobs.{Job, IsJob, IsInput, input_limit}
 use Rattle.trace_text.proofs.OneJob.{one_job}
 use Rattle.trace_text.proofs.WholeLaws.{apart}

@@ -7,8 +7,8 @@ use Rattle.heap_system.specs.Machines as machines
 use Rattle.rate_plan.specs.declared.PlanFault.{PlanFault}
 use Rattle.heap_system.specs.Serials.{job_bound}
 use Rattle.rate_plan.specs.Rates.{IsAdmitted, IsRate, IsRefusal}
-use Rattle.schedules.specs.declared.Schedule.{Schedule}
-use Rattle.schedules.specs.declared.Schedule.TheVariants.{Serial}
+use Rattle.rtheap_core.specs.declared.schedules.Schedule.{Schedule}
+use Rattle.rtheap_core.specs.declared.schedules.Schedule.TheVariants.{Serial}
 use Rattle.trace_text.specs.JobTexts.{job_text}
 use Rattle.trace_text.specs.Jobs.{Job, IsJob, IsInput, input_limit}
 use Rattle.rtheap_core.specs.declared.exit.Exit.{Exit}

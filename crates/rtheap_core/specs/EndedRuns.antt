@@ -7,9 +7,9 @@ use Rattle.never_heap.specs.Orders.{item_of}
 use Rattle.heap_system.specs.Machines as machines
 use Rattle.heap_system.specs.Systems.{Finish, AllDone}
 use Rattle.heap_system.specs.Systems as systems
-use Rattle.schedules.specs.declared.Schedule.{Schedule}
-use Rattle.schedules.specs.Replays.{IsReplayed}
-use Rattle.schedules.specs.Schedules.{turns_of}
+use Rattle.rtheap_core.specs.declared.schedules.Schedule.{Schedule}
+use Rattle.rtheap_core.specs.schedules.Replays.{IsReplayed}
+use Rattle.rtheap_core.specs.schedules.Schedules.{turns_of}
 use Rattle.atom_board.specs.threaded_runs.EndedRuns as runs
 use Rattle.trace_text.specs.Jobs.{Job}
 use Rattle.trace_text.specs.Orders.{text_in_order}

@@ -6,7 +6,7 @@ use Rattle.block_store.specs.declared.Width.TheVariants.{Four}
 use Rattle.never_heap.specs.declared.Command.{Command}
 use Rattle.never_heap.specs.declared.Command.TheVariants.{New, Arr, Set, Nil, Mov, Get, Put, Len, Same}
 use Rattle.rand_pcg.specs.Lcg.{Lcg}
-use Rattle.schedules.specs.Schedules.{generator, word}
+use Rattle.rtheap_core.specs.schedules.Schedules.{generator, word}
 use Rattle.trace_text.specs.Jobs.{Job}
 
 -- the heap of a generated job

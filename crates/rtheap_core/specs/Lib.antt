@@ -8,3 +8,4 @@ pub mod Outcomes
 pub mod Calls
 pub mod LateFulls
 pub mod OneHistory
+pub mod schedules

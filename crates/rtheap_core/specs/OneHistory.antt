@@ -4,7 +4,7 @@ use Rattle.exit_statuses.specs.Sides.{Sides}
 use Rattle.heap_system.specs.Machines as machines
 use Rattle.heap_system.specs.Machines.{IsRunOf}
 use Rattle.never_heap.specs.Licensed.{StartsSmall}
-use Rattle.schedules.specs.declared.Schedule.{Schedule}
+use Rattle.rtheap_core.specs.declared.schedules.Schedule.{Schedule}
 use Rattle.atom_board.specs.threaded_runs.EndedRuns.{HasOwnTurns}
 use Rattle.rtheap_core.specs.declared.exit.RunEnd.{RunEnd}
 use Rattle.rtheap_core.specs.declared.exit.RunEnd.TheVariants.{Replayed, Ran}

@@ -8,8 +8,8 @@ use Rattle.heap_system.specs.Machines as machines
 use Rattle.heap_system.specs.Serials.{job_bound}
 use Rattle.heap_system.specs.Systems.{Finish}
 use Rattle.rate_plan.specs.Rates.{IsAdmitted, IsRate}
-use Rattle.schedules.specs.declared.Schedule.{Schedule}
-use Rattle.schedules.specs.declared.Schedule.TheVariants.{Serial}
+use Rattle.rtheap_core.specs.declared.schedules.Schedule.{Schedule}
+use Rattle.rtheap_core.specs.declared.schedules.Schedule.TheVariants.{Serial}
 use Rattle.atom_board.specs.threaded_runs.EndedRuns.{HasOwnTurns}
 use Rattle.trace_text.specs.Jobs.{Job}
 use Rattle.trace_text.specs.Orders.{IsOrderOf}

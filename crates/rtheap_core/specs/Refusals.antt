@@ -8,8 +8,8 @@ use Rattle.rate_plan.specs.declared.PlanFault.TheVariants as plans
 use Rattle.rate_plan.specs.Rates.{IsAdmitted, IsRefusal}
 use Rattle.heap_system.specs.Machines.{Run}
 use Rattle.heap_system.specs.Systems.{IsLeastUndone}
-use Rattle.schedules.specs.declared.Schedule.{Schedule}
-use Rattle.schedules.specs.Replays.{IsReplayed}
+use Rattle.rtheap_core.specs.declared.schedules.Schedule.{Schedule}
+use Rattle.rtheap_core.specs.schedules.Replays.{IsReplayed}
 use Rattle.trace_text.specs.Jobs.{Job, IsJob, input_limit}
 use Rattle.trace_text.specs.Refusals.{IsFirstBadLine}
 use Rattle.rtheap_core.specs.declared.task.Task.TheVariants.{Replay}

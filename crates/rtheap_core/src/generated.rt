@@ -5,7 +5,7 @@ ghost use Rattle.std.specs.List.{AllByRecursion};
 ghost use Rattle.never_heap.specs.Bounds.{IsCommandInBounds};
 ghost use Rattle.never_heap.specs.Jobs.{IsTraceInBounds};
 ghost use Rattle.rate_plan.specs.Rates.{IsAdmitted, IsRate};
-ghost use Rattle.schedules.specs.Schedules.{word};
+ghost use Rattle.rtheap_core.specs.schedules.Schedules.{word};
 ghost use Rattle.trace_text.specs.Jobs.{IsJobInBounds};
 ghost use Rattle.rtheap_core.specs.Generated.{drawn, trace_from, traces_from, generated_config, generated_job};
 ghost use Rattle.rtheap_core.specs.Generated as generated;
@@ -128,7 +128,7 @@ fn command_of(w: u32, x: u32, y: u32, z: u32) -> Command
 }
 
 /// A generator's next word.
-#[tactic(auto, unfolding(schedules::specs::Schedules::word))]
+#[tactic(auto, unfolding(crate::specs::schedules::Schedules::word))]
 fn next_word(words: &mut Lcg64Xsh32) -> u32
     ensures word { result ≡ (word words.old).0 }
     ensures words { words.new ≡ (word words.old).1 }

@@ -12,11 +12,11 @@ ghost use Rattle.rtheap_core.specs.EndedRuns.{job_of};
 ghost use Rattle.rtheap_core.specs.Outcomes.{IsReplayShown, IsReplayFault};
 ghost use Rattle.rtheap_core.specs.Tasks.{most_turns};
 
+use crate::schedules::{Schedule, replay, replays_are_runs};
 use exit_statuses::Refusal;
 use heap_system::{
     Finished, System, cycles_cost_few_units, cycles_give_few_blocks, fulls_are_licensed,
 };
-use schedules::{Schedule, replay, replays_are_runs};
 use std::alloc::Global;
 use trace_text::Job;
 

@@ -17,10 +17,10 @@ ghost use Rattle.rtheap_core.specs.Refusals.{IsCause};
 use crate::exit::{Exit, RunEnd};
 use crate::reading::planned_job;
 use crate::replay::replay_job;
+use crate::schedules::Schedule;
 use crate::telling::refused;
 use exit_statuses::Refusal;
 use heap_system::Finished;
-use schedules::Schedule;
 use std::alloc::Global;
 use trace_text::{Sink, Source, WRITE_FAULT, orders_tell_histories, write_order};
 

@@ -1,10 +1,10 @@
 //! What the words ask for.
 
 ghost use Rattle.std.specs.Prelude.{ℕ, ◌∷◌, [], map, codes, string_bytes, IfSome, IfNone};
-ghost use Rattle.schedules.specs.declared.Schedule.{Schedule};
+ghost use Rattle.rtheap_core.specs.declared.schedules.Schedule.{Schedule};
 ghost use Rattle.rtheap_core.specs.Tasks.{AsksFor, Ask, Names, IsNumberTo};
 
-use schedules::Schedule;
+use crate::schedules::Schedule;
 use trace_text::number_of;
 
 /// The most turns of a replay.

@@ -6,11 +6,11 @@ ghost use Rattle.trace_text.specs.Jobs.{IsJobInBounds};
 ghost use Rattle.rtheap_core.specs.Outcomes.{HasTotals};
 
 use crate::replay::finished;
+use crate::schedules::{Schedule, replay, replays_are_runs, replays_end, replays_stop};
 use block_store::OutOfMemory;
 use heap_system::System;
 use never_heap::Logs;
 use rate_plan::one_rate;
-use schedules::{Schedule, replay, replays_are_runs, replays_end, replays_stop};
 use std::alloc::Global;
 use trace_text::Job;
 

@@ -1,7 +1,7 @@
 use Rattle.std.proofs.Common.{◌∙◌, ap, List}
 use Rattle.never_heap.specs.declared.Command.{Command}
 use Rattle.trace_text.specs.Jobs.{Job}
-use Rattle.schedules.specs.Schedules.{generator}
+use Rattle.rtheap_core.specs.schedules.Schedules.{generator}
 use Rattle.rtheap_core.specs.Generated.{generated_config, traces_from}
 use Rattle.rtheap_core.proofs.GeneratedHeap.{admitted, rate}
 use Rattle.rtheap_core.proofs.generated.generate.Goals as goal

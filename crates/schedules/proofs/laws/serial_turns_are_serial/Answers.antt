@@ -1,9 +1,0 @@
-use Rattle.heap_system.proofs.TurnFacts.{reached_kept}
-use Rattle.schedules.proofs.ReplayEnds.{serial_turns, opening_many}
-use Rattle.schedules.proofs.laws.serial_turns_are_serial.Goals as goal
-
-pub returns-clause-reached : goal.returns-clause-reached
-returns-clause-reached _ c s turns is = serial_turns c s turns (reached_kept c s is).threads
-
-pub returns-clause-opening : goal.returns-clause-opening
-returns-clause-opening _ c traces s turns job start = serial_turns c s turns (opening_many c traces s job start)
