@@ -6,7 +6,7 @@ mod help;
 
 use help::{HELP, VERSION};
 use program_words::{Question, words_of};
-use rt_limit::limit;
+use rt_check::limit;
 use std::alloc::AllocError;
 use std::process::ExitCode;
 use trace_text::{StdSink, StdSource, put_line};

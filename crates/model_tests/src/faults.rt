@@ -2,8 +2,7 @@
 //! what the programs show.
 
 use lent_calls::{Call, Lent};
-use rt_check::check;
-use rt_limit::limit;
+use rt_check::{check, limit};
 use std::alloc::Global;
 use std::process::Abort;
 use std::test::Fail;

@@ -1,5 +1,5 @@
 //! Tests of what stands on the model alone: graphs of `never_heap`, histories by `reference_runs`,
-//! orders before `rt_check`, and what jobs need before `rt_limit`.
+//! orders before `rt_check`, and what jobs need before `rt_check`.
 #![tactic(auto)]
 
 #[cfg(test)]

@@ -2,7 +2,7 @@
 
 use block_store::{Config, Width};
 use rate_plan::plan;
-use rt_limit::least_blocks;
+use rt_check::least_blocks;
 
 /// The rate of a heap of two threads with these limits, where it has one.
 fn rate_at(blocks: u32, live: u64) -> Option<u64> {

@@ -5,3 +5,4 @@ pub mod Standing
 pub mod Moves
 pub mod Taken
 pub mod Taking
+pub mod rt_limit

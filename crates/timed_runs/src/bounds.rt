@@ -4,14 +4,14 @@ ghost use Rattle.std.specs.Prelude.{◌≡◌, ◌<◌, ◌≤◌, IfSome, None}
 ghost use Rattle.block_store.specs.Configs.{IsInBounds};
 ghost use Rattle.heap_system.specs.Alone.{command_near};
 ghost use Rattle.never_heap.specs.Steps.{length_made};
-ghost use Rattle.rt_limit.specs.Prices.{IsInWord};
+ghost use Rattle.rt_check.specs.rt_limit.Prices.{IsInWord};
 ghost use Rattle.timed_runs.specs.Turns.{IsBoundAlone, other_near};
 
 use crate::kinds::length_of;
 use block_store::Config;
 use heap_system::{a_lone_command_ends_near_its_bound, most_events};
 use never_heap::Command;
-use rt_limit::{near_other_turns, near_turns};
+use rt_check::{near_other_turns, near_turns};
 
 /// At most so many turns a command takes, at this rate, of a thread that alone has turns: its near
 /// bound. None where the number is too large for 64 bits, and of an object that no job has.

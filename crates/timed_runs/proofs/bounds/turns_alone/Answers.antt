@@ -2,7 +2,7 @@ use Rattle.std.proofs.Common.{◌≡◌, ℕ, Option, Some, None, IfSome, sym, �
 use Rattle.block_store.specs.declared.Config.{Config}
 use Rattle.heap_system.specs.Alone.{EndsWithin, command_near}
 use Rattle.never_heap.specs.declared.Command.{Command}
-use Rattle.rt_limit.specs.Prices.{IsInWord}
+use Rattle.rt_check.specs.rt_limit.Prices.{IsInWord}
 use Rattle.timed_runs.specs.Turns.{IsBoundAlone, other_near}
 use Rattle.timed_runs.proofs.bounds.turns_alone.Goals as goal
 

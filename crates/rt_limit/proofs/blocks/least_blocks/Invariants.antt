@@ -1,5 +1,0 @@
-use Rattle.rt_limit.proofs.BlockLaws.{NoneBelow}
-use Rattle.rt_limit.proofs.blocks.least_blocks.Given as goal
-
-abbrev pub invariant-loop-blocks : goal.invariant-loop-blocks
-invariant-loop-blocks l = NoneBelow l.config l.live l.rate l.blocks

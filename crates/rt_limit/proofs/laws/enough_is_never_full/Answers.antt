@@ -1,9 +1,0 @@
-use Rattle.rt_limit.proofs.OneOrder.{never_full}
-use Rattle.rt_limit.proofs.OneThread.{needs_never_full}
-use Rattle.rt_limit.proofs.laws.enough_is_never_full.Goals as goal
-
-pub returns-clause-most : goal.returns-clause-most
-returns-clause-most c config rate trace h few run = never_full config rate trace few h run
-
-pub returns-clause-told : goal.returns-clause-told
-returns-clause-told c = needs_never_full

@@ -1,6 +1,0 @@
-use Rattle.std.proofs.Common.{◌≡◌, take}
-use Rattle.rt_limit.specs.Moments.{by_threads}
-use Rattle.rt_limit.proofs.orders.thread_by_thread.Given as goal
-
-abbrev pub invariant-loop-thread : goal.invariant-loop-thread
-invariant-loop-thread l = l.moves.items ≡ by_threads 0 (take l.thread l.job.traces)
