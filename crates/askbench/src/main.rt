@@ -12,8 +12,8 @@ mod task;
 mod times;
 
 use block_store::{Config, Width};
+use exit_statuses::{Question, words_of};
 use help::{HELP, VERSION};
-use program_words::{Question, words_of};
 use std::process::ExitCode;
 use stop::Stop;
 use task::Task;

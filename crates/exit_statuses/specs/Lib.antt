@@ -1,3 +1,4 @@
 pub mod Sides
 pub mod Refusals
 pub mod Exits
+pub mod program_words

@@ -12,8 +12,8 @@ mod trends;
 mod words;
 
 use block_store::OutOfMemory;
+use exit_statuses::{Question, words_of};
 use help::{HELP, VERSION};
-use program_words::{Question, words_of};
 use shell::Shell;
 use std::alloc::AllocError;
 use std::io::{BufRead, BufReader};

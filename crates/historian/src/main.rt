@@ -5,9 +5,9 @@
 
 mod help;
 
+use exit_statuses::{Question, words_of};
 use help::{HELP, VERSION};
 use historian_core::{report_with_status, start};
-use program_words::{Question, words_of};
 use std::alloc::AllocError;
 use std::io::BufReader;
 use std::process::ExitCode;

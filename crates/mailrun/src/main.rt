@@ -4,9 +4,9 @@
 
 mod help;
 
+use exit_statuses::{Question, words_of};
 use heap_system::NoPace;
 use help::{HELP, VERSION};
-use program_words::{Question, words_of};
 use rt_mail::mail;
 use std::alloc::AllocError;
 use std::io::{self, BufWriter, Write};

@@ -4,8 +4,8 @@
 
 mod help;
 
+use exit_statuses::{Question, words_of};
 use help::{HELP, VERSION};
-use program_words::{Question, words_of};
 use rt_check::check;
 use std::alloc::AllocError;
 use std::process::ExitCode;

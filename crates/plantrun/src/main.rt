@@ -4,9 +4,9 @@
 
 mod help;
 
+use exit_statuses::{Question, words_of};
 use help::{HELP, VERSION};
 use plantrun_core::plant_with_status;
-use program_words::{Question, words_of};
 use std::alloc::AllocError;
 use std::io::{BufReader, BufWriter, Write};
 use std::process::ExitCode;

@@ -10,8 +10,8 @@ mod stop;
 mod tags;
 mod task;
 
+use exit_statuses::{Question, words_of};
 use help::{HELP, VERSION};
-use program_words::{Question, words_of};
 use std::process::ExitCode;
 use std::sync::Wait;
 use std::thread::Threads;

@@ -4,8 +4,8 @@
 mod help;
 
 use block_store::OutOfMemory;
+use exit_statuses::{Question, words_of};
 use help::{HELP, VERSION};
-use program_words::{Question, words_of};
 use std::alloc::AllocError;
 use std::io::{self, BufWriter, Write};
 use std::process::ExitCode;

@@ -1,9 +1,8 @@
 //! The words after a program's name, and what every program of this repository answers to `--help`
 //! and `--version`.
-#![tactic(auto)]
 
 ghost use Rattle.std.specs.Prelude.{◌∷◌, [], map, codes, string_bytes, IfSome, IfNone, ◌≡◌, cond};
-ghost use Rattle.program_words.specs.Questions.{AsksFor, Ask, answer_to};
+ghost use Rattle.exit_statuses.specs.program_words.Questions.{AsksFor, Ask, answer_to};
 
 use std::alloc::AllocError;
 use std::env;

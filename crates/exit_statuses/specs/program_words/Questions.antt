@@ -1,7 +1,7 @@
 -- Which words ask a program for its help or its version.
 use Rattle.std.specs.Prelude.{ℕ, ◌≡◌, ◌⊎◌, List, [], ◌∷◌, codes}
-use Rattle.program_words.specs.declared.Question.{Question}
-use Rattle.program_words.specs.declared.Question.TheVariants.{Help, Version}
+use Rattle.exit_statuses.specs.declared.program_words.Question.{Question}
+use Rattle.exit_statuses.specs.declared.program_words.Question.TheVariants.{Help, Version}
 
 -- these words ask for it
 abbrev pub AsksFor : List (List ℕ) → Question → Type 0
