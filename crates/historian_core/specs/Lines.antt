@@ -2,7 +2,7 @@
 use Rattle.std.specs.Prelude.{ℕ, ◌≡◌, List, [], ◌∷◌, Option, None, Some, Result, Ok, Err}
 use Rattle.trace_text.specs.Faults.{Rose}
 use Rattle.trace_text.specs.Lines.{lines_of}
-use Rattle.short_lines.specs.Found.{IsCut}
+use Rattle.trace_text.specs.short_lines.Found.{IsCut}
 use Rattle.historian_core.specs.declared.Limits.{Limits}
 use Rattle.historian_core.specs.declared.stops.Stop.{Stop}
 use Rattle.historian_core.specs.declared.stops.Stop.TheVariants.{ReadFault, WriteFault}

@@ -3,7 +3,7 @@ use Rattle.std.specs.Prelude.{ℕ, ◌≡◌, ◌<◌, ◌≤◌, ◌⊎◌, ◌
 use Rattle.trace_text.specs.Faults.{Rose}
 use Rattle.trace_text.specs.Lines.{lines_of}
 use Rattle.trace_text.specs.Streams.{Appends, AppendsPrefix}
-use Rattle.short_lines.specs.Found.{IsCut}
+use Rattle.trace_text.specs.short_lines.Found.{IsCut}
 use Rattle.historian_core.specs.declared.Limits.{Limits}
 use Rattle.historian_core.specs.declared.stops.Stop.{Stop}
 use Rattle.historian_core.specs.declared.stops.Stop.TheVariants.{ReadFault, WriteFault}

@@ -9,8 +9,7 @@ ghost use Rattle.historian_core.specs.Reports.{IsReport, IsFineText, IsToldOrFai
 ghost use Rattle.historian_core.specs.Texts.{reading_at, limits_at, first_at, due_after, due_in};
 
 use crate::{Historian, LIFE, Limits, Stop, Why, tell};
-use short_lines::{Next, ShortLine, next_line};
-use trace_text::{Sink, Source, number_of, two_tokens};
+use trace_text::{Next, ShortLine, Sink, Source, next_line, number_of, two_tokens};
 
 /// The reading that a line spells: a number below 2^32.
 #[tactic(auto, unfolding(crate::specs::Texts::reading_at))]

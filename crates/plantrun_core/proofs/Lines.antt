@@ -5,9 +5,9 @@ use Rattle.std.specs.List.{AllByRecursion}
 use Rattle.trace_text.specs.Faults.{Rose}
 use Rattle.trace_text.specs.Lines.{lines_of}
 use Rattle.trace_text.specs.declared.Failed.{Failed}
-use Rattle.short_lines.specs.declared.Next.{Next}
-use Rattle.short_lines.specs.declared.Next.TheVariants.{Long}
-use Rattle.short_lines.specs.Found.{IsCut, IsFound, IsLong}
+use Rattle.trace_text.specs.declared.short_lines.Next.{Next}
+use Rattle.trace_text.specs.declared.short_lines.Next.TheVariants.{Long}
+use Rattle.trace_text.specs.short_lines.Found.{IsCut, IsFound, IsLong}
 use Rattle.array_tables.specs.declared.tag_table.operation.Operation.{Operation}
 use Rattle.array_tables.specs.declared.tag_table.operation.Operation.TheVariants.{Write}
 use Rattle.plantrun_core.specs.declared.calls.Done.{Done}

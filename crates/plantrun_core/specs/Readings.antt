@@ -3,7 +3,7 @@ use Rattle.std.specs.Prelude.{ℕ, ◌+◌, ◌*◌, ◌<◌, ◌≤◌, ◌≡�
 use Rattle.trace_text.specs.Faults.{Rose}
 use Rattle.trace_text.specs.Lines.{lines_of, tokens_of}
 use Rattle.trace_text.specs.Reading.{◌>>=◌, number_at, four_tokens_of}
-use Rattle.short_lines.specs.Found.{IsCut}
+use Rattle.trace_text.specs.short_lines.Found.{IsCut}
 use Rattle.array_tables.specs.declared.tag_table.operation.Operation.{Operation}
 use Rattle.array_tables.specs.declared.tag_table.operation.Operation.TheVariants.{Write}
 use Rattle.plantrun_core.specs.declared.readings.Reading.{Reading}

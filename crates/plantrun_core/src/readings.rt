@@ -7,8 +7,9 @@ ghost use Rattle.plantrun_core.specs.Readings.{CountsNext, IsNext, reading_at, s
 
 use crate::places::INPUTS;
 use crate::stops::Stop;
-use short_lines::{LINE_ROOM, Next, ShortLine, next_line};
-use trace_text::{Source, first_token, number_of, three_tokens};
+use trace_text::{
+    LINE_ROOM, Next, ShortLine, Source, first_token, next_line, number_of, three_tokens,
+};
 
 /// A line of the input: a tag, its value, and whether it is good, from this tick on.
 #[derive(Clone, Copy, Debug, PartialEq, Eq)]

@@ -1,8 +1,7 @@
 //! Short lines, one at a time, from a source that fails.
 
-use short_lines::{Next, ShortLine, next_line};
 use std::test::Fail;
-use trace_text::{Failed, MemSource};
+use trace_text::{Failed, MemSource, Next, ShortLine, next_line};
 
 #[test]
 fn lines_come_one_at_a_time_and_a_fault_is_told(rt: HostRuntime) -> Result<(), Fail> {

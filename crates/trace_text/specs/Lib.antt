@@ -16,3 +16,4 @@ pub mod Orders
 pub mod Places
 pub mod JobTexts
 pub mod Memories
+pub mod short_lines

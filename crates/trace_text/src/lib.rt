@@ -9,6 +9,7 @@ mod mem_source;
 mod order_writer;
 mod printing;
 mod reading;
+mod short_lines;
 mod sinks;
 mod sources;
 mod std_sink;
@@ -26,6 +27,7 @@ pub use reading::{
     INPUT_LIMIT, behind, first_line, first_token, input_of, inputs_are_told_apart, job_of,
     jobs_are_one, labelled, no_more, number_of, one_token, read_trace, three_tokens, two_tokens,
 };
+pub use short_lines::{LINE_ROOM, Next, ShortLine, next_line};
 pub use sinks::{Sink, WRITE_FAULT, put_line};
 pub use sources::Source;
 pub use std_sink::StdSink;

@@ -1,14 +1,13 @@
 //! The lines of a source, one at a time, in a buffer of fixed length.
-#![tactic(auto)]
 
 ghost use Rattle.std.specs.Prelude.{◌≡◌, ◌<◌, ◌+◌, ◌∷◌, ◌++◌, [], length, Option, Some, IsNone, IfOk, IfSome, OnOk, OnErr};
 ghost use Rattle.trace_text.specs.Faults.{Rose};
 ghost use Rattle.trace_text.specs.Streams.{TookAtMost};
-ghost use Rattle.short_lines.specs.declared.Next.TheVariants as ends;
-ghost use Rattle.short_lines.specs.Found.{LeadsBy, EndsAt, IsFound};
+ghost use Rattle.trace_text.specs.declared.short_lines.Next.TheVariants as ends;
+ghost use Rattle.trace_text.specs.short_lines.Found.{LeadsBy, EndsAt, IsFound};
 
+use crate::{Failed, Source};
 use std::marker::Model;
-use trace_text::{Failed, Source};
 
 /// A line has fewer bytes than these, or it is long.
 pub const LINE_ROOM: usize = 40;

@@ -7,9 +7,9 @@ use Rattle.trace_text.specs.declared.Failed.{Failed}
 use Rattle.trace_text.specs.Lines.{lines_of, onto_first}
 use Rattle.trace_text.specs.Streams.{TookAtMost}
 use Rattle.trace_text.proofs.ByteSplits.{NoneBefore, lines_at, lines_none}
-use Rattle.short_lines.specs.declared.Next.{Next}
-use Rattle.short_lines.specs.declared.Next.TheVariants.{Line, Long, End}
-use Rattle.short_lines.specs.Found.{LeadsBy, EndsAt, IsFound}
+use Rattle.trace_text.specs.declared.short_lines.Next.{Next}
+use Rattle.trace_text.specs.declared.short_lines.Next.TheVariants.{Line, Long, End}
+use Rattle.trace_text.specs.short_lines.Found.{LeadsBy, EndsAt, IsFound}
 
 -- the first i bytes came, none of them a line feed, and the others are left
 pub record IsReadTo (bytes : List ℕ) (i : ℕ) (line : List ℕ) (left : Option (List ℕ)) : Type 0 where

@@ -1,6 +1,6 @@
 use Rattle.std.proofs.Common.{length, ap, arith, rules}
-use Rattle.short_lines.proofs.LineByBytes.{read_none, read_more, read_line, read_end, read_long, read_cut}
-use Rattle.short_lines.proofs.next_line.Goals as goal
+use Rattle.trace_text.proofs.short_lines.LineByBytes.{read_none, read_more, read_line, read_end, read_long, read_cut}
+use Rattle.trace_text.proofs.short_lines.next_line.Goals as goal
 
 pub loop-place-init : goal.loop-place-init
 loop-place-init g c = record {

@@ -1,7 +1,7 @@
 -- So many bytes of the line came, and no fault was counted.
 use Rattle.std.proofs.Common.{◌≡◌, length, IfSome}
-use Rattle.short_lines.proofs.LineByBytes.{IsReadTo}
-use Rattle.short_lines.proofs.next_line.Given as goal
+use Rattle.trace_text.proofs.short_lines.LineByBytes.{IsReadTo}
+use Rattle.trace_text.proofs.short_lines.next_line.Given as goal
 
 abbrev pub invariant-loop-place : goal.invariant-loop-place
 invariant-loop-place g l = record {

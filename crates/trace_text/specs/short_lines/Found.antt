@@ -5,8 +5,8 @@ use Rattle.std.specs.List.{AllByRecursion}
 use Rattle.trace_text.specs.declared.Failed.{Failed}
 use Rattle.trace_text.specs.Lines.{lines_of, line_feed}
 use Rattle.trace_text.specs.Streams.{TookAtMost}
-use Rattle.short_lines.specs.declared.Next.{Next}
-use Rattle.short_lines.specs.declared.Next.TheVariants.{Line, Long, End}
+use Rattle.trace_text.specs.declared.short_lines.Next.{Next}
+use Rattle.trace_text.specs.declared.short_lines.Next.TheVariants.{Line, Long, End}
 
 -- this byte was the first of those that were left
 abbrev pub LeadsBy : ℕ → Option (List ℕ) → Option (List ℕ) → Type 0
