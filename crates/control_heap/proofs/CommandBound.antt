@@ -23,7 +23,7 @@ use Rattle.never_heap.specs.Steps.{blocks_of}
 use Rattle.never_heap.proofs.HistoryGrowth.{part_append}
 use Rattle.never_heap.proofs.CommandBounds.{blocks_low, told_low}
 use Rattle.barrier_steps.specs.Operands.{is_idle}
-use Rattle.solo_bound.specs.Prices.{allocation_bound, idle_bound, other_bound}
+use Rattle.rate_plan.specs.solo_bound.Prices.{allocation_bound, idle_bound, other_bound}
 use Rattle.heap_system.specs.Parts.{Rest}
 use Rattle.heap_system.specs.declared.Turn.{Turn}
 use Rattle.heap_system.specs.declared.Turn.TheVariants.{Went, Done}

@@ -22,7 +22,7 @@ use Rattle.never_heap.specs.LiveBlocks.{live_blocks}
 use Rattle.never_heap.specs.RightWork.{units_owed, units_told}
 use Rattle.never_heap.specs.Steps.{blocks_of}
 use Rattle.never_heap.proofs.StepAnswers.{owes_told}
-use Rattle.solo_bound.specs.Near.{near_bound, near_other_bound}
+use Rattle.rate_plan.specs.solo_bound.Near.{near_bound, near_other_bound}
 use Rattle.heap_machine.specs.FreeBlocks.{FreeKept, count_free}
 use Rattle.heap_machine.specs.Holdings.{free_held, holds_nothing}
 use Rattle.cycle_tally.specs.Kept.{live_before}

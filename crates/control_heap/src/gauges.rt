@@ -6,7 +6,7 @@ ghost use Rattle.block_store.specs.Heaps.{heap_of};
 ghost use Rattle.block_store.specs.Phases.{cycle_of, is_sweep};
 ghost use Rattle.block_store.specs.Places.{FreeCount, Phase, extent, words_count};
 ghost use Rattle.block_store.specs.Widths.{payloads};
-ghost use Rattle.solo_bound.specs.Near.{changes_cost, near_bound, near_other_bound, near_unit};
+ghost use Rattle.rate_plan.specs.solo_bound.Near.{changes_cost, near_bound, near_other_bound, near_unit};
 ghost use Rattle.heap_system.specs.Alone.{most_events};
 
 use block_store::{Config, Places, Width, read_phase};

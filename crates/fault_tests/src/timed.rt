@@ -125,7 +125,7 @@ end
 /// Worked out by hand. The clock is read 1,002 times before the run: the differences are 2 to 1,002
 /// ns, and their median is 502. Each of the 26 commands then has the next reading before it, so all
 /// but the last take 1,004 to 1,028 ns, in their order. The turns of an allocation are those of
-/// `near_bound` in `solo_bound` at rate 10; those of the `get` are 2 links and 11, as an array of
+/// `near_bound` in `rate_plan` at rate 10; those of the `get` are 2 links and 11, as an array of
 /// 32 elements would have two levels above its leaves, and those of a `say` 5.
 const LATER_REPORT: &str = "clock: one reading takes 502 ns, and is in each time
 cpu ns: the processor time of the longest; for the rest of it its thread did not run

@@ -13,8 +13,8 @@ use Rattle.never_heap.specs.declared.Entry.{Entry}
 use Rattle.never_heap.specs.RightWork.{units_told}
 use Rattle.barrier_steps.specs.Operands.{is_idle}
 use Rattle.never_heap.specs.Steps.{blocks_of}
-use Rattle.solo_bound.specs.Near.{near_bound, near_other_bound}
-use Rattle.solo_bound.specs.Prices.{allocation_bound, idle_bound, other_bound}
+use Rattle.rate_plan.specs.solo_bound.Near.{near_bound, near_other_bound}
+use Rattle.rate_plan.specs.solo_bound.Prices.{allocation_bound, idle_bound, other_bound}
 use Rattle.heap_system.specs.declared.Turn.TheVariants.{Went}
 use Rattle.heap_system.specs.Locals.{LocalState, command_of, is_rest}
 use Rattle.heap_system.specs.Machines.{Run, local_in, heap_in, after_turns, answer}

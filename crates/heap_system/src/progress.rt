@@ -5,7 +5,7 @@ ghost use Rattle.std.specs.Prelude.{ℕ, ◌+◌, ◌*◌, ◌<◌, ◌≤◌, �
 ghost use Rattle.block_store.specs.declared.Config.{Config};
 ghost use Rattle.block_store.specs.Configs.{IsInBounds};
 ghost use Rattle.block_store.specs.Widths.{payloads};
-ghost use Rattle.solo_bound.specs.Near.{near_bound, near_other_bound};
+ghost use Rattle.rate_plan.specs.solo_bound.Near.{near_bound, near_other_bound};
 ghost use Rattle.never_heap.specs.declared.Command.{Command};
 ghost use Rattle.never_heap.specs.declared.Command.TheVariants.{Idle};
 ghost use Rattle.never_heap.specs.RightWork.{units_told};

@@ -9,7 +9,7 @@ use Rattle.never_heap.specs.Bounds.{IsCommandInBounds}
 use Rattle.never_heap.specs.Jobs.{IsTraceInBounds, IsJobInBounds}
 use Rattle.never_heap.specs.RightWork.{units_told}
 use Rattle.never_heap.specs.Steps.{blocks_of}
-use Rattle.solo_bound.specs.Prices.{allocation_bound, idle_bound, other_bound}
+use Rattle.rate_plan.specs.solo_bound.Prices.{allocation_bound, idle_bound, other_bound}
 use Rattle.heap_system.specs.Alone.{command_bound}
 use Rattle.heap_system.specs.Serials.{trace_bound, job_bound}
 

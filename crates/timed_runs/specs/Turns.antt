@@ -2,7 +2,7 @@
 use Rattle.std.specs.Prelude.{ℕ, ◌<◌, ◌≡◌}
 use Rattle.block_store.specs.declared.Config.{Config}
 use Rattle.block_store.specs.Widths.{payloads}
-use Rattle.solo_bound.specs.Near.{near_other_bound}
+use Rattle.rate_plan.specs.solo_bound.Near.{near_other_bound}
 use Rattle.never_heap.specs.declared.Command.{Command}
 use Rattle.never_heap.specs.RightWork.{units_told}
 use Rattle.rate_plan.specs.Rates.{IsRate}

@@ -17,7 +17,7 @@ use Rattle.build_steps.specs.declared.rows.BuildRow.{BuildRow}
 use Rattle.build_steps.specs.declared.rows.BuildRow.TheVariants.{ReadCount, Reserve, TakeFree, Collect, PutRest, WriteOwner, WriteShape, WritePayload, WriteColour, Publish, Built, Refused}
 use Rattle.build_steps.specs.Fits.{BuildFits, RowFits}
 use Rattle.build_steps.specs.Rows.{BuildState, build_got, build_over, build_reply, held_got, list_of, row_got, row_holding, row_reply, row_want}
-use Rattle.solo_bound.specs.Moves.{Spot, Lone, Terms, Moves}
+use Rattle.rate_plan.specs.solo_bound.Moves.{Spot, Lone, Terms, Moves}
 use Rattle.heap_system.specs.Parts.{Build}
 use Rattle.heap_system.specs.Locals.{build_waits, if_replied}
 use Rattle.heap_system.proofs.PartLaws.{AtPart, word_at}

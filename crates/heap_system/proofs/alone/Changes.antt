@@ -12,8 +12,8 @@ use Rattle.never_heap.specs.declared.Reply.{Reply}
 use Rattle.heap_machine.specs.Operations.{place_of}
 use Rattle.heap_machine.specs.declared.gate.GateRow.{GateRow}
 use Rattle.heap_machine.specs.declared.gate.GateRow.TheVariants as gates
-use Rattle.solo_bound.specs.Moves.{Lone, Terms, Moves, Turns, Fresh}
-use Rattle.solo_bound.proofs.Fresh as lone_fresh
+use Rattle.rate_plan.specs.solo_bound.Moves.{Lone, Terms, Moves, Turns, Fresh}
+use Rattle.rate_plan.proofs.solo_bound.Fresh as lone_fresh
 use Rattle.heap_system.specs.Parts.{Part, PhaseChange, Leave}
 use Rattle.heap_system.specs.Alone.{IsQuiet, HasCommand, after_alone, ChangesPhase, UnitBetween}
 use Rattle.heap_system.specs.Locals.{LocalState, command_of, is_rest, is_done, effect, makes_unit, spent_got, part_want}

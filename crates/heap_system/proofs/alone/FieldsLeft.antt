@@ -40,7 +40,7 @@ use Rattle.barrier_steps.specs.Fits.{RowFits}
 use Rattle.barrier_steps.specs.Operands.{field_index}
 use Rattle.barrier_steps.specs.Rows.{first_row, row_got, field_reply, shape_in, payload_in, on_way, at_block, after_object, after_shape, after_field, after_said, after_owner, after_register, after_store, object_in, before_store, in_barrier, stored_word, shaded_for, way_from, way_on}
 use Rattle.barrier_steps.specs.Walks.{links_to, shape_length}
-use Rattle.solo_bound.proofs.Near.{div_low}
+use Rattle.rate_plan.proofs.solo_bound.Near.{div_low}
 use Rattle.heap_system.specs.Alone.{longest_array, most_events, most_links}
 
 -- from the block of the field on: `put` and `cas` shade and store, `get` loads, names, shades and

@@ -12,7 +12,7 @@ use Rattle.heap_machine.specs.Gating.{Gating, Inside, is_outside}
 use Rattle.heap_machine.specs.declared.gate.GateRow.{GateRow}
 use Rattle.heap_machine.specs.declared.gate.GateRow.TheVariants as gates
 use Rattle.heap_machine.proofs.Gatings.{inside_some, entered_phase}
-use Rattle.solo_bound.specs.Moves.{Spot}
+use Rattle.rate_plan.specs.solo_bound.Moves.{Spot}
 use Rattle.heap_system.specs.Parts.{Rest, Enter, Retry, ToChange}
 use Rattle.heap_system.proofs.SeenAndKept.{Seen}
 use Rattle.heap_system.proofs.alone.Heads.{same_lone, open_here, has_pass}

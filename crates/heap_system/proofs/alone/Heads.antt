@@ -10,7 +10,7 @@ use Rattle.heap_system.specs.Parts.{Part}
 use Rattle.heap_system.specs.Pictures.{gating, stand_of}
 use Rattle.heap_system.proofs.SeenAndKept.{Seen}
 use Rattle.heap_system.proofs.alone.LoneThread.{some, IsOfPass, Alone}
-use Rattle.solo_bound.specs.Moves.{Spot, Lone}
+use Rattle.rate_plan.specs.solo_bound.Moves.{Spot, Lone}
 
 pub some_none : (f : ℕ → ℕ) (n i : ℕ) → ((v : ℕ) → i ≤ v → v < i + n → f v ≡ 0) → some f i n ≡ false
 some_none f zero i none = refl

@@ -24,7 +24,7 @@ use Rattle.build_steps.specs.Rows as making
 use Rattle.build_steps.specs.Rows.{BuildState}
 use Rattle.build_steps.specs.declared.rows.BuildRow.{BuildRow}
 use Rattle.build_steps.specs.declared.rows.BuildRow.TheVariants as builds
-use Rattle.solo_bound.specs.Moves.{Spot, Lone, Terms, Moves}
+use Rattle.rate_plan.specs.solo_bound.Moves.{Spot, Lone, Terms, Moves}
 use Rattle.heap_system.specs.Parts.{Part, Rest, Enter, Serve, Mark, Sweep, Build, Retry, ToChange, PhaseChange, Leave}
 use Rattle.heap_system.specs.Locals.{effect, part_want, part_got, pass_got, spent_got, waits}
 use Rattle.heap_system.proofs.PartLaws.{AtPart, PartEvent, word_at}

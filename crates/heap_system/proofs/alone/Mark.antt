@@ -12,7 +12,7 @@ use Rattle.grey_steps.specs.declared.rows.GreyRow.{GreyRow}
 use Rattle.grey_steps.specs.declared.rows.GreyRow.TheVariants as greys
 use Rattle.grey_steps.specs.Rows.{GreyState, list_of, after_word, shaded_hand, grey_over, grey_nothing}
 use Rattle.grey_steps.proofs.MarkUnits.{each_list}
-use Rattle.solo_bound.specs.Moves.{Spot, Lone, Dealt}
+use Rattle.rate_plan.specs.solo_bound.Moves.{Spot, Lone, Dealt}
 use Rattle.heap_system.specs.Parts.{Part, Mark}
 use Rattle.heap_system.specs.Locals.{if_over}
 use Rattle.heap_system.proofs.SeenAndKept.{Seen}

@@ -17,10 +17,10 @@ use Rattle.never_heap.specs.RightWork.{units_owed, units_told}
 use Rattle.never_heap.specs.Steps.{blocks_of}
 use Rattle.never_heap.proofs.StepAnswers.{blocks_untold, owes_told}
 use Rattle.barrier_steps.specs.Operands.{is_idle}
-use Rattle.solo_bound.specs.Moves.{Look}
-use Rattle.solo_bound.specs.Near.{Keeps, farthest, near_at, near_bound, near_left, near_other_bound}
-use Rattle.solo_bound.specs.Prices.{allocation_bound, idle_bound, other_bound}
-use Rattle.solo_bound.proofs.Near.{idle_within, lower, near, near_other, near_within}
+use Rattle.rate_plan.specs.solo_bound.Moves.{Look}
+use Rattle.rate_plan.specs.solo_bound.Near.{Keeps, farthest, near_at, near_bound, near_left, near_other_bound}
+use Rattle.rate_plan.specs.solo_bound.Prices.{allocation_bound, idle_bound, other_bound}
+use Rattle.rate_plan.proofs.solo_bound.Near.{idle_within, lower, near, near_other, near_within}
 use Rattle.heap_system.specs.Parts.{Part, Rest, Leave}
 use Rattle.heap_system.specs.Alone.{IsQuiet, HasCommand, EndsWithin, command_bound, command_near, most_events}
 use Rattle.heap_system.specs.Locals.{LocalState, command_of, owed, is_done}

@@ -15,7 +15,7 @@ use Rattle.heap_machine.specs.Holdings.{grey_held}
 use Rattle.heap_machine.proofs.Gatings.{closed_phase, open_parts}
 use Rattle.heap_machine.proofs.GreyBlocks.{first_is_grey}
 use Rattle.grey_steps.proofs.GreyRuleKept.{own_first}
-use Rattle.solo_bound.specs.Moves.{Spot}
+use Rattle.rate_plan.specs.solo_bound.Moves.{Spot}
 use Rattle.heap_system.specs.Parts.{PhaseChange}
 use Rattle.heap_system.proofs.SeenAndKept.{Seen}
 use Rattle.heap_system.proofs.parts.ClosedGate.{may_turn}

@@ -22,9 +22,9 @@ use Rattle.never_heap.proofs.StepAnswers.{blocks_untold, owes_told}
 use Rattle.heap_machine.specs.Gating.{is_outside, is_inside, is_closing}
 use Rattle.heap_machine.specs.Operations.{place_of}
 use Rattle.heap_machine.proofs.Gatings.{stand_out}
-use Rattle.solo_bound.specs.Moves.{Terms, Moves}
-use Rattle.solo_bound.specs.Prices.{left, at_look, allocation_bound, idle_bound, other_bound}
-use Rattle.solo_bound.proofs.Prices.{lower, within, one_event}
+use Rattle.rate_plan.specs.solo_bound.Moves.{Terms, Moves}
+use Rattle.rate_plan.specs.solo_bound.Prices.{left, at_look, allocation_bound, idle_bound, other_bound}
+use Rattle.rate_plan.proofs.solo_bound.Prices.{lower, within, one_event}
 use Rattle.barrier_steps.specs.Operands.{is_idle}
 use Rattle.barrier_steps.specs.Rows.{first_row}
 use Rattle.heap_system.specs.Parts.{Part, Rest, Leave}

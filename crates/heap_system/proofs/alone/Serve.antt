@@ -24,7 +24,7 @@ use Rattle.barrier_steps.specs.Replies.{ShownAt, ShapeShown}
 use Rattle.barrier_steps.specs.Rows.{FieldState, field_want, field_got, field_reply, shape_in, shape_or_empty}
 use Rattle.barrier_steps.specs.Walks.{shape_length, links_to}
 use Rattle.barrier_steps.proofs.RowReads.{row_shown}
-use Rattle.solo_bound.specs.Moves.{Spot, Lone, Terms, Moves}
+use Rattle.rate_plan.specs.solo_bound.Moves.{Spot, Lone, Terms, Moves}
 use Rattle.heap_system.specs.Alone.{longest_array, most_links}
 use Rattle.heap_system.specs.Parts.{Serve}
 use Rattle.heap_system.specs.Locals.{if_replied}

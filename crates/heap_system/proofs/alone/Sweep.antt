@@ -10,7 +10,7 @@ use Rattle.sweep_steps.specs.declared.rows.SweepRow.{SweepRow}
 use Rattle.sweep_steps.specs.declared.rows.SweepRow.TheVariants as sweeps
 use Rattle.sweep_steps.specs.Fits.{IsLeft}
 use Rattle.sweep_steps.specs.Rows.{SweepState, next_block, range_end, sweep_over, sweep_nothing}
-use Rattle.solo_bound.specs.Moves.{Spot, Lone, Passed}
+use Rattle.rate_plan.specs.solo_bound.Moves.{Spot, Lone, Passed}
 use Rattle.heap_system.specs.Parts.{Part, Sweep}
 use Rattle.heap_system.specs.Locals.{if_over}
 use Rattle.heap_system.proofs.SeenAndKept.{Seen}

@@ -23,8 +23,8 @@ use Rattle.sweep_steps.specs.declared.rows.SweepRow.TheVariants as sweeps
 use Rattle.sweep_steps.specs.Rows.{SweepState, next_block, sweep_over, sweep_nothing}
 use Rattle.build_steps.specs.declared.rows.BuildRow.{BuildRow}
 use Rattle.build_steps.specs.declared.rows.BuildRow.TheVariants as builds
-use Rattle.solo_bound.specs.Moves.{Spot}
-use Rattle.solo_bound.specs.Near.{Scene, Keeps, farthest}
+use Rattle.rate_plan.specs.solo_bound.Moves.{Spot}
+use Rattle.rate_plan.specs.solo_bound.Near.{Scene, Keeps, farthest}
 use Rattle.heap_system.specs.Parts.{Part, Rest, Enter, Serve, Mark, Sweep, Build, Retry, ToChange, PhaseChange, Leave}
 use Rattle.heap_system.specs.Locals.{if_over}
 use Rattle.heap_system.proofs.PartLaws.{AtPart, PartEvent}

@@ -2,7 +2,7 @@
 use Rattle.std.proofs.Common.{ℕ, zero, suc, ◌+◌, ◌*◌, ◌/◌, ◌<◌, ◌≤◌, ◌^◌, max, arith}
 use Rattle.std.proofs.Math.Nat.{div-le_self, max-le}
 use Rattle.std.proofs.lemmas.Nat.{mul-le}
-use Rattle.solo_bound.specs.Near.{changes_cost, cycle_cost, farthest, flip_cost, near_bound, near_unit}
+use Rattle.rate_plan.specs.solo_bound.Near.{changes_cost, cycle_cost, farthest, flip_cost, near_bound, near_unit}
 
 farthest_small : (n passes : ℕ) → farthest n passes ≤ n * n
 farthest_small zero passes = omega arith

@@ -2,7 +2,7 @@
 use Rattle.std.specs.Prelude.{ℕ, ◌+◌, ◌-◌, ◌*◌, ◌/◌, ◌<◌, ◌^◌, min, Option, SomeIff}
 use Rattle.block_store.specs.declared.Config.{Config}
 use Rattle.block_store.specs.Widths.{payloads}
-use Rattle.solo_bound.specs.Near.{changes_cost, near_bound, near_unit}
+use Rattle.rate_plan.specs.solo_bound.Near.{changes_cost, near_bound, near_unit}
 
 -- the most turns of an allocation of k blocks, of a thread that alone has turns
 abbrev pub turns : Config → ℕ → ℕ → ℕ

@@ -3,7 +3,7 @@
 ghost use Rattle.std.specs.Prelude.{◌≡◌, ◌<◌, ◌≤◌, ◌+◌, ◌*◌};
 ghost use Rattle.block_store.specs.Configs.{IsInBounds};
 ghost use Rattle.block_store.specs.Widths.{payloads};
-ghost use Rattle.solo_bound.specs.Near.{changes_cost, farthest, near_bound, near_other_bound};
+ghost use Rattle.rate_plan.specs.solo_bound.Near.{changes_cost, farthest, near_bound, near_other_bound};
 ghost use Rattle.rt_check.specs.rt_limit.Prices as prices;
 
 use block_store::Config;

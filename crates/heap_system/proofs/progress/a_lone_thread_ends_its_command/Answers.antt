@@ -2,7 +2,7 @@ use Rattle.std.proofs.Common.{cond, ap, ◌∙◌, arith, le-ltb, lt-ltb}
 use Rattle.never_heap.specs.RightWork.{units_told}
 use Rattle.never_heap.specs.Steps.{blocks_of}
 use Rattle.barrier_steps.specs.Operands.{is_idle}
-use Rattle.solo_bound.specs.Prices.{allocation_bound, idle_bound, other_bound}
+use Rattle.rate_plan.specs.solo_bound.Prices.{allocation_bound, idle_bound, other_bound}
 use Rattle.heap_system.specs.Locals.{command_of}
 use Rattle.heap_system.specs.Machines.{local_in}
 use Rattle.heap_system.proofs.Always.{run_kept}

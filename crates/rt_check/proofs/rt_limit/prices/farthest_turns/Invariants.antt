@@ -1,5 +1,5 @@
 use Rattle.std.proofs.Common.{◌≡◌, ◌≤◌, ◌+◌, ◌*◌}
-use Rattle.solo_bound.specs.Near.{farthest}
+use Rattle.rate_plan.specs.solo_bound.Near.{farthest}
 use Rattle.rt_check.proofs.rt_limit.prices.farthest_turns.Given as goal
 
 abbrev pub invariant-loop-list : goal.invariant-loop-list

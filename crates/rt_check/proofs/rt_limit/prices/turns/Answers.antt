@@ -2,7 +2,7 @@ use Rattle.std.proofs.Common.{ℕ, ◌<◌, ◌≤◌, ◌≡◌, ◌^◌, Optio
 use Rattle.block_store.specs.declared.Width.{Width}
 use Rattle.block_store.specs.declared.Width.TheVariants.{Four, Eight}
 use Rattle.block_store.specs.Widths.{payloads}
-use Rattle.solo_bound.specs.Near.{near_bound}
+use Rattle.rate_plan.specs.solo_bound.Near.{near_bound}
 use Rattle.rt_check.specs.rt_limit.Prices.{IsInWord}
 use Rattle.rt_check.proofs.rt_limit.NearSmall.{near_small}
 use Rattle.rt_check.proofs.rt_limit.prices.turns.Goals as goal

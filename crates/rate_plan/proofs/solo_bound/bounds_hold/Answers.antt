@@ -1,5 +1,5 @@
-use Rattle.solo_bound.proofs.Prices.{within, exactly, one_event}
-use Rattle.solo_bound.proofs.bounds_hold.Goals as goal
+use Rattle.rate_plan.proofs.solo_bound.Prices.{within, exactly, one_event}
+use Rattle.rate_plan.proofs.solo_bound.bounds_hold.Goals as goal
 
 pub returns-clause-allocation : goal.returns-clause-allocation
 returns-clause-allocation c = within

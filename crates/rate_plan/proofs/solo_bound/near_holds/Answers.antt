@@ -1,5 +1,5 @@
-use Rattle.solo_bound.proofs.Near.{idle_within, near, near_look, near_other, near_within}
-use Rattle.solo_bound.proofs.near_holds.Goals as goal
+use Rattle.rate_plan.proofs.solo_bound.Near.{idle_within, near, near_look, near_other, near_within}
+use Rattle.rate_plan.proofs.solo_bound.near_holds.Goals as goal
 
 pub returns-clause-allocation : goal.returns-clause-allocation
 returns-clause-allocation c = λ e m r room far sweep wide some. near e m wide some r room far sweep

@@ -2,9 +2,9 @@
 use Rattle.std.proofs.Common.{ℕ, zero, suc, ◌+◌, ◌-◌, ◌*◌, ◌≤◌, ◌<◌, ◌≡◌, inl, inr, Bool, true, false, cond, eqb, arith, refl, subst, sym, ap, ◌∙◌, ne_eqb}
 use Rattle.std.proofs.lemmas.Bool.{cases_Bool}
 use Rattle.std.proofs.Math.Nat.{mul-suc, suc-mul, mul-le-mul_right}
-use Rattle.solo_bound.specs.Moves.{Spot, Lone, Terms, at, begun, Goes, Stays, Pays, Dealt, Passed, Writes, Moves}
-use Rattle.solo_bound.specs.Prices.{left, left_at, at_look, base, unit_cost, allocation_bound, idle_bound}
-use Rattle.solo_bound.proofs.Near.{less, next_mul}
+use Rattle.rate_plan.specs.solo_bound.Moves.{Spot, Lone, Terms, at, begun, Goes, Stays, Pays, Dealt, Passed, Writes, Moves}
+use Rattle.rate_plan.specs.solo_bound.Prices.{left, left_at, at_look, base, unit_cost, allocation_bound, idle_bound}
+use Rattle.rate_plan.proofs.solo_bound.Near.{less, next_mul}
 
 add-suc : (a b : ℕ) → a + suc b ≡ suc (a + b)
 add-suc a b = omega arith

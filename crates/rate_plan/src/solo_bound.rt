@@ -1,11 +1,10 @@
 //! A lone thread's bound, over its rows alone: while one thread has turns and no other, each of
 //! its turns brings its command nearer to its end.
-#![tactic(auto)]
 
 ghost use Rattle.std.specs.Prelude.{ℕ, Bool, true, false, suc, ◌+◌, ◌*◌, ◌<◌, ◌≤◌, ◌≡◌, ◌⊎◌};
-ghost use Rattle.solo_bound.specs.Moves.{Look, Lone, Terms, Moves, Fresh, changes_phase};
-ghost use Rattle.solo_bound.specs.Prices.{left, at_look, unit_cost, inside_cost, allocation_bound, idle_bound, other_bound};
-ghost use Rattle.solo_bound.specs.Near.{Scene, NearMoves, near_left, near_at, near_unit, near_bound, near_other_bound, farthest, changes_cost};
+ghost use Rattle.rate_plan.specs.solo_bound.Moves.{Look, Lone, Terms, Moves, Fresh, changes_phase};
+ghost use Rattle.rate_plan.specs.solo_bound.Prices.{left, at_look, unit_cost, inside_cost, allocation_bound, idle_bound, other_bound};
+ghost use Rattle.rate_plan.specs.solo_bound.Near.{Scene, NearMoves, near_left, near_at, near_unit, near_bound, near_other_bound, farthest, changes_cost};
 
 /// Each move lowers what is left of the command, on blocks of two payload words or more and at any
 /// price of a unit that is at least its cost.

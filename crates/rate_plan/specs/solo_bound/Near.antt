@@ -1,8 +1,8 @@
 -- A bound that is near the most turns that a lone thread's command can take: what a unit costs and
 -- what a change of phase costs are counted apart.
 use Rattle.std.specs.Prelude.{ℕ, zero, suc, ◌+◌, ◌-◌, ◌*◌, ◌/◌, ◌<◌, ◌≤◌, ◌≡◌, max, Bool, true, false}
-use Rattle.solo_bound.specs.Moves.{Spot, Over, LeaveDone, Look, Enter, Leave, LeaveNone, CloseLook, Close, Check, SetCursor, Flip, ShadeRoot, PutRoots, Start, Take, Pop, Scan, Shade, Blacken, PutGrey, ReadCursor, Claim, Pass, TakeFree, Free, PutFree, Credit, Count, Reserve, Grab, Collect, PutRest, Write, Publish, Serve, Lone, Terms, Moves}
-use Rattle.solo_bound.specs.Prices.{inside_cost}
+use Rattle.rate_plan.specs.solo_bound.Moves.{Spot, Over, LeaveDone, Look, Enter, Leave, LeaveNone, CloseLook, Close, Check, SetCursor, Flip, ShadeRoot, PutRoots, Start, Take, Pop, Scan, Shade, Blacken, PutGrey, ReadCursor, Claim, Pass, TakeFree, Free, PutFree, Credit, Count, Reserve, Grab, Collect, PutRest, Write, Publish, Serve, Lone, Terms, Moves}
+use Rattle.rate_plan.specs.solo_bound.Prices.{inside_cost}
 
 -- the turns of a unit on blocks of w payload words, with no change of phase
 abbrev pub near_unit : ℕ → ℕ

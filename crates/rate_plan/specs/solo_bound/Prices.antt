@@ -1,6 +1,6 @@
 -- How many turns a lone thread has left at most, before its command has its entry.
 use Rattle.std.specs.Prelude.{ℕ, zero, suc, ◌+◌, ◌-◌, ◌*◌, Bool, true, false, if◌then◌else◌}
-use Rattle.solo_bound.specs.Moves.{Spot, Over, LeaveDone, Look, Enter, Leave, LeaveNone, CloseLook, Close, Check, SetCursor, Flip, ShadeRoot, PutRoots, Start, Take, Pop, Scan, Shade, Blacken, PutGrey, ReadCursor, Claim, Pass, TakeFree, Free, PutFree, Credit, Count, Reserve, Grab, Collect, PutRest, Write, Publish, Serve, Lone, Terms}
+use Rattle.rate_plan.specs.solo_bound.Moves.{Spot, Over, LeaveDone, Look, Enter, Leave, LeaveNone, CloseLook, Close, Check, SetCursor, Flip, ShadeRoot, PutRoots, Start, Take, Pop, Scan, Shade, Blacken, PutGrey, ReadCursor, Claim, Pass, TakeFree, Free, PutFree, Credit, Count, Reserve, Grab, Collect, PutRest, Write, Publish, Serve, Lone, Terms}
 
 -- the bounds: of an allocation of k blocks on n threads, at this rate; of a command that is told to
 -- make u units; and of another command, where the largest object has b blocks

@@ -1,6 +1,6 @@
 -- Behind a change of phase comes a unit before the next change.
 use Rattle.std.proofs.Common.{ℕ, suc, ◌+◌, ◌<◌, ◌≡◌, ◌⊎◌, inl, inr, Bool, true, false, cond, eqb, refl, arith, subst, sym, ap, ◌∙◌, ne_eqb}
-use Rattle.solo_bound.specs.Moves.{Spot, Lone, Terms, at, begun, Goes, Dealt, Passed, Moves, Fresh}
+use Rattle.rate_plan.specs.solo_bound.Moves.{Spot, Lone, Terms, at, begun, Goes, Dealt, Passed, Moves, Fresh}
 
 abbrev Goal : Lone → Lone → Type 0
 Goal s z = Fresh z.spot z × (z.owed ≡ s.owed) ⊎ (suc z.owed ≡ s.owed)

@@ -3,9 +3,9 @@ use Rattle.std.proofs.Common.{ℕ, zero, suc, ◌+◌, ◌-◌, ◌*◌, ◌/◌
 use Rattle.std.proofs.lemmas.Bool.{cases_Bool, cases_lt}
 use Rattle.std.proofs.lemmas.Nat.{le-div, div_below}
 use Rattle.std.proofs.Math.Nat.{mul-suc, suc-mul, mul-le-mul_right, div-mul-le_self}
-use Rattle.solo_bound.specs.Moves.{Spot, Lone, Terms, at, begun, Goes, Stays, Pays, Dealt, Passed, Writes, Moves}
-use Rattle.solo_bound.specs.Prices.{allocation_bound, idle_bound, inside_cost}
-use Rattle.solo_bound.specs.Near.{Scene, Keeps, Sweeps, NoFarther, near_unit, near_bound, near_other_bound, cycle_cost, farthest, changes_cost, near_at, near_left, paid, cycles, mark_debt, sweep_debt, debt, closing, marking}
+use Rattle.rate_plan.specs.solo_bound.Moves.{Spot, Lone, Terms, at, begun, Goes, Stays, Pays, Dealt, Passed, Writes, Moves}
+use Rattle.rate_plan.specs.solo_bound.Prices.{allocation_bound, idle_bound, inside_cost}
+use Rattle.rate_plan.specs.solo_bound.Near.{Scene, Keeps, Sweeps, NoFarther, near_unit, near_bound, near_other_bound, cycle_cost, farthest, changes_cost, near_at, near_left, paid, cycles, mark_debt, sweep_debt, debt, closing, marking}
 
 pub less : (r : ℕ) → suc r - 1 ≡ r
 less r = omega arith

@@ -1,5 +1,0 @@
-use Rattle.solo_bound.proofs.Near.{lower}
-use Rattle.solo_bound.proofs.near_moves_lower.Goals as goal
-
-pub returns : goal.returns
-returns c = λ e m wide some s z h. lower e m wide some s.lone.spot s z h.moves h.keeps
