@@ -48,8 +48,8 @@ pub use Rattle.never_heap.specs.Steps.{step, same_value, swapped, blocks_of, at_
 pub use Rattle.never_heap.specs.declared.Command.{Command}
 pub use Rattle.never_heap.specs.declared.Command.TheVariants.{New, Arr, Set, Mov, Get, Put, Len, Same, Say, Swap, Cas, Idle}
 pub use Rattle.never_heap.specs.declared.Reply.{Reply}
-pub use Rattle.graph_relation.specs.Events.{unloaded, GraphState, value_in, Follows, ValueLoad, Loading, Event, IsPrompt, value_at}
-pub use Rattle.graph_relation.specs.Layouts.{shape_part, kind_shape}
-pub use Rattle.graph_relation.specs.Shown.{heads, IsSized}
-pub use Rattle.graph_relation.specs.Words.{block_words, value_word}
+pub use Rattle.heap_invariant.specs.graph_relation.Events.{unloaded, GraphState, value_in, Follows, ValueLoad, Loading, Event, IsPrompt, value_at}
+pub use Rattle.heap_invariant.specs.graph_relation.Layouts.{shape_part, kind_shape}
+pub use Rattle.heap_invariant.specs.graph_relation.Shown.{heads, IsSized}
+pub use Rattle.heap_invariant.specs.graph_relation.Words.{block_words, value_word}
 pub use Rattle.std.proofs.lemmas.Bool.{cases_Bool, cases_eq, ne_eqb, lt-ltb, le-leb, eqb-false, or_right, false_from_ne_true, not-true}

@@ -7,7 +7,7 @@ use Rattle.block_store.specs.declared.Value.TheVariants as values
 use Rattle.never_heap.specs.declared.Reply.TheVariants as replies
 use Rattle.never_heap.proofs.GraphMoves.{same_from, register_with_register}
 use Rattle.barrier_steps.proofs.Decisions.{Refused, value_there, answer_is, object_refused, shape_refused, get_is, put_is, swap_is, cas_is, constant_is, mov_is, same_step_is, say_is, idle_is, field_is, before_is, barrier_is, after_owner_is, goes_on, decided_once}
-use Rattle.graph_relation.specs.Read.{value_payload}
+use Rattle.heap_invariant.specs.graph_relation.Read.{value_payload}
 use Rattle.barrier_steps.proofs.FieldRows.{to_low, get_takes, swap_takes, taken_register}
 use Rattle.barrier_steps.proofs.RowEvents.{swap_register, within, register_leaves, graph_stays}
 use Rattle.never_heap.proofs.FieldStores.{threads_with_field, registers_with_field}

@@ -8,13 +8,13 @@ use Rattle.block_store.proofs.Functions.{funext}
 use Rattle.never_heap.specs.declared.Entry.{Entry}
 use Rattle.never_heap.specs.Histories.{HistoryItem, Did, after}
 use Rattle.never_heap.proofs.StepAnswers.{step_not_full}
-use Rattle.graph_relation.specs.Events as commanded
-use Rattle.name_invariant.specs.Events.{event_thread, leaves_graph, loaded_word, MayDecide}
-use Rattle.name_invariant.specs.Kept.{IsKept}
-use Rattle.name_invariant.specs.Pictures.{Task, Names, no_task, picture}
-use Rattle.name_invariant.specs.States.{KeptState, Kept}
-use Rattle.name_invariant.proofs.Commands.{serves, decides, answers}
-use Rattle.name_invariant.proofs.KeptStates.{loaded_kept}
+use Rattle.heap_invariant.specs.graph_relation.Events as commanded
+use Rattle.heap_invariant.specs.name_invariant.Events.{event_thread, leaves_graph, loaded_word, MayDecide}
+use Rattle.heap_invariant.specs.name_invariant.Kept.{IsKept}
+use Rattle.heap_invariant.specs.name_invariant.Pictures.{Task, Names, no_task, picture}
+use Rattle.heap_invariant.specs.name_invariant.States.{KeptState, Kept}
+use Rattle.heap_invariant.proofs.name_invariant.Commands.{serves, decides, answers}
+use Rattle.heap_invariant.proofs.name_invariant.KeptStates.{loaded_kept}
 use Rattle.grey_steps.proofs.Pictures.{shading_keeps_names}
 use Rattle.barrier_steps.specs.Decided.{field_task, entry_on, graph_on, order_on}
 use Rattle.barrier_steps.specs.Projection.{event_of, IsAtRow, IsInHand}

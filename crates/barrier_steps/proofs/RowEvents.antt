@@ -6,9 +6,9 @@ use Rattle.barrier_steps.specs.declared.rows.Purpose.TheVariants as wants
 use Rattle.block_store.specs.declared.Value.TheVariants as values
 use Rattle.never_heap.specs.declared.Command.TheVariants as commands
 use Rattle.never_heap.specs.declared.Reply.TheVariants as replies
-use Rattle.graph_relation.specs.Words.{BlockWords, with_payload}
-use Rattle.graph_relation.specs.Events as events
-use Rattle.graph_relation.specs.Events.{ObjectLoad, unloaded, object_in, with_load, Guard, HasObject, HasValue, object_at, register_word_in, IsAtField, IsAtLink, IsConstant}
+use Rattle.heap_invariant.specs.graph_relation.Words.{BlockWords, with_payload}
+use Rattle.heap_invariant.specs.graph_relation.Events as events
+use Rattle.heap_invariant.specs.graph_relation.Events.{ObjectLoad, unloaded, object_in, with_load, Guard, HasObject, HasValue, object_at, register_word_in, IsAtField, IsAtLink, IsConstant}
 use Rattle.grey_steps.specs.declared.rows.GreyRow.TheVariants as greys
 use Rattle.barrier_steps.specs.Rows as rows
 use Rattle.barrier_steps.proofs.FieldRows.{to_low, from_low, wanted_low, way_is, payload_cases, reference, get_takes, swap_takes, taken_register}

@@ -9,13 +9,13 @@ use Rattle.block_store.specs.Payloads.{reference_word}
 use Rattle.block_store.proofs.PayloadWords.{target-reference}
 use Rattle.never_heap.specs.declared.Reply.TheVariants as replies
 use Rattle.object_lists.specs.Parts.{Part, Link, Field}
-use Rattle.graph_relation.specs.Layouts.{layout_part, object_part}
-use Rattle.graph_relation.specs.Words.{part_word}
-use Rattle.graph_relation.specs.Shown.{IsValueOf}
-use Rattle.graph_relation.specs.Events.{pending_registers, is_pending, object_in, ObjectIs, ValueIs, LoadIs}
-use Rattle.graph_relation.proofs.ObjectLayouts.{object_layout}
-use Rattle.graph_relation.proofs.WordReads.{value_read, length_read, register_read, blocks_apart, words_tell}
-use Rattle.graph_relation.proofs.Loads.{name_shown}
+use Rattle.heap_invariant.specs.graph_relation.Layouts.{layout_part, object_part}
+use Rattle.heap_invariant.specs.graph_relation.Words.{part_word}
+use Rattle.heap_invariant.specs.graph_relation.Shown.{IsValueOf}
+use Rattle.heap_invariant.specs.graph_relation.Events.{pending_registers, is_pending, object_in, ObjectIs, ValueIs, LoadIs}
+use Rattle.heap_invariant.proofs.graph_relation.ObjectLayouts.{object_layout}
+use Rattle.heap_invariant.proofs.graph_relation.WordReads.{value_read, length_read, register_read, blocks_apart, words_tell}
+use Rattle.heap_invariant.proofs.graph_relation.Loads.{name_shown}
 use Rattle.barrier_steps.specs.Rows as rows
 use Rattle.barrier_steps.specs.Replies.{FieldShown}
 use Rattle.barrier_steps.proofs.FieldRows.{to_low, from_low, other_low, expected_low, wanted_low, way_is, link_low, field_low, IsHeldWord, place_at}

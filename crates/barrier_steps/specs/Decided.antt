@@ -5,7 +5,7 @@ use Rattle.never_heap.specs.declared.Entry.{Entry}
 use Rattle.never_heap.specs.Graphs.{Graph}
 use Rattle.never_heap.specs.Histories.{HistoryItem, Did}
 use Rattle.never_heap.specs.RightWork.{units_told}
-use Rattle.name_invariant.specs.Pictures.{Task, no_task}
+use Rattle.heap_invariant.specs.name_invariant.Pictures.{Task, no_task}
 use Rattle.barrier_steps.specs.Rows.{FieldState}
 use Rattle.barrier_steps.specs.Deciding.{is_deciding}
 use Rattle.barrier_steps.specs.Replies.{answer, graph_after}

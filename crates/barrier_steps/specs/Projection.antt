@@ -10,9 +10,9 @@ use Rattle.never_heap.specs.declared.Command.TheVariants as commands
 use Rattle.never_heap.specs.Graphs.{register_of}
 use Rattle.heap_machine.specs.Operations.{place_of}
 use Rattle.heap_machine.specs.declared.pass.Pass.{Pass}
-use Rattle.graph_relation.specs.Words.{block_words}
-use Rattle.graph_relation.specs.Events as events
-use Rattle.graph_relation.specs.Events.{ObjectLoad, ValueLoad, Loading, unloaded, GraphState, Event, apply}
+use Rattle.heap_invariant.specs.graph_relation.Words.{block_words}
+use Rattle.heap_invariant.specs.graph_relation.Events as events
+use Rattle.heap_invariant.specs.graph_relation.Events.{ObjectLoad, ValueLoad, Loading, unloaded, GraphState, Event, apply}
 use Rattle.barrier_steps.specs.declared.rows.FieldRow.{FieldRow}
 use Rattle.barrier_steps.specs.declared.rows.FieldRow.TheVariants.{LoadRegister, LoadShape, LoadLink, LoadField, LoadOwner, Shade, Store, StoreConstant, IdleLook, Answered}
 use Rattle.barrier_steps.specs.declared.rows.Purpose.{Purpose}

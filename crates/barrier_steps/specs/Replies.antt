@@ -11,8 +11,8 @@ use Rattle.never_heap.specs.declared.Reply.{Reply}
 use Rattle.never_heap.specs.declared.Reply.TheVariants.{Val}
 use Rattle.never_heap.specs.Graphs.{Graph, object_of, field_of, register_of}
 use Rattle.never_heap.specs.Steps.{step, same_value}
-use Rattle.graph_relation.specs.Layouts.{kind_shape}
-use Rattle.graph_relation.specs.Read.{value_payload}
+use Rattle.heap_invariant.specs.graph_relation.Layouts.{kind_shape}
+use Rattle.heap_invariant.specs.graph_relation.Read.{value_payload}
 use Rattle.barrier_steps.specs.declared.rows.FieldRow.{FieldRow}
 use Rattle.barrier_steps.specs.declared.rows.FieldRow.TheVariants.{LoadRegister, LoadShape, LoadField, LoadOwner, Shade, Store, Answered}
 use Rattle.barrier_steps.specs.declared.rows.Purpose.TheVariants as wants

@@ -12,8 +12,8 @@ ghost use Rattle.block_store.specs.Places.{Extent, extent, Phase, Cursor, Colour
 ghost use Rattle.never_heap.specs.declared.Command.{Command};
 ghost use Rattle.never_heap.specs.Graphs.{Graph};
 ghost use Rattle.never_heap.specs.Histories.{HistoryItem};
-ghost use Rattle.name_invariant.specs.Kept.{IsKept};
-ghost use Rattle.name_invariant.specs.Pictures.{Task, Names, picture};
+ghost use Rattle.heap_invariant.specs.name_invariant.Kept.{IsKept};
+ghost use Rattle.heap_invariant.specs.name_invariant.Pictures.{Task, Names, picture};
 ghost use Rattle.heap_machine.specs.Holdings.{Holding, holds_nothing, sweep_held};
 ghost use Rattle.heap_machine.specs.Operations.{place_of, heap_after};
 ghost use Rattle.heap_machine.specs.PhaseKept.{PhaseKept};

@@ -25,9 +25,9 @@ use Rattle.block_store.specs.Places.{Phase, ColourOf}
 use Rattle.block_store.specs.Widths.{payloads}
 use Rattle.never_heap.specs.Graphs.{Graph}
 use Rattle.never_heap.specs.Histories.{HistoryItem}
-use Rattle.graph_relation.specs.Words.{block_words}
-use Rattle.name_invariant.specs.Building.{Build, build_blocks, IsBuild}
-use Rattle.name_invariant.specs.Pictures.{Names, Task}
+use Rattle.heap_invariant.specs.graph_relation.Words.{block_words}
+use Rattle.heap_invariant.specs.name_invariant.Building.{Build, build_blocks, IsBuild}
+use Rattle.heap_invariant.specs.name_invariant.Pictures.{Names, Task}
 use Rattle.heap_machine.specs.Holdings.{Holding}
 use Rattle.build_steps.specs.declared.rows.BuildRow.{BuildRow}
 use Rattle.build_steps.specs.declared.rows.BuildRow.TheVariants.{

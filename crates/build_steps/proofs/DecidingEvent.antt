@@ -12,8 +12,8 @@ use Rattle.never_heap.specs.Graphs.{Graph, next_name}
 use Rattle.never_heap.specs.Histories.{HistoryItem, Did}
 use Rattle.never_heap.specs.Steps.{blocks_of, step}
 use Rattle.never_heap.proofs.StepAnswers.{blocks_answer, blocks_make}
-use Rattle.name_invariant.specs.Kept.{IsKept}
-use Rattle.name_invariant.specs.Pictures.{Names, Task, picture}
+use Rattle.heap_invariant.specs.name_invariant.Kept.{IsKept}
+use Rattle.heap_invariant.specs.name_invariant.Pictures.{Names, Task, picture}
 use Rattle.heap_machine.specs.Holdings.{Holding}
 use Rattle.heap_machine.specs.Operations.{place_of, heap_after}
 use Rattle.build_steps.specs.declared.rows.BuildRow.{BuildRow}

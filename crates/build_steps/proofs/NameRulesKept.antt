@@ -16,12 +16,12 @@ use Rattle.block_store.proofs.Functions.{funext, bit_le}
 use Rattle.never_heap.specs.Graphs.{Graph, count_of}
 use Rattle.never_heap.specs.Histories.{HistoryItem}
 use Rattle.never_heap.specs.Steps.{length_made}
-use Rattle.graph_relation.specs.Layouts.{layout_blocks}
-use Rattle.name_invariant.specs.Building.{Build, IsHeldOnce}
-use Rattle.name_invariant.specs.Events.{reserved, IsFreeBlock}
-use Rattle.name_invariant.specs.Kept.{IsKept}
-use Rattle.name_invariant.specs.Pictures.{Names, Task, picture}
-use Rattle.name_invariant.proofs.HeldBlocks.{some_is}
+use Rattle.heap_invariant.specs.graph_relation.Layouts.{layout_blocks}
+use Rattle.heap_invariant.specs.name_invariant.Building.{Build, IsHeldOnce}
+use Rattle.heap_invariant.specs.name_invariant.Events.{reserved, IsFreeBlock}
+use Rattle.heap_invariant.specs.name_invariant.Kept.{IsKept}
+use Rattle.heap_invariant.specs.name_invariant.Pictures.{Names, Task, picture}
+use Rattle.heap_invariant.proofs.name_invariant.HeldBlocks.{some_is}
 use Rattle.heap_machine.specs.FreeBlocks.{FreeHolding}
 use Rattle.heap_machine.specs.Holdings.{Holding, free_held}
 use Rattle.heap_machine.specs.Operations.{place_of, heap_after}

@@ -19,17 +19,17 @@ use Rattle.never_heap.specs.declared.Entry.{Entry}
 use Rattle.never_heap.specs.declared.Reply.TheVariants as replies
 use Rattle.never_heap.specs.Graphs.{Graph, ObjectKind, count_of, next_name, with_object, with_register}
 use Rattle.never_heap.specs.Histories.{HistoryItem, Did, IsAnswered, after}
-use Rattle.graph_relation.specs.Events.{Loading, IsPrompt, unloaded}
-use Rattle.graph_relation.specs.Layouts.{layout_blocks}
-use Rattle.graph_relation.specs.Made.{new_object}
-use Rattle.name_invariant.specs.Building.{Build, build_in, build_blocks, build_owner, build_shape, build_payload, IsHeldOnce}
-use Rattle.name_invariant.specs.Events.{KeptEvent, apply, Guard, collected, making, reserved, IsBuilding, IsFreeBlock, IsWriting}
-use Rattle.name_invariant.specs.Events.KeptEvent.{Answer, Reserve, Collect, WriteOwner, WriteShape, WritePayload, WriteColour, Publish}
-use Rattle.name_invariant.specs.Kept.{IsKept}
-use Rattle.name_invariant.specs.Pictures.{Names, Task, picture}
-use Rattle.name_invariant.specs.States.{KeptState}
-use Rattle.name_invariant.proofs.ChangedTasks.{build_changed}
-use Rattle.name_invariant.proofs.Steps.{step_kept}
+use Rattle.heap_invariant.specs.graph_relation.Events.{Loading, IsPrompt, unloaded}
+use Rattle.heap_invariant.specs.graph_relation.Layouts.{layout_blocks}
+use Rattle.heap_invariant.specs.graph_relation.Made.{new_object}
+use Rattle.heap_invariant.specs.name_invariant.Building.{Build, build_in, build_blocks, build_owner, build_shape, build_payload, IsHeldOnce}
+use Rattle.heap_invariant.specs.name_invariant.Events.{KeptEvent, apply, Guard, collected, making, reserved, IsBuilding, IsFreeBlock, IsWriting}
+use Rattle.heap_invariant.specs.name_invariant.Events.KeptEvent.{Answer, Reserve, Collect, WriteOwner, WriteShape, WritePayload, WriteColour, Publish}
+use Rattle.heap_invariant.specs.name_invariant.Kept.{IsKept}
+use Rattle.heap_invariant.specs.name_invariant.Pictures.{Names, Task, picture}
+use Rattle.heap_invariant.specs.name_invariant.States.{KeptState}
+use Rattle.heap_invariant.proofs.name_invariant.ChangedTasks.{build_changed}
+use Rattle.heap_invariant.proofs.name_invariant.Steps.{step_kept}
 use Rattle.build_steps.specs.Naming.{names_made, with_task_build}
 
 -- to picture a thread at the build that it is at changes nothing

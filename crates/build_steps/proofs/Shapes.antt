@@ -8,11 +8,11 @@ use Rattle.never_heap.specs.declared.Command.{Command}
 use Rattle.never_heap.specs.declared.Command.TheVariants.{New, Arr}
 use Rattle.never_heap.specs.Graphs.{Graph, next_name, with_object, with_register}
 use Rattle.never_heap.specs.Steps.{blocks_of, length_made, step}
-use Rattle.graph_relation.specs.Layouts.{layout_blocks, layout_part}
-use Rattle.graph_relation.specs.Made as made
-use Rattle.graph_relation.specs.Made.{new_object}
-use Rattle.graph_relation.specs.Words.{kind_word}
-use Rattle.name_invariant.specs.Events.{making}
+use Rattle.heap_invariant.specs.graph_relation.Layouts.{layout_blocks, layout_part}
+use Rattle.heap_invariant.specs.graph_relation.Made as made
+use Rattle.heap_invariant.specs.graph_relation.Made.{new_object}
+use Rattle.heap_invariant.specs.graph_relation.Words.{kind_word}
+use Rattle.heap_invariant.specs.name_invariant.Events.{making}
 use Rattle.build_steps.specs.Naming.{made_kind}
 use Rattle.build_steps.specs.Objects.{made_register, made_shape, made_part, block_at, link_word}
 

@@ -31,12 +31,12 @@ use Rattle.never_heap.specs.declared.Reply.{Reply}
 use Rattle.never_heap.specs.Graphs.{Graph, ObjectKind, Record, Array, next_name}
 use Rattle.never_heap.specs.Histories.{HistoryItem}
 use Rattle.never_heap.specs.Steps.{length_made}
-use Rattle.graph_relation.specs.Events.{unloaded}
-use Rattle.graph_relation.specs.Made.{with_blocks}
-use Rattle.name_invariant.specs.Building.{Build}
-use Rattle.name_invariant.specs.Kept.{IsKept}
-use Rattle.name_invariant.specs.Pictures.{Names, Task, picture}
-use Rattle.name_invariant.specs.States.{with_name}
+use Rattle.heap_invariant.specs.graph_relation.Events.{unloaded}
+use Rattle.heap_invariant.specs.graph_relation.Made.{with_blocks}
+use Rattle.heap_invariant.specs.name_invariant.Building.{Build}
+use Rattle.heap_invariant.specs.name_invariant.Kept.{IsKept}
+use Rattle.heap_invariant.specs.name_invariant.Pictures.{Names, Task, picture}
+use Rattle.heap_invariant.specs.name_invariant.States.{with_name}
 use Rattle.heap_machine.specs.Holdings.{Holding}
 use Rattle.heap_machine.specs.Operations.{place_of}
 use Rattle.heap_machine.specs.ReuseKept.{ReuseKept}

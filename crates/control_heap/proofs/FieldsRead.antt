@@ -18,12 +18,12 @@ use Rattle.never_heap.specs.Graphs.{Graph, Object, ObjectKind, Record, Array, fi
 use Rattle.never_heap.specs.Histories.{replay}
 use Rattle.object_lists.specs.Layouts.{IsWay}
 use Rattle.object_lists.specs.Parts.{Part, Field}
-use Rattle.graph_relation.specs.Events.{is_pending, pending_registers}
-use Rattle.graph_relation.specs.Layouts.{kind_shape, layout_part, object_blocks, shape_part}
-use Rattle.graph_relation.specs.Shown.{IsValueOf, Shows, heads}
-use Rattle.graph_relation.specs.Words.{block_words, part_word, value_word}
-use Rattle.graph_relation.proofs.ObjectLayouts.{object_layout}
-use Rattle.graph_relation.proofs.WordReads.{length_read, owner_read, register_read, value_read as word_read}
+use Rattle.heap_invariant.specs.graph_relation.Events.{is_pending, pending_registers}
+use Rattle.heap_invariant.specs.graph_relation.Layouts.{kind_shape, layout_part, object_blocks, shape_part}
+use Rattle.heap_invariant.specs.graph_relation.Shown.{IsValueOf, Shows, heads}
+use Rattle.heap_invariant.specs.graph_relation.Words.{block_words, part_word, value_word}
+use Rattle.heap_invariant.proofs.graph_relation.ObjectLayouts.{object_layout}
+use Rattle.heap_invariant.proofs.graph_relation.WordReads.{length_read, owner_read, register_read, value_read as word_read}
 use Rattle.barrier_steps.specs.Rows.{object_or_nil, shape_in, shape_or_empty}
 use Rattle.barrier_steps.specs.Walks.{field_at, link_at, links_to, ordinal_at, shape_length}
 use Rattle.barrier_steps.proofs.Decisions.{kind_length}

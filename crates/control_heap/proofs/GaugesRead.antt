@@ -25,8 +25,8 @@ use Rattle.never_heap.proofs.StepAnswers.{owes_told}
 use Rattle.rate_plan.specs.solo_bound.Near.{near_bound, near_other_bound}
 use Rattle.heap_machine.specs.FreeBlocks.{FreeKept, count_free}
 use Rattle.heap_machine.specs.Holdings.{free_held, holds_nothing}
-use Rattle.cycle_tally.specs.Kept.{live_before}
-use Rattle.cycle_tally.specs.Tallies.{given_now, reserved_now}
+use Rattle.heap_invariant.specs.cycle_tally.Kept.{live_before}
+use Rattle.heap_invariant.specs.cycle_tally.Tallies.{given_now, reserved_now}
 use Rattle.heap_system.specs.Locals.{is_rest, view}
 use Rattle.heap_system.specs.Machines.{Run, heap_in, local_in}
 use Rattle.heap_system.specs.Pictures.{holding, holdings_in}

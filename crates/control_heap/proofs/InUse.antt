@@ -24,20 +24,20 @@ use Rattle.never_heap.proofs.ReachSteps.{reachable_named}
 use Rattle.never_heap.proofs.StartGraph.{threads_of_start}
 use Rattle.never_heap.proofs.UnchangedBySteps.{replay_shape, threads_of_replay}
 use Rattle.never_heap.proofs.CycleGrowth.{replay_parts}
-use Rattle.graph_relation.specs.Events.{pending_registers}
-use Rattle.graph_relation.specs.Words.{block_words}
-use Rattle.graph_relation.proofs.WordReads.{blocks_apart}
-use Rattle.name_invariant.specs.States.{Kept}
-use Rattle.name_invariant.proofs.FlipAndStart.{reached_kept}
-use Rattle.name_invariant.proofs.ReachedBlocks.{reached_solid}
+use Rattle.heap_invariant.specs.graph_relation.Events.{pending_registers}
+use Rattle.heap_invariant.specs.graph_relation.Words.{block_words}
+use Rattle.heap_invariant.proofs.graph_relation.WordReads.{blocks_apart}
+use Rattle.heap_invariant.specs.name_invariant.States.{Kept}
+use Rattle.heap_invariant.proofs.name_invariant.FlipAndStart.{reached_kept}
+use Rattle.heap_invariant.proofs.name_invariant.ReachedBlocks.{reached_solid}
 use Rattle.heap_machine.specs.FreeBlocks.{count_free}
 use Rattle.heap_system.specs.Machines.{Run, heap_in}
 use Rattle.heap_system.specs.Pictures.{kept_state, tasks_in}
 use Rattle.heap_system.proofs.Kept.{Kept as KeptRun}
-use Rattle.cycle_tally.specs.InUse.{graph_then}
-use Rattle.cycle_tally.proofs.MadeNames.{same_blocks}
-use Rattle.cycle_tally.proofs.BlockLists.{blocks_at, length_blocks, length_these, these}
-use Rattle.cycle_tally.proofs.InUse.{one_of}
+use Rattle.heap_invariant.specs.cycle_tally.InUse.{graph_then}
+use Rattle.heap_invariant.proofs.cycle_tally.MadeNames.{same_blocks}
+use Rattle.heap_invariant.proofs.cycle_tally.BlockLists.{blocks_at, length_blocks, length_these, these}
+use Rattle.heap_invariant.proofs.cycle_tally.InUse.{one_of}
 use Rattle.control_heap.proofs.KnownAtStart.{KnowsStart}
 
 one_there : (n y : ℕ) → 0 < y → y ≤ n → total n (λ x. bit (eqb (suc x) y)) ≡ 1

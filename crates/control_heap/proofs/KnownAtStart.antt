@@ -11,8 +11,8 @@ use Rattle.never_heap.specs.Histories.{HistoryItem, Started, replay, starts_in}
 use Rattle.never_heap.specs.Reach.{reachable}
 use Rattle.never_heap.proofs.CycleGrowth.{graph_at_more, graph_at_next}
 use Rattle.never_heap.proofs.HistoryGrowth.{starts_append}
-use Rattle.name_invariant.specs.Pictures.{Names}
-use Rattle.cycle_tally.specs.InUse.{graph_then}
+use Rattle.heap_invariant.specs.name_invariant.Pictures.{Names}
+use Rattle.heap_invariant.specs.cycle_tally.InUse.{graph_then}
 use Rattle.build_steps.specs.LinearizationPoints.{is_publishing}
 use Rattle.heap_system.specs.Parts.{Part, Rest, Enter, Serve, Mark, Sweep, Build, Retry, ToChange, PhaseChange, Leave}
 use Rattle.heap_system.specs.Locals.{Effect, Verdict, Open, command_of, effect}

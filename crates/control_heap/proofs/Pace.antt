@@ -10,8 +10,8 @@ use Rattle.never_heap.specs.declared.Reply.{Reply}
 use Rattle.never_heap.specs.Bounds.{IsCommandInBounds}
 use Rattle.never_heap.specs.Histories.{replay, starts_in, work_in}
 use Rattle.work_account.specs.Accounts.{units_in}
-use Rattle.cycle_tally.specs.Tallies.{made_now, units_now}
-use Rattle.cycle_tally.proofs.CycleUnits.{few_units}
+use Rattle.heap_invariant.specs.cycle_tally.Tallies.{made_now, units_now}
+use Rattle.heap_invariant.proofs.cycle_tally.CycleUnits.{few_units}
 use Rattle.heap_system.specs.declared.Turn.TheVariants.{Went}
 use Rattle.heap_system.specs.Alone.{after_alone}
 use Rattle.heap_system.specs.Costs.{units_so_far}

@@ -16,14 +16,14 @@ use Rattle.heap_machine.specs.Operations.{place_of, heap_after}
 use Rattle.heap_machine.proofs.GreyBlocks.{scan_is_grey}
 use Rattle.never_heap.specs.Graphs.{Graph}
 use Rattle.never_heap.specs.Histories.{HistoryItem}
-use Rattle.graph_relation.specs.Events.{HasValue}
-use Rattle.name_invariant.specs.Events.{loaded_word}
-use Rattle.name_invariant.specs.Kept.{IsKept}
-use Rattle.name_invariant.specs.Pictures.{Task, Names, picture}
-use Rattle.name_invariant.specs.States.{KeptState}
-use Rattle.name_invariant.proofs.ColourEvents.{reads_word, shades_read, blackens, shades_loaded}
-use Rattle.name_invariant.proofs.ChangedTasks.{scan_changed}
-use Rattle.name_invariant.proofs.KeptStates.{scanned}
+use Rattle.heap_invariant.specs.graph_relation.Events.{HasValue}
+use Rattle.heap_invariant.specs.name_invariant.Events.{loaded_word}
+use Rattle.heap_invariant.specs.name_invariant.Kept.{IsKept}
+use Rattle.heap_invariant.specs.name_invariant.Pictures.{Task, Names, picture}
+use Rattle.heap_invariant.specs.name_invariant.States.{KeptState}
+use Rattle.heap_invariant.proofs.name_invariant.ColourEvents.{reads_word, shades_read, blackens, shades_loaded}
+use Rattle.heap_invariant.proofs.name_invariant.ChangedTasks.{scan_changed}
+use Rattle.heap_invariant.proofs.name_invariant.KeptStates.{scanned}
 use Rattle.grey_steps.specs.declared.rows.GreyRow.{GreyRow}
 use Rattle.grey_steps.specs.declared.rows.GreyRow.TheVariants.{Take, Pop, ScanWord, Shade, Blacken, Put, Scanned, NothingGrey, TakeOwn, ShadeStored, PutOwn, Shaded}
 use Rattle.grey_steps.specs.MarkUnits.{is_shading, block_stored}

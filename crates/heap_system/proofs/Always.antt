@@ -14,7 +14,7 @@ use Rattle.never_heap.specs.Histories.{Started, replay}
 use Rattle.never_heap.proofs.StartGraph.{count_of_start}
 use Rattle.heap_machine.specs.Gating.{Gating, is_outside, is_inside, is_closing}
 use Rattle.heap_machine.specs.Holdings.{holds_nothing}
-use Rattle.name_invariant.specs.Pictures.{no_task}
+use Rattle.heap_invariant.specs.name_invariant.Pictures.{no_task}
 use Rattle.work_account.proofs.Balances.{opened_sound}
 use Rattle.never_heap.specs.declared.Command.TheVariants as commands
 use Rattle.never_heap.specs.RightWork.{units_told}

@@ -36,9 +36,9 @@ use Rattle.build_steps.specs.Rows as building
 use Rattle.build_steps.specs.declared.rows.BuildRow.{BuildRow}
 use Rattle.build_steps.specs.declared.rows.BuildRow.TheVariants as builds
 use Rattle.build_steps.proofs.Together.{phase_stays}
-use Rattle.name_invariant.specs.Colouring.{IsShadedRoot}
-use Rattle.name_invariant.specs.Reached.{IsReachedBlock}
-use Rattle.name_invariant.proofs.ReachedBlocks.{flipped_black, started_black}
+use Rattle.heap_invariant.specs.name_invariant.Colouring.{IsShadedRoot}
+use Rattle.heap_invariant.specs.name_invariant.Reached.{IsReachedBlock}
+use Rattle.heap_invariant.proofs.name_invariant.ReachedBlocks.{flipped_black, started_black}
 use Rattle.heap_system.specs.Parts.{Part, Rest, Enter, Serve, Mark, Sweep, Build, Retry, ToChange, PhaseChange, Leave}
 use Rattle.build_steps.specs.Rows.{BuildState}
 use Rattle.heap_system.specs.Locals.{part_want, is_rest, is_done, command_of}

@@ -22,8 +22,8 @@ use Rattle.heap_machine.proofs.Gatings.{gate_leaves, inside_some}
 use Rattle.heap_machine.proofs.Held.{held_put}
 use Rattle.heap_machine.proofs.PhaseRules.{phase_stays}
 use Rattle.barrier_steps.specs.Fits.{IsThread}
-use Rattle.name_invariant.specs.Kept.{IsKept}
-use Rattle.name_invariant.specs.Pictures.{Names, Task, no_task, picture}
+use Rattle.heap_invariant.specs.name_invariant.Kept.{IsKept}
+use Rattle.heap_invariant.specs.name_invariant.Pictures.{Names, Task, no_task, picture}
 use Rattle.sweep_steps.specs.SweepUnits.{unpassed}
 use Rattle.heap_system.specs.Parts.{Part, Rest}
 use Rattle.heap_system.specs.Locals.{plain, pass_got, entries_of, task, unit_to_come, PartFits, IsRoomy}

@@ -37,8 +37,8 @@ use Rattle.array_trees.proofs.Counts.{few_shared}
 use Rattle.array_trees.proofs.RegisterArrays.{array_of}
 use Rattle.never_heap.specs.Graphs.{start_graph, shared_name, register_of}
 use Rattle.never_heap.proofs.StartGraph.{register_of_start}
-use Rattle.graph_relation.specs.Words.{part_word, value_word}
-use Rattle.graph_relation.specs.InitialHeaps.{register_word, shared_word}
+use Rattle.heap_invariant.specs.graph_relation.Words.{part_word, value_word}
+use Rattle.heap_invariant.specs.graph_relation.InitialHeaps.{register_word, shared_word}
 use Rattle.array_trees.specs.InitialHeaps.{opening_blocks}
 use Rattle.block_store.specs.Counts.{total}
 use Rattle.heap_machine.specs.Grey.{GreyHolding, no_grey, Stands, GreyKept}

@@ -18,11 +18,11 @@ use Rattle.rate_plan.specs.Rates.{IsAdmitted}
 use Rattle.array_trees.specs.InitialHeaps.{opening_blocks}
 use Rattle.never_heap.specs.Graphs.{start_graph}
 use Rattle.never_heap.specs.Histories.{Started}
-use Rattle.graph_relation.specs.Events.{opening_state}
-use Rattle.graph_relation.specs.InitialHeaps.{opening_at, opening_words}
-use Rattle.graph_relation.specs.Words.{BlockWords, block_words, Agrees}
-use Rattle.graph_relation.proofs.OpeningWords.{opening_shows}
-use Rattle.graph_relation.proofs.Stores.{words_change}
+use Rattle.heap_invariant.specs.graph_relation.Events.{opening_state}
+use Rattle.heap_invariant.specs.graph_relation.InitialHeaps.{opening_at, opening_words}
+use Rattle.heap_invariant.specs.graph_relation.Words.{BlockWords, block_words, Agrees}
+use Rattle.heap_invariant.proofs.graph_relation.OpeningWords.{opening_shows}
+use Rattle.heap_invariant.proofs.graph_relation.Stores.{words_change}
 use Rattle.heap_machine.specs.FreeBlocks.{FreeKept}
 use Rattle.heap_machine.specs.Holdings.{Holding, holds_nothing, grey_held, free_held, sweep_held, tricolour_held}
 use Rattle.heap_machine.specs.PhaseKept.{PhaseKept}
@@ -30,12 +30,12 @@ use Rattle.heap_machine.specs.Sweeping.{SweepKept, no_claim, has_claimed}
 use Rattle.heap_machine.specs.Solid.{SolidKept}
 use Rattle.heap_machine.specs.Tricolour.{TricolourKept}
 use Rattle.heap_machine.proofs.OpeningFreeList.{free_opens}
-use Rattle.name_invariant.specs.Colouring.{NotRoot}
-use Rattle.name_invariant.specs.Kept.{IsKept}
-use Rattle.name_invariant.specs.InitialHeaps.{OpeningColours, opening_kept}
-use Rattle.name_invariant.specs.Pictures.{Task, no_task, picture}
-use Rattle.name_invariant.proofs.Colours.{differ}
-use Rattle.name_invariant.proofs.OpeningKept.{opening_is_kept}
+use Rattle.heap_invariant.specs.name_invariant.Colouring.{NotRoot}
+use Rattle.heap_invariant.specs.name_invariant.Kept.{IsKept}
+use Rattle.heap_invariant.specs.name_invariant.InitialHeaps.{OpeningColours, opening_kept}
+use Rattle.heap_invariant.specs.name_invariant.Pictures.{Task, no_task, picture}
+use Rattle.heap_invariant.proofs.name_invariant.Colours.{differ}
+use Rattle.heap_invariant.proofs.name_invariant.OpeningKept.{opening_is_kept}
 use Rattle.heap_system.specs.Naming.{opening_names}
 use Rattle.heap_system.specs.InitialHeaps.{is_root, opening_colour, opening_heap}
 use Rattle.heap_system.proofs.Grounds.{is_of_thread, is_the_root, block_in, payload_is, opening_taken, opening_grey}

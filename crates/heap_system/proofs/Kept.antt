@@ -12,8 +12,8 @@ use Rattle.never_heap.specs.Histories.{HistoryItem, replay, part, work_in}
 use Rattle.heap_machine.specs.Gating.{GateOf}
 use Rattle.heap_machine.specs.PhaseKept.{PhaseKept}
 use Rattle.heap_machine.specs.Readings.{IsHeld}
-use Rattle.name_invariant.specs.Kept.{IsKept}
-use Rattle.name_invariant.specs.Pictures.{Names}
+use Rattle.heap_invariant.specs.name_invariant.Kept.{IsKept}
+use Rattle.heap_invariant.specs.name_invariant.Pictures.{Names}
 use Rattle.sweep_steps.specs.SweepUnits.{unpassed}
 use Rattle.heap_system.specs.Locals.{LocalState, command_of, owed, works, IsLocal}
 use Rattle.heap_system.specs.Machines.{Run, local_at, heap_in}

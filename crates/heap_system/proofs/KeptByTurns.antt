@@ -25,8 +25,8 @@ use Rattle.heap_machine.specs.Readings.{IsHeld}
 use Rattle.heap_machine.specs.Sweeping.{IsRange}
 use Rattle.heap_machine.specs.declared.pass.Pass.{Pass}
 use Rattle.heap_machine.proofs.HeapAfter.{heap_of-after, length-after, op_place_below, sum_fits, word_before}
-use Rattle.name_invariant.specs.Kept.{IsKept}
-use Rattle.name_invariant.specs.Pictures.{Names, picture}
+use Rattle.heap_invariant.specs.name_invariant.Kept.{IsKept}
+use Rattle.heap_invariant.specs.name_invariant.Pictures.{Names, picture}
 use Rattle.heap_system.specs.Parts.{Part, Rest}
 use Rattle.sweep_steps.specs.SweepUnits.{unpassed}
 use Rattle.heap_system.specs.Locals.{LocalState, Effect, command_of, owed, errand_of, effect, is_rest, is_done, part_want, part_got, pass_got, spent_got, local_got, entries_of, works, task, unit_to_come, PartFits, PartReads, IsRoomy}

@@ -10,16 +10,16 @@ use Rattle.never_heap.specs.declared.Command.{Command}
 use Rattle.never_heap.specs.declared.Command.TheVariants as commands
 use Rattle.never_heap.specs.Graphs.{register_of}
 use Rattle.never_heap.specs.Histories.{replay}
-use Rattle.graph_relation.specs.Events.{ObjectLoad, ValueLoad, ObjectIs, ValueIs, is_pending}
-use Rattle.graph_relation.specs.Shown.{IsValueOf}
-use Rattle.name_invariant.specs.Building.{Build, NotHeld}
-use Rattle.name_invariant.specs.Colouring.{IfRefers, IsBlockOf, IsShadedRoot}
-use Rattle.name_invariant.specs.Kept.{IsKept}
-use Rattle.name_invariant.specs.States.{KeptState, sizes, Kept as KeptNames}
-use Rattle.name_invariant.specs.Reached.{IsReachedBlock}
-use Rattle.name_invariant.proofs.HeldBlocks.{some_is}
-use Rattle.name_invariant.proofs.ReachedBlocks.{reached_black, dark_refers}
-use Rattle.name_invariant.proofs.KeptStates.{kept_not_held, value_refers}
+use Rattle.heap_invariant.specs.graph_relation.Events.{ObjectLoad, ValueLoad, ObjectIs, ValueIs, is_pending}
+use Rattle.heap_invariant.specs.graph_relation.Shown.{IsValueOf}
+use Rattle.heap_invariant.specs.name_invariant.Building.{Build, NotHeld}
+use Rattle.heap_invariant.specs.name_invariant.Colouring.{IfRefers, IsBlockOf, IsShadedRoot}
+use Rattle.heap_invariant.specs.name_invariant.Kept.{IsKept}
+use Rattle.heap_invariant.specs.name_invariant.States.{KeptState, sizes, Kept as KeptNames}
+use Rattle.heap_invariant.specs.name_invariant.Reached.{IsReachedBlock}
+use Rattle.heap_invariant.proofs.name_invariant.HeldBlocks.{some_is}
+use Rattle.heap_invariant.proofs.name_invariant.ReachedBlocks.{reached_black, dark_refers}
+use Rattle.heap_invariant.proofs.name_invariant.KeptStates.{kept_not_held, value_refers}
 use Rattle.barrier_steps.specs.Fits.{is_store_of, is_row_of}
 use Rattle.barrier_steps.specs.Operands.{to_register, takes_field, answers_value}
 use Rattle.barrier_steps.specs.Projection.{store_loading, row_loading, carried_load}

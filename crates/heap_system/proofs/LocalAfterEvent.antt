@@ -15,7 +15,7 @@ use Rattle.never_heap.specs.Steps.{blocks_of}
 use Rattle.work_account.specs.Accounts.{Balance, IsSound}
 use Rattle.heap_machine.specs.Gating.{is_closing}
 use Rattle.heap_machine.specs.declared.pass.Pass.{Pass}
-use Rattle.name_invariant.specs.Pictures.{Names}
+use Rattle.heap_invariant.specs.name_invariant.Pictures.{Names}
 use Rattle.heap_system.specs.Parts.{Part, Leave}
 use Rattle.heap_system.specs.Locals.{LocalState, command_of, owed, errand_of, effect, part_got, pass_got, balance_in, balance_paid, balance_got, spent_got, paid_part, made_got, Verdict, entry_of, entries_of, works, unit_to_come, PartFits, IsRoomy}
 use Rattle.heap_system.specs.Pictures.{stand_of, waiting}

@@ -23,10 +23,10 @@ use Rattle.sweep_steps.specs.Rows.{row_want, sweep_want, sweep_holding}
 use Rattle.sweep_steps.specs.declared.rows.SweepRow.{SweepRow}
 use Rattle.sweep_steps.specs.declared.rows.SweepRow.TheVariants as sweeps
 use Rattle.build_steps.specs.LinearizationPoints.{is_publishing}
-use Rattle.cycle_tally.specs.Bounds.{Bound, IsSwept}
-use Rattle.cycle_tally.specs.Tallies.{Spending, Tally, units_now, made_now}
-use Rattle.cycle_tally.specs.Tallies as tallying
-use Rattle.cycle_tally.proofs.Laws.{bound_of}
+use Rattle.heap_invariant.specs.cycle_tally.Bounds.{Bound, IsSwept}
+use Rattle.heap_invariant.specs.cycle_tally.Tallies.{Spending, Tally, units_now, made_now}
+use Rattle.heap_invariant.specs.cycle_tally.Tallies as tallying
+use Rattle.heap_invariant.proofs.cycle_tally.Laws.{bound_of}
 use Rattle.heap_system.specs.Parts.{Part, Mark, Sweep, Build, PhaseChange}
 use Rattle.heap_system.specs.Costs.{units_so_far}
 use Rattle.heap_system.specs.Cycles.{is_at_block, scans_block, passes_block, times_that, is_behind}

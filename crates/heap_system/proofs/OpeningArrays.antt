@@ -22,9 +22,9 @@ use Rattle.array_trees.proofs.Arrays.{tree_layout}
 use Rattle.array_trees.proofs.Counts.{few_shared}
 use Rattle.never_heap.specs.Graphs.{start_graph, shared_name, register_of}
 use Rattle.never_heap.proofs.StartGraph.{register_of_start}
-use Rattle.graph_relation.specs.Words.{value_word, part_word}
-use Rattle.graph_relation.specs.Made.{link_word}
-use Rattle.graph_relation.specs.InitialHeaps.{opening_at, shared_block, register_word, shared_word}
+use Rattle.heap_invariant.specs.graph_relation.Words.{value_word, part_word}
+use Rattle.heap_invariant.specs.graph_relation.Made.{link_word}
+use Rattle.heap_invariant.specs.graph_relation.InitialHeaps.{opening_at, shared_block, register_word, shared_word}
 use Rattle.array_trees.specs.InitialHeaps.{opening_blocks}
 use Rattle.heap_system.specs.InitialHeaps.{opening_heap}
 

@@ -19,7 +19,7 @@ use Rattle.never_heap.specs.Orders.{item_of, IsHistoryOf}
 use Rattle.never_heap.proofs.HistoryGrowth.{starts_append}
 use Rattle.barrier_steps.specs.Rows.{field_decided}
 use Rattle.barrier_steps.proofs.Dues.{none_due, some_due}
-use Rattle.cycle_tally.specs.Entries.{InThreads}
+use Rattle.heap_invariant.specs.cycle_tally.Entries.{InThreads}
 use Rattle.heap_machine.specs.Readings.{CanHold}
 use Rattle.heap_machine.specs.declared.pass.Pass.{Pass}
 use Rattle.heap_system.specs.Parts.{Part, Serve}

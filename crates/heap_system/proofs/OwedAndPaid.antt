@@ -17,7 +17,7 @@ use Rattle.never_heap.specs.declared.Reply.TheVariants as replies
 use Rattle.std.proofs.lemmas.List.Elements.{All-from_recursion}
 use Rattle.never_heap.specs.Bounds.{IsCommandInBounds}
 use Rattle.never_heap.specs.RightWork.{units_told, units_owed}
-use Rattle.cycle_tally.specs.Kept.{most_work}
+use Rattle.heap_invariant.specs.cycle_tally.Kept.{most_work}
 use Rattle.never_heap.specs.Steps.{blocks_of}
 use Rattle.never_heap.proofs.StepAnswers.{blocks_make}
 use Rattle.never_heap.proofs.CommandBounds as ranges

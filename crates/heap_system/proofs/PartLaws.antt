@@ -12,7 +12,7 @@ use Rattle.heap_machine.specs.Holdings.{holds_nothing}
 use Rattle.heap_machine.specs.Operations.{heap_after, place_of, Fits}
 use Rattle.heap_machine.specs.declared.pass.Pass.{Pass}
 use Rattle.build_steps.specs.Naming.{HoldsBuild}
-use Rattle.name_invariant.specs.Pictures.{Names, no_task}
+use Rattle.heap_invariant.specs.name_invariant.Pictures.{Names, no_task}
 use Rattle.heap_system.specs.Parts.{Part, Rest}
 use Rattle.heap_system.specs.declared.Turn.TheVariants as turns
 use Rattle.heap_system.specs.Locals.{view, task, effect, part_want, part_got, spent_got, entries_of, works, unit_to_come, PartFits, PartReads, IsRoomy, turn_of, waits}

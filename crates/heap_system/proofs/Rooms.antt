@@ -31,7 +31,7 @@ use Rattle.heap_system.specs.Locals.{LocalState, Effect, Errand, View, command_o
 use Rattle.heap_system.specs.Machines.{State, Run, local_at, no_local, heap_in, word_read, next_effect, event_done, has_event, turned, items_by, decided, names_after, next, after_turns, starts_from, opened, IsOpening, IsRunOf}
 use Rattle.heap_system.specs.Naming.{renamed, opening_names}
 use Rattle.heap_system.specs.Systems.{logs_of}
-use Rattle.name_invariant.specs.Pictures.{Names}
+use Rattle.heap_invariant.specs.name_invariant.Pictures.{Names}
 use Rattle.never_heap.specs.Histories.{HistoryItem, Started, replay}
 use Rattle.heap_system.specs.Rooms.{part_without_room, without_room, threads_without_room}
 

@@ -13,12 +13,12 @@ use Rattle.never_heap.specs.Histories.{HistoryItem, Started, Did, part, starts_i
 use Rattle.never_heap.specs.Licensed.{Licensed, StartsSmall, NoFulls}
 use Rattle.never_heap.specs.RightWork.{RightWork}
 use Rattle.never_heap.proofs.NoFullRuns.{none_full}
-use Rattle.cycle_tally.specs.Bounds.{Bound}
-use Rattle.cycle_tally.specs.Entries.{InThreads}
-use Rattle.cycle_tally.specs.Kept.{most_given}
-use Rattle.cycle_tally.specs.Tallies.{units, made_now}
-use Rattle.cycle_tally.proofs.Laws.{bound_of}
-use Rattle.cycle_tally.proofs.CountBounds.{counts_small}
+use Rattle.heap_invariant.specs.cycle_tally.Bounds.{Bound}
+use Rattle.heap_invariant.specs.cycle_tally.Entries.{InThreads}
+use Rattle.heap_invariant.specs.cycle_tally.Kept.{most_given}
+use Rattle.heap_invariant.specs.cycle_tally.Tallies.{units, made_now}
+use Rattle.heap_invariant.proofs.cycle_tally.Laws.{bound_of}
+use Rattle.heap_invariant.proofs.cycle_tally.CountBounds.{counts_small}
 use Rattle.heap_system.specs.Parts.{Part}
 use Rattle.heap_system.specs.Costs.{units_so_far}
 use Rattle.heap_system.specs.Locals.{LocalState, works}

@@ -16,7 +16,7 @@ use Rattle.heap_machine.specs.Holdings.{holds_nothing}
 use Rattle.barrier_steps.specs.Rows.{FieldState, field_decided}
 use Rattle.barrier_steps.proofs.Dues.{none_due, some_due}
 use Rattle.build_steps.specs.Rows.{BuildState}
-use Rattle.name_invariant.specs.Pictures.{no_task}
+use Rattle.heap_invariant.specs.name_invariant.Pictures.{no_task}
 use Rattle.heap_system.specs.Parts.{Part, Rest, Serve, Build, Leave}
 use Rattle.never_heap.specs.RightWork.{units_told, units_owed}
 use Rattle.barrier_steps.specs.Operands.{is_idle}

@@ -20,12 +20,12 @@ use Rattle.never_heap.specs.Steps.{blocks_of}
 use Rattle.never_heap.proofs.OpeningLiveBlocks.{opening_live}
 use Rattle.never_heap.proofs.CommandBounds.{blocks_low, told_low, bounds_at}
 use Rattle.work_account.specs.Accounts as accounts
-use Rattle.cycle_tally.specs.Kept.{TallyKept}
-use Rattle.cycle_tally.specs.InitialHeaps.{opening_tally}
-use Rattle.cycle_tally.specs.Tallies.{Spending, Tally, made_of}
+use Rattle.heap_invariant.specs.cycle_tally.Kept.{TallyKept}
+use Rattle.heap_invariant.specs.cycle_tally.InitialHeaps.{opening_tally}
+use Rattle.heap_invariant.specs.cycle_tally.Tallies.{Spending, Tally, made_of}
 use Rattle.work_account.specs.Accounts.{Balance}
-use Rattle.cycle_tally.proofs.Laws as tallies
-use Rattle.cycle_tally.proofs.InitialHeaps.{opens}
+use Rattle.heap_invariant.proofs.cycle_tally.Laws as tallies
+use Rattle.heap_invariant.proofs.cycle_tally.InitialHeaps.{opens}
 use Rattle.heap_system.specs.Parts.{Part}
 use Rattle.heap_system.specs.Locals.{LocalState, command_of, owed, is_done, paid_part, spent_got, entries_of}
 use Rattle.heap_system.specs.Machines.{State, Run, local_at, event_done, has_event, next_effect, items_by, heap_in, next, after_turns, IsOpening, IsJob, IsRunOf, opened}

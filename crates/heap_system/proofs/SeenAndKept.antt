@@ -32,9 +32,9 @@ use Rattle.sweep_steps.specs.SweepUnits.{unpassed}
 use Rattle.sweep_steps.specs.Rows.{SweepState, sweep_over, sweep_passed}
 use Rattle.build_steps.specs.Rows.{BuildState, build_over}
 use Rattle.build_steps.specs.Naming.{HoldsBuild}
-use Rattle.name_invariant.specs.Kept.{IsKept}
+use Rattle.heap_invariant.specs.name_invariant.Kept.{IsKept}
 use Rattle.work_account.specs.Accounts.{Balance}
-use Rattle.name_invariant.specs.Pictures.{Names, Task, no_task, picture}
+use Rattle.heap_invariant.specs.name_invariant.Pictures.{Names, Task, no_task, picture}
 use Rattle.heap_system.specs.Parts.{Part, Rest, Enter, Serve, Mark, Sweep, Build, ToChange, PhaseChange, Leave}
 use Rattle.heap_system.specs.Lives.{objects_of}
 use Rattle.heap_system.specs.Locals.{paid_part, Errand, Effect, Verdict, Open, AsStep, Refused, task, pass_got, spent_got, made_got, entry_of, entries_of, works, unit_to_come, PartFits, IsRoomy}

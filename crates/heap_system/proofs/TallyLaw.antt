@@ -15,10 +15,10 @@ use Rattle.never_heap.specs.RightWork.{units_told}
 use Rattle.never_heap.specs.Steps.{blocks_of}
 use Rattle.heap_machine.specs.Gating.{is_inside}
 use Rattle.heap_machine.specs.Operations.{heap_after}
-use Rattle.name_invariant.specs.Building.{Build as Builder, build_blocks}
+use Rattle.heap_invariant.specs.name_invariant.Building.{Build as Builder, build_blocks}
 use Rattle.work_account.specs.Accounts.{Balance}
-use Rattle.cycle_tally.specs.Kept.{TallyKept}
-use Rattle.cycle_tally.specs.Tallies.{Spending, Tally, units_now}
+use Rattle.heap_invariant.specs.cycle_tally.Kept.{TallyKept}
+use Rattle.heap_invariant.specs.cycle_tally.Tallies.{Spending, Tally, units_now}
 use Rattle.heap_system.specs.Parts.{Part}
 use Rattle.heap_system.specs.Locals.{Effect, view, effect, idle_part, spent_got, balance_got, part_want, part_got}
 use Rattle.heap_system.specs.Machines.{starts_by}

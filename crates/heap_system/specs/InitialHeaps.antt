@@ -8,7 +8,7 @@ use Rattle.block_store.specs.Phases.{phase_code}
 use Rattle.block_store.specs.Places.{Phase, Cursor, FreeCount, GreyList, FreeList, ColourOf, OwnerOf, ShapeOf, PayloadOf}
 use Rattle.block_store.specs.Registers.{root_block, registers_end, register_ordinal}
 use Rattle.array_trees.specs.InitialHeaps.{opening_blocks}
-use Rattle.graph_relation.specs.InitialHeaps.{opening_words}
+use Rattle.heap_invariant.specs.graph_relation.InitialHeaps.{opening_words}
 
 -- cycle 1 in Mark, with the gate open and nobody inside
 abbrev pub opening_phase : ℕ

@@ -3,7 +3,7 @@
 use Rattle.std.specs.Prelude.{ℕ, ◌≡◌, ◌≢◌, ◌⊎◌, true, Option, Some}
 use Rattle.block_store.specs.Payloads.{target}
 use Rattle.barrier_steps.specs.Operands.{takes_field, to_register}
-use Rattle.graph_relation.specs.Events.{Loading, ObjectLoad, ValueLoad}
+use Rattle.heap_invariant.specs.graph_relation.Events.{Loading, ObjectLoad, ValueLoad}
 use Rattle.barrier_steps.specs.Rows.{FieldState, field_decided}
 use Rattle.heap_system.specs.Parts.{Serve}
 use Rattle.heap_system.specs.Locals.{LocalState, command_of}

@@ -47,9 +47,9 @@ use Rattle.build_steps.specs.LinearizationPoints.{is_counting, is_publishing}
 use Rattle.build_steps.specs.Naming.{build_of}
 use Rattle.build_steps.specs.declared.rows.BuildRow.{BuildRow}
 use Rattle.build_steps.specs.declared.rows.BuildRow.TheVariants as builds
-use Rattle.graph_relation.specs.Events.{Loading, unloaded}
-use Rattle.name_invariant.specs.Building.{Build as Builder}
-use Rattle.name_invariant.specs.Pictures.{Task}
+use Rattle.heap_invariant.specs.graph_relation.Events.{Loading, unloaded}
+use Rattle.heap_invariant.specs.name_invariant.Building.{Build as Builder}
+use Rattle.heap_invariant.specs.name_invariant.Pictures.{Task}
 use Rattle.heap_system.specs.Lives.{AreCommands, sum_after, objects_of, most_units, most_objects}
 use Rattle.heap_system.specs.Naming.{Naming, Same, Lost, Begun, Shaded, Made}
 use Rattle.heap_system.specs.Parts.{Part, Rest, Enter, Serve, Mark, Sweep, Build, Retry, ToChange, PhaseChange, Leave}

@@ -11,7 +11,7 @@ use Rattle.never_heap.specs.Histories.{HistoryItem, Started, Did, replay}
 use Rattle.heap_system.specs.Lives.{AreLives}
 use Rattle.never_heap.specs.Steps.{step}
 use Rattle.heap_machine.specs.Operations.{op_at, op_place, words_after}
-use Rattle.name_invariant.specs.Pictures.{Names}
+use Rattle.heap_invariant.specs.name_invariant.Pictures.{Names}
 use Rattle.heap_system.specs.Parts.{Leave}
 use Rattle.heap_system.specs.declared.Turn.{Turn}
 use Rattle.heap_system.specs.declared.Turn.TheVariants.{Done}

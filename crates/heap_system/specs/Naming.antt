@@ -8,10 +8,10 @@ use Rattle.block_store.specs.Phases.{cycle_of}
 use Rattle.block_store.specs.Places.{Phase, ColourOf}
 use Rattle.never_heap.specs.Graphs.{Graph, start_graph, next_name}
 use Rattle.never_heap.specs.Reach.{reachable}
-use Rattle.graph_relation.specs.Made.{with_blocks}
-use Rattle.graph_relation.specs.InitialHeaps.{opening_at}
-use Rattle.name_invariant.specs.Pictures.{Names}
-use Rattle.name_invariant.specs.States.{with_name}
+use Rattle.heap_invariant.specs.graph_relation.Made.{with_blocks}
+use Rattle.heap_invariant.specs.graph_relation.InitialHeaps.{opening_at}
+use Rattle.heap_invariant.specs.name_invariant.Pictures.{Names}
+use Rattle.heap_invariant.specs.name_invariant.States.{with_name}
 
 -- nothing; what the flip found unmarked is lost; what is reachable at a start is known and kept;
 -- the root of thread u is shaded; or an object is made, whose ordinals stand at these blocks

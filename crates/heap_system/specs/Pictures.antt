@@ -10,8 +10,8 @@ use Rattle.heap_machine.specs.Gating.{Gating, Stand}
 use Rattle.heap_machine.specs.Holdings.{Holding}
 use Rattle.heap_machine.specs.declared.pass.Pass.{Pass}
 use Rattle.barrier_steps.specs.Replies.{reply_due}
-use Rattle.name_invariant.specs.Pictures.{Task, picture}
-use Rattle.name_invariant.specs.States.{KeptState}
+use Rattle.heap_invariant.specs.name_invariant.Pictures.{Task, picture}
+use Rattle.heap_invariant.specs.name_invariant.States.{KeptState}
 use Rattle.heap_system.specs.Parts.{Part, Serve}
 use Rattle.heap_system.specs.Locals.{LocalState, view, task, command_of, entries_of}
 use Rattle.heap_system.specs.Machines.{State, Run, local_at, heap_in}

@@ -4,7 +4,7 @@ use Rattle.block_store.specs.declared.Config.{Config}
 use Rattle.block_store.specs.Colours.{is_grey, black_word}
 use Rattle.block_store.specs.Phases.{cycle_of}
 use Rattle.block_store.specs.Places.{Phase, ColourOf}
-use Rattle.name_invariant.specs.Colouring.{IsShadedRoot}
+use Rattle.heap_invariant.specs.name_invariant.Colouring.{IsShadedRoot}
 use Rattle.heap_system.specs.Machines.{Run, heap_in}
 
 -- block x is black

@@ -10,7 +10,7 @@ ghost use Rattle.never_heap.specs.Given.{given};
 ghost use Rattle.never_heap.specs.Histories.{starts_in, work_in};
 ghost use Rattle.never_heap.specs.Licensed.{Licensed, StartsSmall, NoFulls};
 ghost use Rattle.never_heap.specs.RightWork.{RightWork};
-ghost use Rattle.cycle_tally.specs.Kept.{most_given};
+ghost use Rattle.heap_invariant.specs.cycle_tally.Kept.{most_given};
 ghost use Rattle.heap_system.specs.Costs.{units_so_far};
 ghost use Rattle.heap_system.specs.Machines.{Run, IsAfterTurns, opened};
 ghost use Rattle.heap_system.specs.Systems.{AllDone};

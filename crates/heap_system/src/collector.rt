@@ -8,10 +8,10 @@ ghost use Rattle.block_store.specs.Colours.{is_free, is_grey, black_word, white_
 ghost use Rattle.block_store.specs.Phases.{inside_of, is_closed, is_sweep, cycle_of};
 ghost use Rattle.block_store.specs.Places.{Phase, Cursor, GreyList, FreeList, ColourOf, PayloadOf, extent};
 ghost use Rattle.block_store.specs.Widths.{payloads};
-ghost use Rattle.graph_relation.specs.Words.{block_words};
-ghost use Rattle.name_invariant.specs.Building.{Build as Building, build_blocks, IsBuild, IsBuilt};
-ghost use Rattle.name_invariant.specs.Colouring.{IfRefers, IsDark, IsShadedRoot};
-ghost use Rattle.name_invariant.specs.Reached.{IsReachedBlock, IsReachedOrMade, IsColouredOf};
+ghost use Rattle.heap_invariant.specs.graph_relation.Words.{block_words};
+ghost use Rattle.heap_invariant.specs.name_invariant.Building.{Build as Building, build_blocks, IsBuild, IsBuilt};
+ghost use Rattle.heap_invariant.specs.name_invariant.Colouring.{IfRefers, IsDark, IsShadedRoot};
+ghost use Rattle.heap_invariant.specs.name_invariant.Reached.{IsReachedBlock, IsReachedOrMade, IsColouredOf};
 ghost use Rattle.heap_machine.specs.FreeBlocks.{FreeKept};
 ghost use Rattle.heap_machine.specs.Gating.{open_word};
 ghost use Rattle.heap_machine.specs.Grey.{GreyKept};

@@ -11,9 +11,9 @@ ghost use Rattle.rate_plan.specs.Rates.{IsAdmitted};
 ghost use Rattle.object_lists.specs.Parts.{link_in};
 ghost use Rattle.array_trees.specs.Trees.{array_blocks};
 ghost use Rattle.array_trees.specs.Levels.{array_part};
-ghost use Rattle.graph_relation.specs.Made.{link_word};
+ghost use Rattle.heap_invariant.specs.graph_relation.Made.{link_word};
 ghost use Rattle.array_trees.specs.InitialHeaps.{opening_blocks};
-ghost use Rattle.graph_relation.specs.InitialHeaps.{register_word, shared_word};
+ghost use Rattle.heap_invariant.specs.graph_relation.InitialHeaps.{register_word, shared_word};
 ghost use Rattle.heap_system.specs.InitialHeaps.{opening_colour, opening_heap};
 
 use array_trees::{blocks_of_array, child_of};

@@ -6,7 +6,7 @@ use Rattle.block_store.specs.Owners.{owner_of}
 use Rattle.block_store.specs.Places.{OwnerOf}
 use Rattle.never_heap.specs.Graphs.{has_name}
 use Rattle.never_heap.specs.Histories.{replay}
-use Rattle.name_invariant.specs.States.{sizes}
+use Rattle.heap_invariant.specs.name_invariant.States.{sizes}
 use Rattle.heap_system.specs.Machines.{Run, IsRunOf, heap_in}
 use Rattle.heap_system.specs.Pictures.{kept_state}
 use Rattle.exit_statuses.specs.Sides.{Sides}

@@ -12,9 +12,9 @@ use Rattle.heap_machine.specs.Operations.{heap_after}
 use Rattle.heap_machine.specs.ReuseKept.{ReuseKept}
 use Rattle.never_heap.specs.Graphs.{Graph}
 use Rattle.never_heap.specs.Histories.{HistoryItem}
-use Rattle.name_invariant.specs.Kept.{IsKept}
-use Rattle.name_invariant.specs.Pictures.{Task, Names, picture}
-use Rattle.name_invariant.proofs.ColourEvents.{frees}
+use Rattle.heap_invariant.specs.name_invariant.Kept.{IsKept}
+use Rattle.heap_invariant.specs.name_invariant.Pictures.{Task, Names, picture}
+use Rattle.heap_invariant.proofs.name_invariant.ColourEvents.{frees}
 use Rattle.sweep_steps.specs.declared.rows.SweepRow.{SweepRow}
 use Rattle.sweep_steps.specs.declared.rows.SweepRow.TheVariants.{ReadCursor, ClaimRange, PassBlock, TakeFree, FreeBlock, PutFree, Credit, Swept, NothingLeft}
 use Rattle.sweep_steps.specs.Fits.{RowFits, SweepFits, IsSweeping}

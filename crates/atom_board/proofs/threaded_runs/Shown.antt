@@ -9,7 +9,7 @@ use Rattle.never_heap.specs.Given.{given}
 use Rattle.never_heap.specs.Histories.{starts_in, work_in}
 use Rattle.never_heap.specs.Licensed.{StartsSmall, NoFulls}
 use Rattle.rate_plan.specs.Rates.{IsRate}
-use Rattle.cycle_tally.specs.Kept.{most_given}
+use Rattle.heap_invariant.specs.cycle_tally.Kept.{most_given}
 use Rattle.trace_text.specs.Jobs.{Job}
 use Rattle.heap_system.specs.Machines.{Run, IsAfterTurns}
 use Rattle.heap_system.specs.Costs.{units_so_far}

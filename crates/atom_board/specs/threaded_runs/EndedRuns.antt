@@ -8,7 +8,7 @@ use Rattle.never_heap.specs.Histories.{HistoryItem, parts, starts_in, work_in}
 use Rattle.never_heap.specs.Licensed.{StartsSmall, NoFulls}
 use Rattle.never_heap.specs.Runs.{IsRun}
 use Rattle.rate_plan.specs.Rates.{IsRate}
-use Rattle.cycle_tally.specs.Kept.{most_given}
+use Rattle.heap_invariant.specs.cycle_tally.Kept.{most_given}
 use Rattle.heap_system.specs.Serials.{AreOfThreads, AreFew}
 use Rattle.heap_system.specs.Systems.{IsFinished, units_of}
 use Rattle.trace_text.specs.Jobs.{Job}

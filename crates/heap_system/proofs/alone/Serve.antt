@@ -9,10 +9,10 @@ use Rattle.object_lists.specs.Records.{record_blocks}
 use Rattle.never_heap.specs.declared.Command.{Command}
 use Rattle.never_heap.specs.declared.Reply.{Reply}
 use Rattle.never_heap.specs.Graphs.{Graph, ObjectKind, Record, Array, object_of}
-use Rattle.graph_relation.specs.Layouts.{kind_shape}
-use Rattle.graph_relation.specs.Shown.{heads}
-use Rattle.name_invariant.specs.Pictures.{Task, picture}
-use Rattle.name_invariant.specs.States.{KeptState, Kept}
+use Rattle.heap_invariant.specs.graph_relation.Layouts.{kind_shape}
+use Rattle.heap_invariant.specs.graph_relation.Shown.{heads}
+use Rattle.heap_invariant.specs.name_invariant.Pictures.{Task, picture}
+use Rattle.heap_invariant.specs.name_invariant.States.{KeptState, Kept}
 use Rattle.heap_machine.specs.Operations.{place_of}
 use Rattle.heap_machine.specs.declared.pass.Pass.{Pass}
 use Rattle.barrier_steps.specs.declared.rows.FieldRow.{FieldRow}

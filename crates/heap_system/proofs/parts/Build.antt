@@ -49,10 +49,10 @@ use Rattle.never_heap.specs.Graphs.{count_of, next_name}
 use Rattle.never_heap.specs.Histories.{Did}
 use Rattle.never_heap.specs.Steps.{step, blocks_of}
 use Rattle.never_heap.proofs.StepAnswers.{blocks_answer, blocks_count}
-use Rattle.graph_relation.specs.Events.{unloaded}
-use Rattle.name_invariant.specs.Building.{Build as Builder}
-use Rattle.name_invariant.specs.Kept.{IsKept}
-use Rattle.name_invariant.specs.Pictures.{Names, Task, no_task, picture}
+use Rattle.heap_invariant.specs.graph_relation.Events.{unloaded}
+use Rattle.heap_invariant.specs.name_invariant.Building.{Build as Builder}
+use Rattle.heap_invariant.specs.name_invariant.Kept.{IsKept}
+use Rattle.heap_invariant.specs.name_invariant.Pictures.{Names, Task, no_task, picture}
 use Rattle.heap_machine.specs.Gating.{Gating, GateOf, Inside, is_outside}
 use Rattle.heap_machine.specs.Holdings.{Holding, holds_nothing}
 use Rattle.heap_machine.specs.Operations.{place_of, heap_after}

@@ -25,10 +25,10 @@ use Rattle.heap_machine.specs.declared.pass.Pass.{Pass}
 use Rattle.heap_machine.proofs.Gatings.{gate_closing}
 use Rattle.heap_machine.proofs.ChangingPhaseRules.{nobody_holds}
 use Rattle.heap_machine.proofs.Turnovers.{empty_gate, of_pass}
-use Rattle.name_invariant.specs.Colouring.{IsDark, IsColoured}
-use Rattle.name_invariant.specs.Events.{IsAlone}
-use Rattle.name_invariant.specs.Pictures.{Task, no_task, picture}
-use Rattle.name_invariant.proofs.WordTargets.{root_in}
+use Rattle.heap_invariant.specs.name_invariant.Colouring.{IsDark, IsColoured}
+use Rattle.heap_invariant.specs.name_invariant.Events.{IsAlone}
+use Rattle.heap_invariant.specs.name_invariant.Pictures.{Task, no_task, picture}
+use Rattle.heap_invariant.proofs.name_invariant.WordTargets.{root_in}
 use Rattle.sweep_steps.specs.SweepUnits.{unpassed}
 use Rattle.heap_system.specs.Parts.{PhaseChange}
 use Rattle.heap_system.specs.Locals.{task}

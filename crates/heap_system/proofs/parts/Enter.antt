@@ -13,7 +13,7 @@ use Rattle.never_heap.specs.declared.Command.TheVariants as commands
 use Rattle.never_heap.specs.Steps.{blocks_of}
 use Rattle.never_heap.proofs.CommandBounds as ranges
 use Rattle.never_heap.proofs.CommandBounds.{blocks_low}
-use Rattle.graph_relation.specs.Events.{unloaded}
+use Rattle.heap_invariant.specs.graph_relation.Events.{unloaded}
 use Rattle.heap_machine.specs.Gates.{gate_step, is_of_pass, is_empty, is_going_in, GateFits, SeenOpen}
 use Rattle.heap_machine.specs.Gating.{Gating, GateOf, Outside, Inside}
 use Rattle.heap_machine.specs.Holdings.{Holding, holds_nothing}
@@ -37,7 +37,7 @@ use Rattle.sweep_steps.specs.Rows.{sweeping}
 use Rattle.sweep_steps.proofs.RowsFit as sweeping_ranges
 use Rattle.build_steps.specs.Rows.{building}
 use Rattle.build_steps.proofs.RowsFit as building_ranges
-use Rattle.name_invariant.specs.Pictures.{no_task}
+use Rattle.heap_invariant.specs.name_invariant.Pictures.{no_task}
 use Rattle.heap_system.specs.Parts.{Part, Enter, Serve, Mark, Sweep, Build}
 use Rattle.heap_system.specs.declared.Turn.TheVariants as turns
 use Rattle.heap_system.specs.Locals.{part_want, plain, pass_by, first_part, task, turn_of, gate_waits, PartFits, PartReads, IsPassAt}

@@ -13,8 +13,8 @@ use Rattle.heap_machine.specs.PhaseKept.{PhaseKept}
 use Rattle.heap_machine.specs.Readings.{IsHeld}
 use Rattle.heap_machine.specs.declared.Step.{Step}
 use Rattle.heap_machine.proofs.Gatings.{gate_stays}
-use Rattle.name_invariant.specs.Kept.{IsKept}
-use Rattle.name_invariant.specs.Pictures.{picture}
+use Rattle.heap_invariant.specs.name_invariant.Kept.{IsKept}
+use Rattle.heap_invariant.specs.name_invariant.Pictures.{picture}
 use Rattle.sweep_steps.specs.SweepUnits.{unpassed}
 use Rattle.heap_system.specs.Parts.{Part}
 use Rattle.heap_system.specs.Locals.{Effect, plain, task, entries_of, spent_got, unit_to_come, PartFits, IsRoomy}

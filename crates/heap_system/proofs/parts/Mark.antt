@@ -14,8 +14,8 @@ use Rattle.heap_machine.specs.Operations.{CompareExchange, place_of, heap_after}
 use Rattle.heap_machine.specs.PhaseKept.{PhaseKept}
 use Rattle.heap_machine.specs.declared.Step.TheVariants.{Over, Went}
 use Rattle.heap_machine.specs.declared.pass.Pass.{Pass}
-use Rattle.name_invariant.specs.Kept.{IsKept}
-use Rattle.name_invariant.specs.Pictures.{Task, no_task, picture}
+use Rattle.heap_invariant.specs.name_invariant.Kept.{IsKept}
+use Rattle.heap_invariant.specs.name_invariant.Pictures.{Task, no_task, picture}
 use Rattle.grey_steps.specs.declared.rows.GreyRow.{GreyRow}
 use Rattle.grey_steps.specs.declared.rows.GreyRow.TheVariants as marks
 use Rattle.grey_steps.specs.MarkUnits.{is_blackening, is_shading}

@@ -25,12 +25,12 @@ use Rattle.heap_machine.proofs.Gatings.{close_parts, open_parts, gate_stays}
 use Rattle.heap_machine.proofs.ChangingPhaseKnown.{changing_knows, changing_held, none_at_flip}
 use Rattle.heap_machine.proofs.ChangingPhaseRules.{changing_rules}
 use Rattle.heap_machine.proofs.Turnovers.{empty_gate, changing_kept}
-use Rattle.name_invariant.specs.Events.{apply}
-use Rattle.name_invariant.specs.Events.KeptEvent.{Flip, ShadeRoot, Start}
-use Rattle.name_invariant.specs.Kept.{IsKept}
-use Rattle.name_invariant.specs.Pictures.{Names, no_task, picture}
-use Rattle.name_invariant.specs.States.{KeptState}
-use Rattle.name_invariant.proofs.Steps.{step_kept}
+use Rattle.heap_invariant.specs.name_invariant.Events.{apply}
+use Rattle.heap_invariant.specs.name_invariant.Events.KeptEvent.{Flip, ShadeRoot, Start}
+use Rattle.heap_invariant.specs.name_invariant.Kept.{IsKept}
+use Rattle.heap_invariant.specs.name_invariant.Pictures.{Names, no_task, picture}
+use Rattle.heap_invariant.specs.name_invariant.States.{KeptState}
+use Rattle.heap_invariant.proofs.name_invariant.Steps.{step_kept}
 use Rattle.sweep_steps.specs.SweepUnits.{unpassed}
 use Rattle.heap_system.specs.Parts.{Enter, PhaseChange}
 use Rattle.heap_system.specs.Locals.{part_want, task, is_last, if_turned, turn_naming, entries_of, unit_to_come, PartFits, IsRoomy}

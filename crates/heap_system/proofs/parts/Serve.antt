@@ -25,10 +25,10 @@ use Rattle.heap_machine.specs.PhaseKept.{PhaseKept}
 use Rattle.heap_machine.specs.Sweeping.{SweepHolding}
 use Rattle.heap_machine.specs.declared.pass.Pass.{Pass}
 use Rattle.heap_machine.proofs.Gatings.{gate_stays}
-use Rattle.name_invariant.specs.Kept.{IsKept}
-use Rattle.name_invariant.specs.Pictures.{picture}
-use Rattle.name_invariant.specs.States.{KeptState}
-use Rattle.graph_relation.specs.Events.{Loading, unloaded}
+use Rattle.heap_invariant.specs.name_invariant.Kept.{IsKept}
+use Rattle.heap_invariant.specs.name_invariant.Pictures.{picture}
+use Rattle.heap_invariant.specs.name_invariant.States.{KeptState}
+use Rattle.heap_invariant.specs.graph_relation.Events.{Loading, unloaded}
 use Rattle.barrier_steps.specs.declared.rows.FieldRow.{FieldRow}
 use Rattle.barrier_steps.specs.declared.rows.FieldRow.TheVariants as rows
 use Rattle.barrier_steps.specs.declared.rows.FieldStore.{FieldStore}

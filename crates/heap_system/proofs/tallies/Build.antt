@@ -31,9 +31,9 @@ use Rattle.build_steps.specs.Standing.{left_of, begun_of}
 use Rattle.build_steps.proofs.Parts.{has_blocks}
 use Rattle.build_steps.proofs.Shapes.{made_blocks}
 use Rattle.work_account.specs.Accounts.{published, refused}
-use Rattle.cycle_tally.specs.Events as events
-use Rattle.cycle_tally.specs.Tallies.{Spending, Tally, made_of}
-use Rattle.cycle_tally.proofs.OneThreadEvents.{spends_here, spends_twice, others_twice}
+use Rattle.heap_invariant.specs.cycle_tally.Events as events
+use Rattle.heap_invariant.specs.cycle_tally.Tallies.{Spending, Tally, made_of}
+use Rattle.heap_invariant.proofs.cycle_tally.OneThreadEvents.{spends_here, spends_twice, others_twice}
 use Rattle.heap_system.specs.Parts.{Build, Leave}
 use Rattle.heap_system.specs.Locals.{Open, AsStep, Refused, plain, if_decides, if_replied, entry_of, idle_part}
 use Rattle.heap_system.proofs.Balances.{no_idle}

@@ -22,9 +22,9 @@ use Rattle.grey_steps.specs.Rows.{scanning}
 use Rattle.sweep_steps.specs.Rows.{sweeping}
 use Rattle.build_steps.specs.Rows.{building}
 use Rattle.work_account.specs.Accounts.{Balance, entered}
-use Rattle.cycle_tally.specs.Events as events
-use Rattle.cycle_tally.specs.Tallies.{Spending, Tally}
-use Rattle.cycle_tally.proofs.OneThreadEvents.{spends_here}
+use Rattle.heap_invariant.specs.cycle_tally.Events as events
+use Rattle.heap_invariant.specs.cycle_tally.Tallies.{Spending, Tally}
+use Rattle.heap_invariant.proofs.cycle_tally.OneThreadEvents.{spends_here}
 use Rattle.heap_system.specs.Parts.{Part, Rest, Enter, Serve, Mark, Sweep, Build}
 use Rattle.heap_system.specs.Locals.{Errand, plain, first_part, pass_by, effect, part_want, part_got}
 use Rattle.heap_system.proofs.GatePassage.{phase_is}

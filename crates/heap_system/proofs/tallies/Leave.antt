@@ -11,9 +11,9 @@ use Rattle.heap_machine.specs.Gating.{Gating, Inside}
 use Rattle.heap_machine.specs.declared.Step.TheVariants as steps
 use Rattle.heap_machine.specs.declared.gate.GateRow.TheVariants as gates
 use Rattle.heap_machine.proofs.Gatings.{inside_some}
-use Rattle.cycle_tally.specs.Events as events
-use Rattle.cycle_tally.specs.Tallies.{Spending, Tally}
-use Rattle.cycle_tally.proofs.OneThreadEvents.{spends_here}
+use Rattle.heap_invariant.specs.cycle_tally.Events as events
+use Rattle.heap_invariant.specs.cycle_tally.Tallies.{Spending, Tally}
+use Rattle.heap_invariant.proofs.cycle_tally.OneThreadEvents.{spends_here}
 use Rattle.heap_system.specs.Parts.{Part, Rest, Enter, Retry, ToChange, PhaseChange, Leave}
 use Rattle.heap_system.specs.Locals.{plain}
 use Rattle.heap_system.proofs.SeenAndKept.{Seen}

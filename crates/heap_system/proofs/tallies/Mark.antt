@@ -24,9 +24,9 @@ use Rattle.grey_steps.specs.Fits.{RowFits}
 use Rattle.grey_steps.specs.Rows.{GreyState, row_want, grey_unit, grey_want, grey_got, grey_over, grey_step, grey_nothing, grey_holding, holding_at}
 use Rattle.grey_steps.proofs.MarkUnits.{unit_grey}
 use Rattle.work_account.specs.Accounts.{Balance}
-use Rattle.cycle_tally.specs.Events as events
-use Rattle.cycle_tally.specs.Tallies.{Spending, Tally, made_of, due_of, with_made}
-use Rattle.cycle_tally.proofs.OneThreadEvents.{spends_here}
+use Rattle.heap_invariant.specs.cycle_tally.Events as events
+use Rattle.heap_invariant.specs.cycle_tally.Tallies.{Spending, Tally, made_of, due_of, with_made}
+use Rattle.heap_invariant.proofs.cycle_tally.OneThreadEvents.{spends_here}
 use Rattle.heap_system.specs.Parts.{Part, Mark, Retry, ToChange}
 use Rattle.heap_system.specs.Locals.{Effect, Open, idle_part, spent_got, balance_made, balance_got}
 use Rattle.heap_system.proofs.Balances.{idle_more}

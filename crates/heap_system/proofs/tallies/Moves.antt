@@ -10,9 +10,9 @@ use Rattle.never_heap.specs.Histories.{HistoryItem}
 use Rattle.never_heap.specs.Steps.{blocks_of}
 use Rattle.heap_machine.specs.Gating.{is_inside}
 use Rattle.work_account.specs.Accounts.{Balance}
-use Rattle.cycle_tally.specs.Events.{Event, run, Guarded}
-use Rattle.cycle_tally.specs.Tallies.{Spending, Tally, units_now, made_of}
-use Rattle.cycle_tally.proofs.Laws.{run_kept}
+use Rattle.heap_invariant.specs.cycle_tally.Events.{Event, run, Guarded}
+use Rattle.heap_invariant.specs.cycle_tally.Tallies.{Spending, Tally, units_now, made_of}
+use Rattle.heap_invariant.proofs.cycle_tally.Laws.{run_kept}
 use Rattle.heap_system.specs.Parts.{Part}
 use Rattle.heap_system.specs.Locals.{Effect, Open, view, paid_part, spent_got, balance_got}
 use Rattle.heap_system.specs.Machines.{starts_by}

@@ -25,12 +25,12 @@ use Rattle.heap_machine.specs.declared.pass.Pass.{Pass}
 use Rattle.heap_machine.proofs.Gatings.{open_parts}
 use Rattle.heap_machine.proofs.ChangingPhaseRules.{nobody_holds}
 use Rattle.heap_machine.proofs.Turnovers.{changing_cycle, changing_phase}
-use Rattle.name_invariant.specs.Pictures.{picture}
-use Rattle.cycle_tally.specs.Entries.{InThreads}
-use Rattle.cycle_tally.specs.Events.{FewInUse}
-use Rattle.cycle_tally.specs.Events as events
-use Rattle.cycle_tally.specs.Tallies.{Tally}
-use Rattle.cycle_tally.proofs.KeptStart.{few_at_start}
+use Rattle.heap_invariant.specs.name_invariant.Pictures.{picture}
+use Rattle.heap_invariant.specs.cycle_tally.Entries.{InThreads}
+use Rattle.heap_invariant.specs.cycle_tally.Events.{FewInUse}
+use Rattle.heap_invariant.specs.cycle_tally.Events as events
+use Rattle.heap_invariant.specs.cycle_tally.Tallies.{Tally}
+use Rattle.heap_invariant.proofs.cycle_tally.KeptStart.{few_at_start}
 use Rattle.heap_system.specs.Parts.{PhaseChange}
 use Rattle.heap_system.specs.Locals.{plain, is_last, if_turned, turn_naming}
 use Rattle.heap_system.specs.Naming.{Naming, Same, Lost, Begun, Shaded}

@@ -33,9 +33,9 @@ use Rattle.barrier_steps.specs.declared.rows.FieldStore.TheVariants.{Compared}
 use Rattle.barrier_steps.specs.Deciding.{is_deciding}
 use Rattle.barrier_steps.specs.Fits.{RowFits}
 use Rattle.barrier_steps.specs.Rows.{FieldState, field_reply, field_got, field_step, store_want, row_want, row_got, row_holding, in_barrier}
-use Rattle.cycle_tally.specs.Events as events
-use Rattle.cycle_tally.specs.Tallies.{Spending, Tally, made_of}
-use Rattle.cycle_tally.proofs.OneThreadEvents.{spends_here, spends_twice, others_twice}
+use Rattle.heap_invariant.specs.cycle_tally.Events as events
+use Rattle.heap_invariant.specs.cycle_tally.Tallies.{Spending, Tally, made_of}
+use Rattle.heap_invariant.proofs.cycle_tally.OneThreadEvents.{spends_here, spends_twice, others_twice}
 use Rattle.work_account.specs.Accounts.{Balance}
 use Rattle.heap_system.specs.Parts.{Serve, Leave}
 use Rattle.heap_system.specs.Locals.{Open, AsStep, plain, if_decides, if_replied, entry_of, balance_paid}

@@ -20,13 +20,13 @@ use Rattle.sweep_steps.specs.Fits.{RowFits, IsLeft}
 use Rattle.sweep_steps.specs.Rows.{SweepState, row_want, row_got, after_read, after_range, next_block, before_free, sweep_want, sweep_got, sweep_over, sweep_step, sweep_passed, sweep_nothing, sweep_holding}
 use Rattle.sweep_steps.proofs.ReuseRulesKept.{over_holds_none}
 use Rattle.work_account.specs.Accounts.{Balance}
-use Rattle.cycle_tally.specs.Events.{apply}
-use Rattle.cycle_tally.specs.Events as events
-use Rattle.cycle_tally.specs.Kept.{TallyKept}
-use Rattle.cycle_tally.proofs.Laws.{run_kept}
-use Rattle.cycle_tally.proofs.Steps.{step_kept}
-use Rattle.cycle_tally.proofs.OneThreadEvents.{spends_here, spends_twice, others_twice}
-use Rattle.cycle_tally.specs.Tallies.{Spending, Tally, with_made}
+use Rattle.heap_invariant.specs.cycle_tally.Events.{apply}
+use Rattle.heap_invariant.specs.cycle_tally.Events as events
+use Rattle.heap_invariant.specs.cycle_tally.Kept.{TallyKept}
+use Rattle.heap_invariant.proofs.cycle_tally.Laws.{run_kept}
+use Rattle.heap_invariant.proofs.cycle_tally.Steps.{step_kept}
+use Rattle.heap_invariant.proofs.cycle_tally.OneThreadEvents.{spends_here, spends_twice, others_twice}
+use Rattle.heap_invariant.specs.cycle_tally.Tallies.{Spending, Tally, with_made}
 use Rattle.heap_system.specs.Locals.{idle_part, balance_made}
 use Rattle.heap_system.proofs.Balances.{idle_more}
 use Rattle.heap_system.specs.Parts.{Part, Sweep, Retry, ToChange}

@@ -1,5 +1,5 @@
-use Rattle.name_invariant.proofs.KeptStates.{build_of}
-use Rattle.name_invariant.proofs.ReachedBlocks.{coloured_refers, marked_is}
+use Rattle.heap_invariant.proofs.name_invariant.KeptStates.{build_of}
+use Rattle.heap_invariant.proofs.name_invariant.ReachedBlocks.{coloured_refers, marked_is}
 use Rattle.heap_system.specs.Pictures.{kept_state}
 use Rattle.heap_system.proofs.Always.{run_kept}
 use Rattle.heap_system.proofs.LawsOf.{laws_of}

@@ -1,12 +1,12 @@
 use Rattle.heap_system.proofs.Always.{run_kept}
 use Rattle.heap_system.proofs.LawsOf.{laws_of}
-use Rattle.name_invariant.proofs.ReachedBlocks.{reached_solid, reached_not_held}
-use Rattle.name_invariant.proofs.FlipAndStart.{reached_kept}
-use Rattle.name_invariant.specs.States.{Kept}
+use Rattle.heap_invariant.proofs.name_invariant.ReachedBlocks.{reached_solid, reached_not_held}
+use Rattle.heap_invariant.proofs.name_invariant.FlipAndStart.{reached_kept}
+use Rattle.heap_invariant.specs.name_invariant.States.{Kept}
 use Rattle.never_heap.specs.Histories.{replay}
-use Rattle.graph_relation.specs.Events.{pending_registers}
-use Rattle.graph_relation.specs.Words.{block_words}
-use Rattle.graph_relation.proofs.WordReads.{blocks_apart}
+use Rattle.heap_invariant.specs.graph_relation.Events.{pending_registers}
+use Rattle.heap_invariant.specs.graph_relation.Words.{block_words}
+use Rattle.heap_invariant.proofs.graph_relation.WordReads.{blocks_apart}
 use Rattle.heap_system.specs.Machines.{heap_in}
 use Rattle.heap_system.specs.Pictures.{tasks_in, kept_state}
 use Rattle.heap_system.proofs.LoadedBlocks.{loaded_safe, pending_get}

@@ -5,7 +5,7 @@ use Rattle.block_store.proofs.Registers.{root_low, end_few}
 use Rattle.object_lists.specs.Parts.{link_in}
 use Rattle.array_trees.specs.Levels.{array_part}
 use Rattle.array_trees.proofs.RegisterArrays.{array_of}
-use Rattle.graph_relation.specs.Made.{link_word}
+use Rattle.heap_invariant.specs.graph_relation.Made.{link_word}
 use Rattle.heap_system.proofs.OpeningArrays.{first_register, other_register}
 use Rattle.heap_system.proofs.start.register_payload.Goals as goal
 use Rattle.heap_system.proofs.start.register_payload.Goals.{else-ordinal-eq1-via-then-ordinal-eq1+else-j-eq0, else-ordinal-eq1-via-else-ordinal-eq1}

@@ -1,9 +1,0 @@
-use Rattle.graph_relation.proofs.Example.{wide_root, wide_root_rest, wide_registers, wide_rest, wide_shared}
-use Rattle.graph_relation.proofs.a_known_opening.Goals as goal
-
-pub returns : goal.returns
-returns c = record {
-  root = (wide_root.0, wide_root.1, wide_root_rest);
-  registers = (wide_registers, wide_rest);
-  shared = wide_shared;
-}

@@ -1,9 +1,0 @@
-use Rattle.graph_relation.specs.Shown.{named}
-use Rattle.graph_relation.proofs.CommandEvents.{opening_follows, run_follows}
-use Rattle.graph_relation.proofs.commands_are_shown.Goals as goal
-
-pub returns : goal.returns
-returns c = record {
-  opening = λ k inside. opening_follows k inside;
-  run = λ W n m kept at s es k guarded. run_follows W n m (named kept) at es s guarded k;
-}

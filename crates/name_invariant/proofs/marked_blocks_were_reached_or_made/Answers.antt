@@ -1,5 +1,0 @@
-use Rattle.name_invariant.proofs.ReachedBlocks.{marked_is}
-use Rattle.name_invariant.proofs.marked_blocks_were_reached_or_made.Goals as goal
-
-pub returns : goal.returns
-returns c = λ k s x kept dark. marked_is k s kept x dark
