@@ -1,9 +1,7 @@
 //! Whole calls over sources and sinks in memory, by the program that is called.
 
 use atom_board::Closed;
-use board_jobs::Meeting;
 use heap_system::{NoPace, Pace};
-use lent_calls::{Call, Lent};
 use never_heap::{Command, Logs};
 use rt_handles::handles;
 use rt_tags::tags;
@@ -13,6 +11,7 @@ use std::sync::Wait;
 use std::sync::atomic::{AtomicU64, Ordering};
 use std::test::Fail;
 use std::thread::Threads;
+use test_kit::{Call, Lent, Meeting};
 use trace_text::MemSink;
 
 /// A program by its top call.

@@ -1,8 +1,8 @@
 //! Operations that are done on plain places, in the order in which their deciding commands were
 //! answered.
 
-use reference_runs::Happened;
 use std::alloc::{AllocError, Global};
+use test_kit::Happened;
 
 /// An operation of a thread.
 pub trait Deed {

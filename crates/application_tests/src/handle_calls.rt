@@ -3,8 +3,8 @@
 
 use crate::calling::{Program, ends, made, meets, records_at};
 use heap_system::NoPace;
-use lent_calls::Call;
 use std::test::Fail;
+use test_kit::Call;
 
 const HANDLES: Program = Program::Handles;
 

@@ -9,13 +9,13 @@ use crate::replaying::{Replayed, replay_of};
 use array_tables::handle_table::{Operation, Outcome, outcomes};
 use block_store::OutOfMemory;
 use heap_system::NoPace;
-use lent_calls::{Call, Lent};
 use never_heap::Logs;
 use rand_core::utils::NextWord;
 use rand_pcg::Lcg64Xsh32;
 use rt_handles::{handles, script_of};
 use std::alloc::{AllocError, Global};
 use std::test::Fail;
+use test_kit::{Call, Lent};
 
 /// How many operations each thread has.
 const OPERATIONS: u64 = 12;

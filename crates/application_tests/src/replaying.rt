@@ -10,10 +10,10 @@ use block_store::{Config, OutOfMemory};
 use heap_system::{Finished, System};
 use never_heap::{Command, Logs, Reply};
 use rate_plan::plan;
-use reference_runs::{Happened, history_of};
 use rtheap_core::Schedule;
 use rtheap_core::schedules::replay;
 use std::alloc::{AllocError, Global};
+use test_kit::{Happened, history_of};
 
 /// More turns than any of the jobs takes.
 const TURNS: u64 = 200_000;

@@ -6,13 +6,13 @@ use crate::replaying::{Replayed, replay_of};
 use array_tables::tag_table::{Operation, answers, trace_of};
 use block_store::OutOfMemory;
 use heap_system::NoPace;
-use lent_calls::{Call, Lent};
 use never_heap::{Entry, Logs};
 use rand_core::utils::NextWord;
 use rand_pcg::Lcg64Xsh32;
 use rt_tags::{script_of, tags};
 use std::alloc::{AllocError, Global};
 use std::test::Fail;
+use test_kit::{Call, Lent};
 
 /// What stands at a place of a table.
 type Pair = Option<(u64, u64)>;

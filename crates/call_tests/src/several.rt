@@ -1,9 +1,9 @@
 //! Runs of several threads.
 
 use crate::testing::{Call, made_at};
-use board_jobs::Meeting;
 use std::alloc::Global;
 use std::test::Fail;
+use test_kit::Meeting;
 
 /// Two threads that each show the shared array twice, on a heap whose rate is 8.
 const TWO_SAYS: &str = "rtheap 1 threads 2 blocks 64 live 20 object 2 shared 4

@@ -1,11 +1,11 @@
-//! Runs that are judged by the definitions alone, as `reference_runs` answers them: 400 drawn jobs
+//! Runs that are judged by the definitions alone, as `test_kit` answers them: 400 drawn jobs
 //! of one to four threads on small heaps, 200 of either width, by serial and by drawn turns, each
 //! to its end; and a chain of records that grows beyond the live limit.
 
 ghost use Rattle.std.specs.Prelude.{◌<◌, map};
 ghost use Rattle.never_heap.specs.Jobs.{IsJobInBounds};
-ghost use Rattle.reference_runs.specs.Happenings.{history};
-ghost use Rattle.reference_runs.specs.HistoryBounds.{IsHistoryInBounds};
+ghost use Rattle.test_kit.specs.reference_runs.Happenings.{history};
+ghost use Rattle.test_kit.specs.reference_runs.HistoryBounds.{IsHistoryInBounds};
 ghost use Rattle.rate_plan.specs.Rates.{IsAdmitted};
 
 use crate::drawing::{chain_traces, drawn_heap, drawn_traces};
@@ -14,14 +14,14 @@ use heap_system::System;
 use never_heap::{Command, Entry, Reply};
 use rand_pcg::Lcg64Xsh32;
 use rate_plan::plan;
-use reference_runs::{
-    Happened, given_in, history_of, in_bounds, is_legal, is_licensed, is_right_work, live_at,
-    starts, work,
-};
 use rtheap_core::Schedule;
 use rtheap_core::schedules::replay;
 use std::alloc::Global;
 use std::process::Abort;
+use test_kit::{
+    Happened, given_in, history_of, in_bounds, is_legal, is_licensed, is_right_work, live_at,
+    starts, work,
+};
 
 /// More turns than any of the jobs takes.
 const TURNS: u64 = 1_000_000;

@@ -5,7 +5,6 @@ ghost use Rattle.std.specs.Prelude.{◌<◌, map};
 ghost use Rattle.heap_system.specs.Machines.{IsJob};
 
 use block_store::{Config, OutOfMemory};
-use board_jobs::{MEETING, Meeting, TWO, are_right, have_said, job, two_says};
 use heap_system::{Finished, NoPace, Pace};
 use lock_board::LockBoard;
 use never_heap::{Command, Logs};
@@ -13,6 +12,7 @@ use std::alloc::Global;
 use std::sync::Wait;
 use std::thread;
 use std::thread::Threads;
+use test_kit::{MEETING, Meeting, TWO, are_right, have_said, job, two_says};
 
 #[test]
 fn two_threads_meet(rt: HostRuntime) -> Result<(), OutOfMemory> {

@@ -9,10 +9,6 @@ ghost use Rattle.atom_board.specs.Mutators.{AreInOrder, AllAreDone, IsLater};
 
 use atom_board::{AtomBoard, Closed, Mutator};
 use block_store::{Config, OutOfMemory, Value, Width};
-use board_jobs::{
-    MEETING, Meeting, RATE, SHARING, TRIES, TWO, are_right, counting, have_said, job, swapping,
-    two_says,
-};
 use heap_system::{NoPace, Pace};
 use never_heap::{Command, Entry, Logs, Reply};
 use rate_plan::plan;
@@ -20,6 +16,10 @@ use std::alloc::Global;
 use std::sync::Wait;
 use std::thread;
 use std::thread::Threads;
+use test_kit::{
+    MEETING, Meeting, RATE, SHARING, TRIES, TWO, are_right, counting, have_said, job, swapping,
+    two_says,
+};
 
 const FOUR: Config = Config {
     width: Width::Four,

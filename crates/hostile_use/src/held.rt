@@ -7,9 +7,9 @@ use block_store::{Config, OutOfMemory};
 use heap_system::System;
 use never_heap::{Command, Item, Reply};
 use rate_plan::plan;
-use reference_runs::{Happened, history_of, in_bounds, is_legal, is_right_work};
 use std::alloc::Global;
 use std::test::Fail;
+use test_kit::{Happened, history_of, in_bounds, is_legal, is_right_work};
 use trace_text::{MemSource, read_trace};
 
 /// Thread 0 loads an element of the shared array and shows it; thread 1 stores a record there,

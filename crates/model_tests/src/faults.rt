@@ -1,11 +1,11 @@
 //! Calls whose streams fail, for an input that is fine. `tests/orders.runs` and `needs.runs` have
 //! what the programs show.
 
-use lent_calls::{Call, Lent};
 use rt_check::{check, limit};
 use std::alloc::Global;
 use std::process::Abort;
 use std::test::Fail;
+use test_kit::{Call, Lent};
 
 /// A job with an order.
 const ORDERED: &[u8] = b"rtheap 1 threads 1 blocks 64 live 20 object 8 shared 0

@@ -5,10 +5,13 @@ ghost use Rattle.std.specs.Prelude.{◌<◌};
 
 use block_store::{Config, Name, Value, Width};
 use never_heap::{Command, Entry, Item, Logs, Reply};
-use reference_runs::*;
 use std::alloc::Global;
 use std::process::Abort;
 use std::test::Fail;
+use test_kit::{
+    Happened, given_in, history_of, in_bounds, is_legal, is_licensed, is_right_work, live_at,
+    starts, work,
+};
 
 /// A heap in which more blocks than may be are live from the first cycle on: the thread has four
 /// blocks of registers and of the shared array.

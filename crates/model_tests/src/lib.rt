@@ -1,4 +1,4 @@
-//! Tests of what stands on the model alone: graphs of `never_heap`, histories by `reference_runs`,
+//! Tests of what stands on the model alone: graphs of `never_heap`, histories by `test_kit`,
 //! orders before `rt_check`, and what jobs need before `rt_check`.
 #![tactic(auto)]
 

@@ -1,7 +1,6 @@
 //! Whole jobs whose threads send what they say, from their texts to their letters.
 
 use crate::slim::mail::{Mail, called, delivered, delivered_through_one};
-use board_jobs::Meeting;
 use heap_system::NoPace;
 use std::alloc::{AllocError, Global};
 use std::process::Abort;
@@ -10,6 +9,7 @@ use std::sync::atomic::{AtomicU64, Ordering};
 use std::test::Fail;
 use std::thread;
 use std::time::Duration;
+use test_kit::Meeting;
 
 #[test]
 fn a_thread_sends_ten_numbers_and_the_other_none(rt: HostRuntime) -> Result<(), Fail> {

@@ -1,9 +1,0 @@
--- Where the entries that are left were served, all were.
-use Rattle.std.proofs.Common.{drop}
-use Rattle.std.specs.List.{AllByRecursion}
-use Rattle.board_jobs.specs.Served.{IsServed}
-use Rattle.board_jobs.proofs.rounds.is_log_right.Given as goal
-
-abbrev pub invariant-loop-number : goal.invariant-loop-number
-invariant-loop-number l =
-    AllByRecursion IsServed (drop l.number l.log) → AllByRecursion IsServed l.log

@@ -1,7 +1,0 @@
--- The items so far begin each history that the order makes.
-use Rattle.reference_runs.proofs.HistoryOfOrder.{IsUnderWay}
-use Rattle.reference_runs.proofs.orders.history_of.Given as goal
-
-abbrev pub invariant-loop-item : goal.invariant-loop-item
-invariant-loop-item g l =
-    IsUnderWay (g.R.Logs.logs l.run) l.order l.item-index l.told.items l.made.items

@@ -1,8 +1,0 @@
--- All of the logs so far was told.
-use Rattle.std.proofs.Common.{◌≡◌, ◌<◌, ℕ, []}
-use Rattle.reference_runs.specs.Making.{left_of}
-use Rattle.reference_runs.proofs.orders.is_all_told.Given as goal
-
-abbrev pub invariant-loop-t : goal.invariant-loop-t
-invariant-loop-t g l =
-    (t : ℕ) → t < l.t → left_of (g.R.Logs.logs l.run) l.told t ≡ []

@@ -1,5 +1,0 @@
-use Rattle.reference_runs.proofs.Fronts.{front_in_bounds}
-use Rattle.reference_runs.proofs.replays.is_licensed.Goals as goal
-
-pub is_licensed_item-requires : goal.is_licensed_item-requires
-is_licensed_item-requires c = front_in_bounds c.args.c.now c.args.h.now c.loop-i.i c.requires

@@ -1,0 +1,2 @@
+pub mod reference_runs
+pub mod board_jobs
