@@ -19,5 +19,6 @@ mod rates;
 #[cfg(test)]
 mod records;
 mod stored;
+mod text_tests;
 #[cfg(test)]
 mod words;

@@ -1,6 +1,5 @@
 //! Tests of `trace_text`: the reader and the writers on whole texts, and its streams where they
 //! give little, are interrupted or fail.
-#![tactic(auto)]
 
 #[cfg(test)]
 mod job_writer;

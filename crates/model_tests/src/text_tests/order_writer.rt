@@ -1,6 +1,6 @@
 //! A run of two threads, written in an order.
 
-use crate::testing::{replies, sink_failing_at};
+use crate::text_tests::testing::{replies, sink_failing_at};
 use never_heap::Item;
 use std::test::Fail;
 use trace_text::{Failed, MemSink, write_order};

@@ -8,7 +8,7 @@ use Rattle.never_heap.specs.declared.Command.TheVariants.{New, Arr, Set, Nil, Mo
 use Rattle.never_heap.specs.Bounds.{IsCommandInBounds}
 use Rattle.never_heap.proofs.CommandBounds.{plain_fits}
 use Rattle.trace_text.specs.Jobs.{Job, IsJobInBounds}
-use Rattle.text_tests.proofs.ten_commands.job.Goals as goal
+use Rattle.model_tests.proofs.text_tests.ten_commands.job.Goals as goal
 
 abbrev config : ℕ → Config
 config object =

@@ -1,6 +1,6 @@
 //! A run of two threads, written thread by thread, and the longest line.
 
-use crate::testing::{entry, replies, sink_failing_at};
+use crate::text_tests::testing::{entry, replies, sink_failing_at};
 use block_store::Name;
 use never_heap::{Entry, Reply};
 use std::test::Fail;

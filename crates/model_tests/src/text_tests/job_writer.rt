@@ -1,7 +1,7 @@
 //! A job of ten commands, written.
 
-use crate::ten_commands::job;
-use crate::testing::sink_failing_at;
+use crate::text_tests::ten_commands::job;
+use crate::text_tests::testing::sink_failing_at;
 use std::test::Fail;
 use trace_text::{Failed, write_job};
 
