@@ -12,6 +12,8 @@ mod locked;
 #[cfg(test)]
 mod lone;
 #[cfg(test)]
+mod machine_tests;
+#[cfg(test)]
 mod ordered;
 #[cfg(test)]
 mod replays;

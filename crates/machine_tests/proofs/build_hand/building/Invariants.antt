@@ -1,6 +1,0 @@
-use Rattle.block_store.specs.Configs.{IsInBounds}
-use Rattle.build_steps.specs.Fits.{BuildFits}
-use Rattle.machine_tests.proofs.build_hand.building.Given as goal
-
-abbrev pub invariant-loop-block : goal.invariant-loop-block
-invariant-loop-block l = IsInBounds l.c × BuildFits l.c l.pass

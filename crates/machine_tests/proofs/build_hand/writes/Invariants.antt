@@ -1,7 +1,0 @@
-use Rattle.std.proofs.Common.{◌≡◌}
-use Rattle.block_store.specs.Configs.{IsInBounds}
-use Rattle.build_steps.specs.Fits.{BuildFits}
-use Rattle.machine_tests.proofs.build_hand.writes.Given as goal
-
-abbrev pub invariant-loop-payload : goal.invariant-loop-payload
-invariant-loop-payload l = IsInBounds l.c × BuildFits l.c l.pass × (l.c ≡ l.fn.c)

@@ -1,6 +1,0 @@
-use Rattle.block_store.specs.Configs.{IsInBounds}
-use Rattle.grey_steps.specs.Fits.{GreyFits}
-use Rattle.machine_tests.proofs.grey_hand.shaded.Given as goal
-
-abbrev pub invariant-loop-row : goal.invariant-loop-row
-invariant-loop-row l = IsInBounds l.c × GreyFits l.c l.pass

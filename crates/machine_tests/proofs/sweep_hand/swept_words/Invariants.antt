@@ -1,6 +1,0 @@
-use Rattle.block_store.specs.Configs.{IsInBounds}
-use Rattle.sweep_steps.specs.Fits.{SweepFits}
-use Rattle.machine_tests.proofs.sweep_hand.swept_words.Given as goal
-
-abbrev pub invariant-loop-step : goal.invariant-loop-step
-invariant-loop-step l = IsInBounds l.c × SweepFits l.c l.pass
