@@ -5,6 +5,7 @@
 mod comparing;
 #[cfg(test)]
 mod faults;
+mod hostile_use;
 #[cfg(test)]
 mod many_threads;
 #[cfg(test)]

@@ -1,7 +1,9 @@
 //! Streams that fail at each of their calls in turn, sinks with too little room, and inputs that
 //! are cut off.
 
-use crate::calling::{ANSWERS, Call, IN_ORDER, JOB, MADE, WIDE_ANSWERS, WIDE_JOB, made};
+use crate::hostile_use::calling::{
+    ANSWERS, Call, IN_ORDER, JOB, MADE, WIDE_ANSWERS, WIDE_JOB, made,
+};
 use std::alloc::Global;
 use std::process::Abort;
 use std::sync::Wait;

@@ -1,7 +1,6 @@
 //! Tests of the top call where all that it is lent is hostile: streams that fail at any call, sinks
 //! without room, inputs with any byte wrong or of any length, numbers at the ends of their ranges,
 //! and schedules that hold a thread anywhere.
-#![tactic(auto)]
 
 #[cfg(test)]
 mod calling;

@@ -3,7 +3,7 @@ use Rattle.heap_system.specs.Machines.{IsJob}
 use Rattle.heap_system.specs.Systems.{commands_in}
 use Rattle.heap_system.proofs.TextLives.{job_of_text, text_few}
 use Rattle.trace_text.specs.Jobs.{Job}
-use Rattle.hostile_use.proofs.held_system.opened.Goals as goal
+use Rattle.call_tests.proofs.hostile_use.held_system.opened.Goals as goal
 
 pub new_ordered-requires-clause-few : goal.new_ordered-requires-clause-few
 new_ordered-requires-clause-few c =

@@ -1,8 +1,8 @@
 //! A job of each version, of which each byte in turn is changed, left out, or pushed away by
 //! another.
 
-use crate::calling::{ANSWERS, Call, JOB, WIDE_ANSWERS, WIDE_JOB, made};
-use crate::plain_reader::first_wrong;
+use crate::hostile_use::calling::{ANSWERS, Call, JOB, WIDE_ANSWERS, WIDE_JOB, made};
+use crate::hostile_use::plain_reader::first_wrong;
 use rt_check::check;
 use std::alloc::{AllocError, Global};
 use std::process::Abort;

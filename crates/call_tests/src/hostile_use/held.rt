@@ -2,7 +2,7 @@
 
 ghost use Rattle.std.specs.Prelude.{◌<◌};
 
-use crate::held_system::{Held, opened};
+use crate::hostile_use::held_system::{Held, opened};
 use block_store::{Config, OutOfMemory};
 use heap_system::System;
 use never_heap::{Command, Item, Reply};
