@@ -4,35 +4,20 @@
 
 mod help;
 
-use exit_statuses::{Question, words_of};
+use exit_statuses::Program;
 use help::{HELP, VERSION};
 use rt_check::limit;
-use std::alloc::AllocError;
 use std::process::ExitCode;
-use trace_text::{StdSink, StdSource, put_line};
-
-/// The statuses of success and of memory that ran out.
-const DONE: u8 = 0;
-
-const NO_MEMORY: u8 = 7;
+use trace_text::StdSource;
 
 fn main(rt: HostRuntime) -> ExitCode {
-    ExitCode::from(run(&rt).unwrap_or_else(|_| without_memory(&rt)))
-}
-
-/// Tells that memory ran out before anything was done.
-fn without_memory(rt: &HostRuntime) -> u8 {
-    let mut sink = StdSink::new(rt.stdout());
-    put_line(b"rt_limit: no memory\n", NO_MEMORY, &mut sink)
-}
-
-/// Tells what the job in standard input needs, and says with which status the program ends.
-fn run(rt: &HostRuntime) -> Result<u8, AllocError> {
-    let words = words_of(rt)?;
-    let mut sink = StdSink::new(rt.stdout());
-    if let Some(question) = Question::of(&words) {
-        return Ok(put_line(question.answer(HELP, VERSION).as_bytes(), DONE, &mut sink));
-    }
-    let mut source = StdSource::new(rt.stdin());
-    Ok(limit(rt.alloc(), &words, &mut source, &mut sink).status)
+    let program = Program {
+        name: b"rt_limit",
+        help: HELP,
+        version: VERSION,
+    };
+    program.run(&rt, rt.stdout(), |words, sink| {
+        let mut source = StdSource::new(rt.stdin());
+        Ok(limit(rt.alloc(), words, &mut source, sink).status)
+    })
 }

@@ -3,47 +3,22 @@
 
 mod help;
 
-use block_store::OutOfMemory;
-use exit_statuses::{Question, words_of};
+use exit_statuses::Program;
 use help::{HELP, VERSION};
 use std::alloc::AllocError;
-use std::io::{self, BufWriter, Write};
 use std::process::ExitCode;
-use std::sync::Wait;
-use std::thread::Threads;
 use timed_runs::timed;
-use trace_text::{StdSink, StdSource, WRITE_FAULT, put_line};
-
-/// The statuses of success and of memory that ran out.
-const DONE: u8 = 0;
-
-const NO_MEMORY: u8 = 7;
+use trace_text::StdSource;
 
 fn main(rt: HostRuntime) -> ExitCode {
-    ExitCode::from(run(&rt, &rt).unwrap_or_else(|_| without_memory(&rt)))
-}
-
-/// Tells that memory ran out before anything was done.
-fn without_memory(rt: &HostRuntime) -> u8 {
-    let mut sink = StdSink::new(rt.stdout());
-    put_line(b"rtheap: no memory\n", NO_MEMORY, &mut sink)
-}
-
-/// Runs the job in standard input, and says with which status the program ends. What is written to
-/// standard output goes out in large pieces; the last goes out here, where none failed. The second
-/// handle is the same runtime, by which the run makes threads and waits.
-fn run<T: Threads + Wait + Sync>(rt: &HostRuntime, threads: &T) -> Result<u8, OutOfMemory> {
-    let words = words_of(rt)?;
-    if let Some(question) = Question::of(&words) {
-        let mut sink = StdSink::new(rt.stdout());
-        return Ok(put_line(question.answer(HELP, VERSION).as_bytes(), DONE, &mut sink));
-    }
-    let mut source = StdSource::new(rt.stdin());
-    let mut out = BufWriter::new(rt.alloc(), rt.stdout()).map_err(|_| OutOfMemory)?;
-    let mut sink = StdSink::new(&mut out);
-    let status = timed(threads, rt, rt.alloc(), &words, &mut source, &mut sink)?.status;
-    if status != WRITE_FAULT && out.flush().is_err() {
-        return Ok(WRITE_FAULT);
-    }
-    Ok(status)
+    let program = Program {
+        name: b"rtheap",
+        help: HELP,
+        version: VERSION,
+    };
+    program.run_buffered(&rt, rt.stdout(), |words, sink| {
+        let mut source = StdSource::new(rt.stdin());
+        let ended = timed(&rt, &rt, rt.alloc(), words, &mut source, sink);
+        Ok(ended.map_err(|_| AllocError)?.status)
+    })
 }
