@@ -1,6 +1,6 @@
 //! Whole calls over sources and sinks in memory, by clocks whose readings are known.
 
-use crate::slim::timed_by;
+use crate::fault_tests::slim::timed_by;
 use std::alloc::Global;
 use std::io;
 use std::process::Abort;

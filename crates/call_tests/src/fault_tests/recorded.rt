@@ -1,6 +1,8 @@
 //! The text of a record, failing writes, and drawn programs whose records are read again.
 
-use crate::slim::{ended, executed, is_torn, opened, read, record, recorded, recorder, reply};
+use crate::fault_tests::slim::{
+    ended, executed, is_torn, opened, read, record, recorded, recorder, reply,
+};
 use block_store::Width;
 use control_heap::Refused;
 use never_heap::{Command, Reply};

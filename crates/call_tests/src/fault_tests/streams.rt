@@ -1,6 +1,6 @@
 //! Streams that fail in the middle: what was written before stays, and the answer names the stream.
 
-use crate::slim::{mailed, reported};
+use crate::fault_tests::slim::{mailed, reported};
 use historian_core::Stop;
 use std::test::Fail;
 
