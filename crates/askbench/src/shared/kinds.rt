@@ -1,6 +1,6 @@
 //! The times of the commands of one kind.
 
-use crate::commands::{Times, tail_of, trace_of};
+use crate::shared::commands::{Times, tail_of, trace_of};
 use crate::slim::push;
 use crate::stop::Stop;
 use crate::task::Plan;

@@ -3,7 +3,8 @@
 
 ghost use Rattle.live_tags.specs.Live.{IsOf};
 
-use crate::slim::{nanoseconds, open_tags, push, read_tag, room, tell, write_tag};
+use crate::shared::slim::{nanoseconds, open_tags, read_tag, room, tell, write_tag};
+use crate::slim::push;
 use crate::stop::Stop;
 use crate::task::Rounds;
 use live_tags::{LiveTags, TagWorker};

@@ -1,5 +1,5 @@
 use Rattle.std.proofs.Common.{◌≡◌}
-use Rattle.sharedbench.proofs.commands.do_trace.Given as goal
+use Rattle.askbench.proofs.shared.commands.do_trace.Given as goal
 
 abbrev pub invariant-loop-before : goal.invariant-loop-before
 invariant-loop-before g l = l.who.heap ≡ l.heap.id

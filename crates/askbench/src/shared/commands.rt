@@ -2,8 +2,9 @@
 
 ghost use Rattle.std.specs.Prelude.{◌≡◌};
 
-use crate::kinds::add_kind;
-use crate::slim::{ask, nanoseconds, open, push, read_job, room, tell};
+use crate::shared::kinds::add_kind;
+use crate::shared::slim::{ask, nanoseconds, open, read_job, room, tell};
+use crate::slim::push;
 use crate::stop::Stop;
 use crate::task::Plan;
 use never_heap::Command;

@@ -5,7 +5,9 @@ ghost use Rattle.std.specs.Prelude.{◌≡◌, IfOk};
 ghost use Rattle.shared_heap.specs.Workers as heaps;
 ghost use Rattle.live_tags.specs.Live.{AreEachOnce, IsOf};
 
+use crate::slim::{print_ranks, push, written};
 use crate::stop::Stop;
+use crate::times::Ranks;
 use block_store::Config;
 use live_tags::{LiveTags, TagWorker};
 use never_heap::Command;
@@ -30,7 +32,7 @@ pub fn open(alloc: Global, config: Config) -> Result<(SharedHeap, Vec<Worker>), 
 {
     match SharedHeap::open(alloc, config) {
         Ok(opened) => Ok(opened),
-        Err(fault) => Err(Stop::NoHeap(fault)),
+        Err(fault) => Err(Stop::OpenShared(fault)),
     }
 }
 
@@ -46,7 +48,7 @@ pub fn ask<R: Wait>(
 {
     match heap.ask(rt, who, command) {
         Ok(_) => Ok(()),
-        Err(refused) => Err(Stop::Refused(refused)),
+        Err(refused) => Err(Stop::from(refused)),
     }
 }
 
@@ -55,7 +57,7 @@ pub fn open_tags(alloc: Global, threads: u32) -> Result<(LiveTags, Vec<TagWorker
 {
     match LiveTags::open(alloc, PLACES, threads) {
         Ok(opened) => Ok(opened),
-        Err(fault) => Err(Stop::NoTable(fault)),
+        Err(fault) => Err(Stop::OpenTable(fault)),
     }
 }
 
@@ -108,14 +110,6 @@ pub fn nanoseconds<C: Clock>(clock: &C) -> u64 {
     }
 }
 
-#[inline(always)]
-pub fn push(times: &mut Vec<u64>, time: u64) -> Result<(), Stop> {
-    match times.push(time) {
-        Ok(()) => Ok(()),
-        Err(_) => Err(Stop::NoMemory),
-    }
-}
-
 /// An empty list with room for so many times, whose pages have been written before.
 pub fn room(alloc: Global, times: u64) -> Result<Vec<u64>, Stop> {
     let mut room = with_capacity(alloc, times)?;
@@ -140,26 +134,26 @@ fn fill(room: &mut Vec<u64>, times: u64) -> Result<(), Stop> {
     Ok(())
 }
 
-pub fn number_of(word: &str) -> Option<u64> {
-    trace_text::number_of(word.as_bytes())
-}
-
 /// Prints the median of times of commands or operations, what 999 of 1,000 are within, and the
 /// longest. Prints nothing if there are none.
 pub fn tell(rt: &HostRuntime, kind: &str, of: &str, times: &mut Vec<u64>) -> Result<(), Stop> {
-    times.sort_unstable();
-    let count = times.len();
-    let most = count.saturating_sub(count / 1000 + 1);
-    match (times.get(count / 2), times.get(most), times.last()) {
-        (Some(median), Some(most), Some(longest)) => {
-            let done = println!(rt;
-                "{kind}: {count} {of}, median {median} ns, 99.9 per cent {most} ns, longest {longest} ns"
-            );
-            match done {
-                Ok(()) => Ok(()),
-                Err(_) => Err(Stop::WriteFault),
-            }
-        }
-        _ => Ok(()),
+    match Ranks::of(times) {
+        Some(ranks) => print_of_kind(rt, kind, times.len(), of, ranks),
+        None => Ok(()),
     }
+}
+
+fn print_of_kind(
+    rt: &HostRuntime,
+    kind: &str,
+    count: usize,
+    of: &str,
+    ranks: Ranks,
+) -> Result<(), Stop> {
+    print_count(rt, kind, count, of)?;
+    print_ranks(rt, ranks)
+}
+
+fn print_count(rt: &HostRuntime, kind: &str, count: usize, of: &str) -> Result<(), Stop> {
+    written(print!(rt; "{kind}: {count} {of}, "))
 }
