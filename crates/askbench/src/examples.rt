@@ -4,19 +4,34 @@ mod renewing;
 mod saving;
 mod structures;
 
+use crate::slim::picture_of;
 use crate::stop::Stop;
+use control_heap::ControlHeap;
+use saved_heap::Picture;
+use std::alloc::Global;
 
 /// Prints what each example gives.
 pub fn run(rt: &HostRuntime) -> Result<(), Stop> {
-    match all(rt) {
-        Some(()) => Ok(()),
-        None => Err(Stop::Example),
-    }
-}
-
-/// `None` if one of them fails.
-fn all(rt: &HostRuntime) -> Option<()> {
     structures::run(rt)?;
     renewing::run(rt)?;
     saving::run(rt)
+}
+
+/// Whether two heaps show one graph up to the names of objects.
+fn are_alike(alloc: Global, a: &ControlHeap, b: &ControlHeap) -> Result<bool, Stop> {
+    let picture = picture_of(alloc, a)?;
+    is_of(alloc, &picture, b)
+}
+
+fn is_of(alloc: Global, picture: &Picture, heap: &ControlHeap) -> Result<bool, Stop> {
+    let other = picture_of(alloc, heap)?;
+    Ok(*picture == other)
+}
+
+fn graph(alike: bool) -> &'static str {
+    if alike {
+        "the same graph"
+    } else {
+        "another graph"
+    }
 }

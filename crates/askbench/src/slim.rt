@@ -126,6 +126,14 @@ pub fn renewal_of(alloc: Global, picture: &Picture, config: Config) -> Result<Re
     }
 }
 
+/// Makes room for so many commands that are to be followed.
+pub fn make_room(renewal: &mut Renewal, commands: usize) -> Result<(), Stop> {
+    match renewal.make_room(commands) {
+        Ok(()) => Ok(()),
+        Err(_) => Err(Stop::NoMemory),
+    }
+}
+
 /// Does at most so many commands of a renewal, and returns how many are left.
 pub fn copy(renewal: &mut Renewal, most: usize) -> Result<usize, Stop> {
     match renewal.copy(most) {

@@ -1,7 +1,7 @@
 //! Why the program stops early: what it prints of that, and its status.
 
 use control_heap::{Fault, OpenFault, Refused};
-use saved_heap::{CopyFault, LoadFault, NotSaved, RenewFault};
+use saved_heap::{Behind, CopyFault, LoadFault, NotSaved, RenewFault};
 use trace_text::TraceFault;
 
 /// Why the program stops before its task is done.
@@ -31,7 +31,7 @@ pub enum Stop {
     OpenTable(live_tags::OpenFault),
     /// The table refused an operation.
     TableRefused(live_tags::Refused),
-    /// An example gave nothing.
+    /// An example failed.
     Example,
     /// A reading on the heap is not what was stored.
     Lost,
@@ -46,6 +46,18 @@ pub enum Stop {
 impl From<Refused> for Stop {
     fn from(refused: Refused) -> Stop {
         Stop::Refused(Fault::from(refused))
+    }
+}
+
+impl From<Behind> for Stop {
+    fn from(_behind: Behind) -> Stop {
+        Stop::Example
+    }
+}
+
+impl From<CopyFault> for Stop {
+    fn from(fault: CopyFault) -> Stop {
+        Stop::NotCopied(fault)
     }
 }
 

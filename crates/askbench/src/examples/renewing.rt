@@ -1,9 +1,12 @@
 //! A program that goes on while its heap is copied to a new one.
 
-use block_store::{Config, OutOfMemory, Width};
-use control_heap::{ControlHeap, Refused};
+use crate::examples::{are_alike, graph};
+use crate::slim::{ask, copy, finish, make_room, open, picture_of, renewal_of, written};
+use crate::stop::Stop;
+use block_store::{Config, Width};
+use control_heap::ControlHeap;
 use never_heap::Command;
-use saved_heap::{Behind, CopyFault, RenewFault, Renewal, picture_of};
+use saved_heap::Renewal;
 use std::alloc::Global;
 
 const HEAP: Config = Config {
@@ -26,44 +29,6 @@ const LARGER: Config = Config {
 const MEANWHILE: u64 = 400;
 
 const PIECE: usize = 2;
-
-// Why the program stops.
-#[derive(Clone, Copy, Debug, PartialEq, Eq)]
-enum Stop {
-    Refused(Refused),
-    Behind,
-    Renew(RenewFault),
-}
-
-impl From<Refused> for Stop {
-    fn from(refused: Refused) -> Stop {
-        Stop::Refused(refused)
-    }
-}
-
-impl From<Behind> for Stop {
-    fn from(_behind: Behind) -> Stop {
-        Stop::Behind
-    }
-}
-
-impl From<CopyFault> for Stop {
-    fn from(fault: CopyFault) -> Stop {
-        Stop::Renew(RenewFault::Copy(fault))
-    }
-}
-
-impl From<RenewFault> for Stop {
-    fn from(fault: RenewFault) -> Stop {
-        Stop::Renew(fault)
-    }
-}
-
-impl From<OutOfMemory> for Stop {
-    fn from(_e: OutOfMemory) -> Stop {
-        Stop::Renew(RenewFault::NoMemory)
-    }
-}
 
 // A command of the program and a piece of the copy. Returns how many commands are left to copy.
 fn goes_on(
@@ -89,50 +54,50 @@ fn command_of(step: u64) -> Command {
     }
 }
 
-fn filled(heap: &mut ControlHeap) -> Result<(), Refused> {
+fn fill(heap: &mut ControlHeap) -> Result<(), Stop> {
     for step in 0..30 {
-        let _reply = heap.ask(command_of(step))?;
+        ask(heap, command_of(step))?;
     }
     Ok(())
 }
 
-fn renewal_of(alloc: Global, heap: &ControlHeap) -> Result<Renewal, Stop> {
+fn begin(alloc: Global, heap: &ControlHeap) -> Result<Renewal, Stop> {
     let picture = picture_of(alloc, heap)?;
-    let mut renewal = Renewal::of(alloc, &picture, LARGER)?;
-    renewal.make_room(MEANWHILE as usize)?;
-    Ok(renewal)
+    renewal_of(alloc, &picture, LARGER)
+}
+
+// The new heap, after the program has asked its commands.
+fn renewed(heap: &mut ControlHeap, renewal: Renewal) -> Result<ControlHeap, Stop> {
+    let mut renewal = renewal;
+    match meanwhile(heap, &mut renewal) {
+        Ok(()) => finish(renewal),
+        Err(stop) => Err(stop),
+    }
 }
 
 fn meanwhile(heap: &mut ControlHeap, renewal: &mut Renewal) -> Result<(), Stop> {
+    make_room(renewal, MEANWHILE as usize)?;
     for step in 0..MEANWHILE {
         let _left = goes_on(heap, renewal, command_of(step), PIECE)?;
     }
-    let _none = renewal.copy(usize::MAX)?;
+    let _none = copy(renewal, usize::MAX)?;
     Ok(())
 }
 
-// Whether two heaps show one graph up to the names of objects.
-fn are_alike(alloc: Global, a: &ControlHeap, b: &ControlHeap) -> Result<bool, OutOfMemory> {
-    let a = picture_of(alloc, a)?;
-    let b = picture_of(alloc, b)?;
-    Ok(a == b)
+/// Renews a heap, and prints whether the new one shows what the old one does.
+pub fn run(rt: &HostRuntime) -> Result<(), Stop> {
+    let mut heap = open(rt.alloc(), HEAP)?;
+    renew(rt, &mut heap)
 }
 
-/// Renews a heap, and prints whether the new one shows what the old one does.
-pub fn run(rt: &HostRuntime) -> Option<()> {
-    let mut heap = ControlHeap::open(rt.alloc(), HEAP).ok()?;
-    filled(&mut heap).ok()?;
-    let mut renewal = renewal_of(rt.alloc(), &heap).ok()?;
-    meanwhile(&mut heap, &mut renewal).ok()?;
-    let renewed = renewal.finish().ok()?;
-    let alike = are_alike(rt.alloc(), &heap, &renewed).ok()?;
-    println!(rt;
-        "renewed: {}",
-        if alike {
-            "the same graph"
-        } else {
-            "another graph"
-        }
-    )
-    .ok()
+fn renew(rt: &HostRuntime, heap: &mut ControlHeap) -> Result<(), Stop> {
+    fill(heap)?;
+    let renewal = begin(rt.alloc(), heap)?;
+    let new = renewed(heap, renewal)?;
+    compare(rt, heap, &new)
+}
+
+fn compare(rt: &HostRuntime, old: &ControlHeap, new: &ControlHeap) -> Result<(), Stop> {
+    let alike = are_alike(rt.alloc(), old, new)?;
+    written(println!(rt; "renewed: {}", graph(alike)))
 }

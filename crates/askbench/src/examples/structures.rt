@@ -1,8 +1,11 @@
 //! Each structure in at most five lines.
 
+use crate::slim::open;
+use crate::stop::Stop;
 use block_store::{Config, Value, Width};
 use control_heap::{ControlHeap, Fault};
 use heap_structures::{Alarm, AlarmList, Insertion, Map, Queue, Ring, Sample, Trend};
+use std::alloc::Global;
 
 const HEAP: Config = Config {
     width: Width::Eight,
@@ -56,15 +59,23 @@ fn trend_of_one(trend: &mut Trend) -> Result<Option<u64>, Fault> {
 }
 
 /// Prints what each structure gives back.
-pub fn run(rt: &HostRuntime) -> Option<()> {
-    let mut heap = ControlHeap::open(rt.alloc(), HEAP).ok()?;
-    let ring = ring_of_two(&mut heap).ok()?;
-    let queue = queue_of_one(&mut heap).ok()?;
-    let map = map_of_one(&mut heap).ok()?;
-    let alarms = list_of_one(&mut heap).ok()?;
+pub fn run(rt: &HostRuntime) -> Result<(), Stop> {
+    let mut heap = open(rt.alloc(), HEAP)?;
+    match print_all(rt, &mut heap) {
+        Some(()) => Ok(()),
+        None => Err(Stop::Example),
+    }
+}
+
+// `None` if one of them fails.
+fn print_all(rt: &HostRuntime, heap: &mut ControlHeap) -> Option<()> {
+    let ring = ring_of_two(heap).ok()?;
+    let queue = queue_of_one(heap).ok()?;
+    let map = map_of_one(heap).ok()?;
     print_values(rt, ring, queue, map)?;
-    print_alarm(rt, alarms)?;
-    run_trend(rt)
+    let alarm = list_of_one(heap).ok()?;
+    print_alarm(rt, alarm)?;
+    print_trend(rt)
 }
 
 fn print_values(
@@ -80,11 +91,19 @@ fn print_alarm(rt: &HostRuntime, alarm: Option<Alarm>) -> Option<()> {
     println!(rt; "alarms {alarm:?}").ok()
 }
 
-fn run_trend(rt: &HostRuntime) -> Option<()> {
+fn print_trend(rt: &HostRuntime) -> Option<()> {
+    let mut trend = open_trend(rt.alloc())?;
+    let alarm = trend_of_one(&mut trend).ok()?;
+    print_first(rt, alarm)
+}
+
+fn open_trend(alloc: Global) -> Option<Trend> {
     if !Trend::fits(&HEAP, KEPT) {
         return None;
     }
-    let mut trend = Trend::open(rt.alloc(), HEAP, KEPT).ok()?;
-    let alarm = trend_of_one(&mut trend).ok()?;
+    Trend::open(alloc, HEAP, KEPT).ok()
+}
+
+fn print_first(rt: &HostRuntime, alarm: Option<u64>) -> Option<()> {
     println!(rt; "trend: the first alarm is sample {alarm:?}").ok()
 }
