@@ -1,5 +1,5 @@
 /* A table of tags in C, a plain array under a mutex, for bench/live_tags. Each thread writes and
-   reads the places in turn, WARM times untimed and TIMES times timed. Prints what `sharedbench tags`
+   reads the places in turn, WARM times untimed and TIMES times timed. Prints what `askbench shared tags`
    prints, each time from the end of the operation before.
 
        live_tags THREADS WARM TIMES */

@@ -1,6 +1,6 @@
 /* The churn of `jobs churned` by threads in C, for bench/shared: on malloc and free under a mutex,
-   or with -DBOEHM on Boehm's collector. Prints what sharedbench prints, each time from the end of
-   the command before, and the processor time of the timed part.
+   or with -DBOEHM on Boehm's collector. Prints what `askbench shared` prints, each time from the
+   end of the command before, and the processor time of the timed part.
 
        shared LIVE THREADS WARM TIMES
 

@@ -10,9 +10,15 @@ usage: askbench REQUESTS TICKS   times REQUESTS requests of each kind, and TICKS
        askbench day SAVES RENEWALS   keeps the last 1,000 readings of its input, each a line `sensor
                                  value`, on a heap, and answers each by a line; saves the heap each
                                  SAVES readings, and renews it each RENEWALS
+       askbench shared TAIL WARM TIMES < JOB   does the job on a heap that its threads ask beside
+                                 each other, then the last TAIL commands of each thread again and
+                                 again: WARM times, and TIMES times that are timed
+       askbench shared tags THREADS WARM TIMES   so many threads write and read the places of a
+                                 table of tags in turn: WARM times, and TIMES times that are timed
+       askbench examples         prints what the examples of docs/CONTROL.md give
 
 The numbers are decimal. The program runs only once it is built (--build), since an unproved build
-takes up to 280 times as long. bench/asked, bench/day and bench/steps run it.
+takes up to 280 times as long. Scripts of bench/ run it.
 ";
 
 pub const VERSION: &str = "askbench 0.1.0\n";

@@ -1,10 +1,13 @@
 //! Measures how long requests to a heap take, by kind, and how late a loop of 1 kHz runs; prints
 //! the most operations of each command; makes requests of one kind; and keeps readings on a heap
-//! that it saves and renews. `bench/asked`, `bench/steps` and `bench/day` run it.
+//! that it saves and renews. On a heap that threads share it times the commands of a job, and on a
+//! table of tags operations. It has the examples of `docs/CONTROL.md`. Scripts of `bench/` run it.
 #![tactic(auto)]
 
 mod day;
+mod examples;
 mod help;
+mod shared;
 mod slim;
 mod steps;
 mod stop;
@@ -15,6 +18,9 @@ use block_store::{Config, Width};
 use exit_statuses::{Question, words_of};
 use help::{HELP, VERSION};
 use std::process::ExitCode;
+use std::sync::Wait;
+use std::thread::Threads;
+use std::time::Clock;
 use stop::Stop;
 use task::Task;
 use trace_text::{StdSink, put_line};
@@ -30,7 +36,7 @@ const HEAP: Config = Config {
 };
 
 fn main(rt: HostRuntime) -> ExitCode {
-    match start(&rt) {
+    match start(&rt, &rt) {
         Ok(()) => ExitCode::SUCCESS,
         Err(stop) => {
             stop.tell(&rt);
@@ -39,29 +45,41 @@ fn main(rt: HostRuntime) -> ExitCode {
     }
 }
 
-fn start(rt: &HostRuntime) -> Result<(), Stop> {
+/// The second handle is the same runtime, by which threads are started, wait and read the clock.
+fn start<R: Threads + Wait + Clock + Sync>(rt: &HostRuntime, threads: &R) -> Result<(), Stop> {
     match words_of(rt) {
-        Ok(words) => obey(rt, &words),
+        Ok(words) => obey(rt, threads, &words),
         Err(_) => Err(Stop::NoMemory),
     }
 }
 
-fn obey(rt: &HostRuntime, words: &[String]) -> Result<(), Stop> {
+fn obey<R: Threads + Wait + Clock + Sync>(
+    rt: &HostRuntime,
+    threads: &R,
+    words: &[String],
+) -> Result<(), Stop> {
     if let Some(question) = Question::of(words) {
         return say(rt, question.answer(HELP, VERSION));
     }
     match Task::of(words) {
-        Some(task) => run(rt, task),
+        Some(task) => run(rt, threads, task),
         None => Err(Stop::Usage),
     }
 }
 
-fn run(rt: &HostRuntime, task: Task) -> Result<(), Stop> {
+fn run<R: Threads + Wait + Clock + Sync>(
+    rt: &HostRuntime,
+    threads: &R,
+    task: Task,
+) -> Result<(), Stop> {
     match task {
         Task::Times { requests, ticks } => times::run(rt, requests, ticks),
         Task::Steps(heap) => steps::most(rt, heap),
         Task::Make { command, times } => steps::make(rt, command, times),
         Task::Day { saves, renewals } => day::run(rt, saves, renewals),
+        Task::Shared(plan) => shared::commands::run(rt, threads, plan),
+        Task::Tags(rounds) => shared::tags::run(rt, threads, rounds),
+        Task::Examples => examples::run(rt),
     }
 }
 

@@ -2,6 +2,7 @@
 //! library is read again where one is called. Those in timed loops are in line.
 
 use crate::stop::Stop;
+use crate::times::Ranks;
 use block_store::{Config, Value};
 use control_heap::{ControlHeap, Fault, Refused};
 use heap_structures::Ring;
@@ -125,6 +126,14 @@ pub fn renewal_of(alloc: Global, picture: &Picture, config: Config) -> Result<Re
     }
 }
 
+/// Makes room for so many commands that are to be followed.
+pub fn make_room(renewal: &mut Renewal, commands: usize) -> Result<(), Stop> {
+    match renewal.make_room(commands) {
+        Ok(()) => Ok(()),
+        Err(_) => Err(Stop::NoMemory),
+    }
+}
+
 /// Does at most so many commands of a renewal, and returns how many are left.
 pub fn copy(renewal: &mut Renewal, most: usize) -> Result<usize, Stop> {
     match renewal.copy(most) {
@@ -174,23 +183,26 @@ pub fn print_number(rt: &HostRuntime, name: &str, number: u64) -> Result<(), Sto
     written(println!(rt; "{name} {number}"))
 }
 
-pub fn print_times(
-    rt: &HostRuntime,
-    kind: &str,
-    median: u64,
-    most: u64,
-    longest: u64,
-) -> Result<(), Stop> {
-    written(println!(rt;
-        "{kind}: median {median} ns, 99.9 per cent {most} ns, longest {longest} ns"
-    ))
+/// Begins a line.
+pub fn print_head(rt: &HostRuntime, kind: &str) -> Result<(), Stop> {
+    written(print!(rt; "{kind}: "))
+}
+
+/// Ends a line.
+pub fn print_ranks(rt: &HostRuntime, ranks: Ranks) -> Result<(), Stop> {
+    let Ranks {
+        median,
+        most,
+        longest,
+    } = ranks;
+    written(println!(rt; "median {median} ns, 99.9 per cent {most} ns, longest {longest} ns"))
 }
 
 pub fn print_save(rt: &HostRuntime, bytes: usize, saved: u64, loaded: u64) -> Result<(), Stop> {
     written(println!(rt; "save: {bytes} bytes; sum {saved}, loaded {loaded}"))
 }
 
-fn written(done: io::Result<()>) -> Result<(), Stop> {
+pub fn written(done: io::Result<()>) -> Result<(), Stop> {
     match done {
         Ok(()) => Ok(()),
         Err(_) => Err(Stop::WriteFault),

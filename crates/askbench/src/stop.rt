@@ -1,7 +1,8 @@
 //! Why the program stops early: what it prints of that, and its status.
 
 use control_heap::{Fault, OpenFault, Refused};
-use saved_heap::{CopyFault, LoadFault, NotSaved, RenewFault};
+use saved_heap::{Behind, CopyFault, LoadFault, NotSaved, RenewFault};
+use trace_text::TraceFault;
 
 /// Why the program stops before its task is done.
 #[derive(Clone, Copy)]
@@ -22,6 +23,16 @@ pub enum Stop {
     NotRenewed(RenewFault),
     /// The copy of the heap stopped.
     NotCopied(CopyFault),
+    /// The input is no job.
+    NoJob(TraceFault),
+    /// The heap of the job was not opened.
+    OpenShared(shared_heap::OpenFault),
+    /// The table of tags was not opened.
+    OpenTable(live_tags::OpenFault),
+    /// The table refused an operation.
+    TableRefused(live_tags::Refused),
+    /// An example failed.
+    Example,
     /// A reading on the heap is not what was stored.
     Lost,
     /// The sum of the readings exceeds a word.
@@ -38,6 +49,18 @@ impl From<Refused> for Stop {
     }
 }
 
+impl From<Behind> for Stop {
+    fn from(_behind: Behind) -> Stop {
+        Stop::Example
+    }
+}
+
+impl From<CopyFault> for Stop {
+    fn from(fault: CopyFault) -> Stop {
+        Stop::NotCopied(fault)
+    }
+}
+
 impl Stop {
     pub fn status(self) -> u8 {
         match self {
@@ -46,7 +69,10 @@ impl Stop {
             Stop::BadLine(_) => 3,
             Stop::ReadFault => 5,
             Stop::WriteFault => 6,
+            Stop::NoJob(fault) => job_status(fault),
             Stop::NoMemory
+            | Stop::OpenShared(shared_heap::OpenFault::NoMemory)
+            | Stop::OpenTable(live_tags::OpenFault::NoMemory)
             | Stop::Open(OpenFault::NoMemory)
             | Stop::NotSaved(NotSaved::NoMemory)
             | Stop::NotRenewed(RenewFault::NoMemory)
@@ -59,6 +85,9 @@ impl Stop {
     pub fn tell(self, rt: &HostRuntime) {
         let _ = match self {
             Stop::BadLine(line) => eprintln!(rt; "askbench: line {line} is no reading"),
+            Stop::NoJob(TraceFault::BadLine { line, why }) => {
+                eprintln!(rt; "askbench: line {line}: {}", why.text())
+            }
             _ => eprintln!(rt; "askbench: {}", self.text()),
         };
     }
@@ -71,6 +100,15 @@ impl Stop {
             Stop::NotLoaded(fault) => fault.text(),
             Stop::NotRenewed(fault) => fault.text(),
             Stop::NotCopied(fault) => fault.text(),
+            _ => self.shared_text(),
+        }
+    }
+
+    fn shared_text(self) -> &'static str {
+        match self {
+            Stop::OpenShared(fault) => fault.text(),
+            Stop::OpenTable(fault) => fault.text(),
+            Stop::TableRefused(refused) => refused.text(),
             _ => self.own_text(),
         }
     }
@@ -78,6 +116,9 @@ impl Stop {
     fn own_text(self) -> &'static str {
         match self {
             Stop::Usage => "usage",
+            Stop::NoJob(TraceFault::ReadFault) => "read fault",
+            Stop::NoJob(TraceFault::TooLong) => "input too long",
+            Stop::Example => "an example failed",
             Stop::Lost => "a reading was lost",
             Stop::TooLarge => "the sum of the readings is 2^64 or more",
             Stop::Clock => "the clock can't be read",
@@ -85,5 +126,13 @@ impl Stop {
             Stop::WriteFault => "write fault",
             _ => "no memory",
         }
+    }
+}
+
+fn job_status(fault: TraceFault) -> u8 {
+    match fault {
+        TraceFault::ReadFault => 5,
+        TraceFault::OutOfMemory => 7,
+        _ => 3,
     }
 }

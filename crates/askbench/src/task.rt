@@ -17,6 +17,31 @@ pub enum Task {
     Make { command: Command, times: u64 },
     /// To keep readings on a heap, save it each `saves` readings, and renew it each `renewals`.
     Day { saves: u64, renewals: u64 },
+    /// To time the commands of a job on a heap that its threads share.
+    Shared(Plan),
+    /// To time operations of threads on a table of tags.
+    Tags(Rounds),
+    /// To run the examples of `docs/CONTROL.md`.
+    Examples,
+}
+
+/// What each thread does after its trace: its last commands again and again.
+#[derive(Clone, Copy)]
+pub struct Plan {
+    /// How many of its last commands.
+    pub tail: u64,
+    /// How often they are done untimed, and how often timed after that.
+    pub warm: u64,
+    pub timed: u64,
+}
+
+/// What each thread does: rounds of a write and a read of one place.
+#[derive(Clone, Copy)]
+pub struct Rounds {
+    pub threads: u32,
+    /// How many are done untimed, and how many timed after that.
+    pub warm: u64,
+    pub timed: u64,
 }
 
 impl Task {
@@ -27,6 +52,8 @@ impl Task {
             "steps" => steps_of(rest),
             "make" => make_of(rest),
             "day" => day_of(rest),
+            "shared" => shared_of(rest),
+            "examples" => examples_of(rest),
             _ => times_of(words),
         }
     }
@@ -73,6 +100,40 @@ fn make_of(words: &[String]) -> Option<Task> {
     };
     let (command, times) = (command_of(kind, &HEAP)?, number_of(times)?);
     Some(Task::Make { command, times })
+}
+
+fn shared_of(words: &[String]) -> Option<Task> {
+    match words {
+        [tail, warm, timed] => plan_of(tail, warm, timed),
+        [first, threads, warm, timed] if first.as_str() == "tags" => {
+            rounds_of(threads, warm, timed)
+        }
+        _ => None,
+    }
+}
+
+fn plan_of(tail: &str, warm: &str, timed: &str) -> Option<Task> {
+    Some(Task::Shared(Plan {
+        tail: number_of(tail)?,
+        warm: number_of(warm)?,
+        timed: number_of(timed)?,
+    }))
+}
+
+fn rounds_of(threads: &str, warm: &str, timed: &str) -> Option<Task> {
+    Some(Task::Tags(Rounds {
+        threads: size(threads)?,
+        warm: number_of(warm)?,
+        timed: number_of(timed)?,
+    }))
+}
+
+fn examples_of(words: &[String]) -> Option<Task> {
+    if words.is_empty() {
+        Some(Task::Examples)
+    } else {
+        None
+    }
 }
 
 fn size(word: &str) -> Option<u32> {

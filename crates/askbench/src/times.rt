@@ -1,7 +1,7 @@
 //! How long requests take, and how late a loop of 1 kHz runs.
 
 use crate::HEAP;
-use crate::slim::{ask, now, open, print_times, push, since};
+use crate::slim::{ask, now, open, print_head, print_ranks, push, since};
 use crate::stop::Stop;
 use control_heap::ControlHeap;
 use never_heap::Command;
@@ -130,15 +130,38 @@ fn work(heap: &mut ControlHeap, tick: u64) -> Result<(), Stop> {
     Ok(())
 }
 
-/// Prints the median, the 99.9th percentile and the longest of some times.
-fn tell(rt: &HostRuntime, kind: &str, times: &mut Vec<u64>) -> Result<(), Stop> {
-    times.sort_unstable();
-    let count = times.len();
-    let most = count.saturating_sub(count / 1000 + 1);
-    match (times.get(count / 2), times.get(most), times.last()) {
-        (Some(median), Some(most), Some(longest)) => print_times(
-            rt, kind, *median, *most, *longest,
-        ),
-        _ => Ok(()),
+/// Three of some times, in nanoseconds.
+#[derive(Clone, Copy)]
+pub struct Ranks {
+    pub median: u64,
+    /// What 999 of 1,000 are within.
+    pub most: u64,
+    pub longest: u64,
+}
+
+impl Ranks {
+    /// Those of some times, which it sorts, if there are any.
+    pub fn of(times: &mut Vec<u64>) -> Option<Ranks> {
+        times.sort_unstable();
+        let count = times.len();
+        let most = count.saturating_sub(count / 1000 + 1);
+        Some(Ranks {
+            median: *times.get(count / 2)?,
+            most: *times.get(most)?,
+            longest: *times.last()?,
+        })
     }
+}
+
+/// Prints three of the times of a kind, or nothing if there are none.
+fn tell(rt: &HostRuntime, kind: &str, times: &mut Vec<u64>) -> Result<(), Stop> {
+    match Ranks::of(times) {
+        Some(ranks) => print_of_kind(rt, kind, ranks),
+        None => Ok(()),
+    }
+}
+
+fn print_of_kind(rt: &HostRuntime, kind: &str, ranks: Ranks) -> Result<(), Stop> {
+    print_head(rt, kind)?;
+    print_ranks(rt, ranks)
 }

@@ -4,6 +4,8 @@
 #[cfg(test)]
 mod comparing;
 #[cfg(test)]
+mod fault_tests;
+#[cfg(test)]
 mod faults;
 mod hostile_use;
 #[cfg(test)]

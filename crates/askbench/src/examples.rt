@@ -1,0 +1,37 @@
+//! The examples of `docs/CONTROL.md`, which quotes them, one after the other.
+
+mod renewing;
+mod saving;
+mod structures;
+
+use crate::slim::picture_of;
+use crate::stop::Stop;
+use control_heap::ControlHeap;
+use saved_heap::Picture;
+use std::alloc::Global;
+
+/// Prints what each example gives.
+pub fn run(rt: &HostRuntime) -> Result<(), Stop> {
+    structures::run(rt)?;
+    renewing::run(rt)?;
+    saving::run(rt)
+}
+
+/// Whether two heaps show one graph up to the names of objects.
+fn are_alike(alloc: Global, a: &ControlHeap, b: &ControlHeap) -> Result<bool, Stop> {
+    let picture = picture_of(alloc, a)?;
+    is_of(alloc, &picture, b)
+}
+
+fn is_of(alloc: Global, picture: &Picture, heap: &ControlHeap) -> Result<bool, Stop> {
+    let other = picture_of(alloc, heap)?;
+    Ok(*picture == other)
+}
+
+fn graph(alike: bool) -> &'static str {
+    if alike {
+        "the same graph"
+    } else {
+        "another graph"
+    }
+}
