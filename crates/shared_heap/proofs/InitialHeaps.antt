@@ -92,6 +92,7 @@ starts_timed c rate space r t (trace ∷ traces) = (
   record {
     own = omega arith;
     last = omega arith;
+    single = λ one. record { nobody = refl; opened = refl; own = refl };
     ends = λ same nobody opened going b is. (let z : true ≡ false = going in cc);
   },
   starts_timed c rate space r (t + 1) traces,
