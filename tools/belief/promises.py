@@ -105,7 +105,8 @@ thread's ring.""",
     Promise("from_c", "Calls from C", """
 Each command is answered as by `ControlHeap::ask`, with a number for each status and reply; one
 whose status is not 0 changes neither heap nor reply. What C owes is in the type of the handle:
-one that begins with the mark owns what its pointer leads to.""",
+one that begins with the mark owns what its pointer leads to; and a worker is given back only to its
+own group. A group that is finished has one history with its workers, as `close_some`.""",
             ["control_heap_c::exports", "control_heap_c::laws"]),
     Promise("tags", "Tags of a script", """
 The answers are those of a plain table on which the operations are done in one order, which keeps
