@@ -4,7 +4,7 @@ use Rattle.std.specs.Prelude.{ℕ, ◌≡◌, true, is_some, Option, Some, None,
 use Rattle.std.specs.Arc.{arc_value}
 use Rattle.shared_heap.specs.Pending.{PendingState}
 use Rattle.shared_heap.specs.Workers.{HaveHistoryOfSome, HeapState, WorkerState}
-use Rattle.control_heap_c.specs.Groups.{group_in, workers_in}
+use Rattle.control_heap_c.specs.Groups.{group_in, home_in, workers_in}
 use Rattle.control_heap_c.specs.Shared.{HasNone, IsUnchanged, command_at, worker_at}
 use Rattle.control_heap_c.specs.declared.owned.Group as groups
 use Rattle.control_heap_c.specs.declared.owned.Owned.{Owned}
@@ -12,14 +12,6 @@ use Rattle.control_heap_c.specs.declared.shared.closing.FinishRefusal.{FinishRef
 use Rattle.control_heap_c.specs.declared.shared.closing.FinishRefusal.TheVariants as finishing
 use Rattle.control_heap_c.specs.declared.shared.closing.ReturnRefusal.{ReturnRefusal}
 use Rattle.control_heap_c.specs.declared.shared.closing.ReturnRefusal.TheVariants as returning
-
--- the heap of a handle's group
-abbrev pub home_of : Option groups.Group → Option HeapState
-home_of None = None
-home_of (Some g) = Some (arc_value g.heap)
-
-abbrev pub home_in : Option Owned → Option HeapState
-home_in h = home_of (group_in h)
 
 -- the handle has the same heap and the same workers
 abbrev pub IsSameGroup : Option Owned → Option Owned → Type 0
