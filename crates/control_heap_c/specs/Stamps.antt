@@ -1,6 +1,8 @@
 -- What drawing and following a stamp from C does to a worker of a shared heap.
-use Rattle.std.specs.Prelude.{ℕ, ◌≡◌, Bool, true, false, Option, Some, Result, Ok, Err}
+use Rattle.std.specs.Prelude.{ℕ, ◌^◌, ◌≤◌, ◌≡◌, ◌⊎◌, Bool, true, false, Option, Some, Result, Ok, Err, List}
+use Rattle.shared_heap.specs.declared.rules.Moment.{Moment}
 use Rattle.shared_heap.specs.Pending.{PendingState}
+use Rattle.shared_heap.specs.Shared.{IsStartOf, stamps_in}
 use Rattle.shared_heap.specs.Stamps.{HasDrawn, HasFollowed}
 use Rattle.shared_heap.specs.Workers.{WorkerState}
 use Rattle.control_heap_c.specs.Shared.{HasNone, IsUnchanged, command_at, worker_at}
@@ -53,3 +55,10 @@ pub record Followed (stamp : ℕ) (old new : Option Owned) (status : ℕ) : Type
   pub outcome : Result Bool StampRefusal
   pub became : BecameFollowed old stamp outcome new
   pub status_is : status ≡ follow_status outcome
+
+-- The worker of the first handle has seen no more than that of the second, in any timeline that has
+-- what both have seen; or 2^64 stamps were drawn.
+abbrev pub HasCaughtUp : Option Owned → Option Owned → Type 0
+HasCaughtUp h j = (v y : WorkerState) (timeline : List Moment) → worker_at h ≡ Some v
+    → worker_at j ≡ Some y → IsStartOf v.timeline timeline → IsStartOf y.timeline timeline
+    → IsStartOf v.timeline y.timeline ⊎ (2 ^ 64 ≤ stamps_in timeline)

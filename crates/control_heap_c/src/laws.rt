@@ -1,17 +1,13 @@
 //! What the numbers of a call say: each law is the contract of a function that does nothing.
 
-ghost use Rattle.std.specs.Prelude.{◌≡◌, ◌≤◌, ◌<◌, ◌^◌, ◌⊎◌, ℕ, suc, List, Option, Some, None, Err};
+ghost use Rattle.std.specs.Prelude.{◌≡◌, ◌≤◌, ◌<◌, ℕ, suc, List, Option, Some, None, Err};
 ghost use Rattle.block_store.specs.declared.Config.{Config};
 ghost use Rattle.block_store.specs.declared.Width.{Width};
 ghost use Rattle.block_store.specs.declared.TheConstants.{REGISTERS};
 ghost use Rattle.never_heap.specs.declared.Command.{Command};
 ghost use Rattle.never_heap.specs.declared.Reply.{Reply};
 ghost use Rattle.control_heap.specs.Controls.{Control, AllAnswered};
-ghost use Rattle.shared_heap.specs.declared.rules.Moment.{Moment};
-ghost use Rattle.shared_heap.specs.Shared.{IsStartOf, stamps_in};
-ghost use Rattle.shared_heap.specs.Workers.{WorkerState};
-ghost use Rattle.control_heap_c.specs.Shared.{worker_at};
-ghost use Rattle.control_heap_c.specs.Stamps.{Followed, Stamped};
+ghost use Rattle.control_heap_c.specs.Stamps.{Followed, HasCaughtUp, Stamped};
 ghost use Rattle.control_heap_c.specs.declared.answer.Answer.{Answer};
 ghost use Rattle.control_heap_c.specs.declared.answer.Refusal.{Refusal};
 ghost use Rattle.control_heap_c.specs.declared.handle.OpenRefusal.{OpenRefusal};
@@ -77,11 +73,8 @@ pub fn calls_are_requests()
 /// that. So what is started by the worker from then on comes after all of this, by
 /// `shared_heap::commands_keep_real_time`.
 pub fn followed_stamps_are_in_order()
-    ensures { (before stamp : ℕ) (g h i j : Option Owned) (v y : WorkerState)
-        (timeline : List Moment) → Stamped g h before stamp 0 → Followed stamp i j 0
-        → worker_at h ≡ Some v → worker_at j ≡ Some y → IsStartOf v.timeline timeline
-        → IsStartOf y.timeline timeline
-        → IsStartOf v.timeline y.timeline ⊎ (2 ^ 64 ≤ stamps_in timeline) }
+    ensures { (before stamp : ℕ) (g h i j : Option Owned) → Stamped g h before stamp 0
+        → Followed stamp i j 0 → HasCaughtUp h j }
 {}
 
 /// A handle may go to another thread.

@@ -2,5 +2,4 @@ use Rattle.control_heap_c.proofs.Stamping.{in_order}
 use Rattle.control_heap_c.proofs.laws.followed_stamps_are_in_order.Goals as goal
 
 pub returns : goal.returns
-returns _ before stamp g h i j v y timeline first second at then_at lined then_lined =
-    in_order before stamp g h i j v y timeline first second at then_at lined then_lined
+returns _ before stamp g h i j first second = in_order before stamp g h i j first second
