@@ -5,7 +5,7 @@ use Rattle.shared_heap.specs.Stamps.{HasDrawn}
 use Rattle.shared_heap.specs.Workers.{WorkerState}
 use Rattle.shared_heap.proofs.Stamps.{stamps_in_order}
 use Rattle.control_heap_c.specs.Shared.{worker_at}
-use Rattle.control_heap_c.specs.Stamps.{BecameFollowed, BecameStamped, Followed, HasCaughtUp, Stamped, follow_status, stamp_status, stamp_told}
+use Rattle.control_heap_c.specs.Stamps.{BecameFollowed, BecameStamped, HasCaughtUp, Stamped, follow_status, stamp_status, stamp_told}
 use Rattle.control_heap_c.specs.declared.owned.Owned.{Owned}
 use Rattle.control_heap_c.specs.declared.shared.stamps.StampRefusal.{StampRefusal}
 use Rattle.control_heap_c.specs.declared.shared.stamps.StampRefusal.TheVariants as stamping
@@ -30,8 +30,8 @@ module _ (g h : Option Owned) (v : WorkerState) (at : worker_at h ≡ Some v) wh
   followed (Err stamping.Closed) stamp became status = absurd (omega (arith, status))
   followed (Err stamping.Busy) stamp became status = absurd (omega (arith, status))
 
-pub in_order : (before stamp : ℕ) (g h i j : Option Owned) → Stamped g h before stamp 0 → Followed stamp i j 0 → HasCaughtUp h j
-in_order before stamp g h i j first second v y timeline at then_at lined then_lined =
+pub caught_up : (before stamp status : ℕ) (g h i j : Option Owned) (outcome : Result Bool StampRefusal) → BecameFollowed i stamp outcome j → status ≡ follow_status outcome → Stamped g h before stamp 0 → status ≡ 0 → HasCaughtUp h j
+caught_up before stamp status g h i j outcome became is first zero v y timeline at then_at lined then_lined =
     let one = drew g h v at first.outcome before stamp first.became first.status_is first.stamp_is in
-    let other = followed i j y then_at second.outcome stamp second.became second.status_is in
+    let other = followed i j y then_at outcome stamp became (sym zero ∙ is) in
     stamps_in_order timeline one.0 v other.0 y stamp other.1 one.1 other.3 other.2 lined then_lined

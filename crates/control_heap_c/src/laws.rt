@@ -7,7 +7,6 @@ ghost use Rattle.block_store.specs.declared.TheConstants.{REGISTERS};
 ghost use Rattle.never_heap.specs.declared.Command.{Command};
 ghost use Rattle.never_heap.specs.declared.Reply.{Reply};
 ghost use Rattle.control_heap.specs.Controls.{Control, AllAnswered};
-ghost use Rattle.control_heap_c.specs.Stamps.{Followed, HasCaughtUp, Stamped};
 ghost use Rattle.control_heap_c.specs.declared.answer.Answer.{Answer};
 ghost use Rattle.control_heap_c.specs.declared.answer.Refusal.{Refusal};
 ghost use Rattle.control_heap_c.specs.declared.handle.OpenRefusal.{OpenRefusal};
@@ -66,15 +65,6 @@ pub fn registers_are_not_truncated()
 pub fn calls_are_requests()
     ensures { (h z : Control) (ks : List Command) (ys : List Reply) → AllCalled h ks ys z
         → AllAnswered h ks ys z }
-{}
-
-/// A worker that followed another's stamp, with status 0, has seen all that the other had seen when
-/// it drew the stamp; or 2^64 stamps were drawn. The timeline is the heap's, as finishing it has
-/// that. So what is started by the worker from then on comes after all of this, by
-/// `shared_heap::commands_keep_real_time`.
-pub fn followed_stamps_are_in_order()
-    ensures { (before stamp : ℕ) (g h i j : Option Owned) → Stamped g h before stamp 0
-        → Followed stamp i j 0 → HasCaughtUp h j }
 {}
 
 /// A handle may go to another thread.

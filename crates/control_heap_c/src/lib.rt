@@ -13,8 +13,7 @@ mod shared;
 pub use answer::{Answer, Refusal};
 pub use handle::{Handle, OpenRefusal};
 pub use laws::{
-    calls_are_requests, followed_stamps_are_in_order, handles_cross, numbers_read_back,
-    openings_tell,
+    calls_are_requests, handles_cross, numbers_read_back, openings_tell,
     registers_are_not_truncated, statuses_tell,
 };
 pub use owned::{Executing, Group, Owned, Resting};

@@ -1,12 +1,13 @@
 //! The calls for a program in C whose threads share a heap. None of them waits. A call that is
 //! refused changes nothing, and its status gives the cause.
 
-ghost use Rattle.std.specs.Prelude.{◌≡◌};
+ghost use Rattle.std.specs.Prelude.{◌≡◌, ℕ, Option};
+ghost use Rattle.control_heap_c.specs.declared.owned.Owned.{Owned};
 ghost use Rattle.control_heap_c.specs.Outcomes.{width_of};
 ghost use Rattle.control_heap_c.specs.Closings.{Finished, IsOfGroup, Returned};
 ghost use Rattle.control_heap_c.specs.Groups.{Attached, IsGroupShut, OpenedGroup, shared_config};
 ghost use Rattle.control_heap_c.specs.Shared.{IsShut, Polled, Started, command_in, worker_at, worker_counts};
-ghost use Rattle.control_heap_c.specs.Stamps.{Followed, Stamped};
+ghost use Rattle.control_heap_c.specs.Stamps.{Followed, HasCaughtUp, Stamped};
 
 use super::closing::{finish, finish_told, give_back, return_told};
 use super::coded::command_in;
@@ -132,14 +133,18 @@ pub extern "C" fn rtheap_worker_raw_stamp(
 }
 
 /// Gives a stamp of another worker to a worker, which draws one of its own. Returns 0 if that is no
-/// less, and 21 if it is less.
+/// less, and 21 if it is less. With 0 the worker has seen all that the other had seen when it drew
+/// the stamp, or 2^64 stamps were drawn. So what is started from then on comes after all of this
+/// (`shared_heap::commands_keep_real_time`).
 #[unsafe(no_mangle)]
 pub extern "C" fn rtheap_worker_raw_follow(
     alloc: Global,
     worker: &mut Handle,
     stamp: u64,
 ) -> u32
-    ensures { Followed stamp worker.old.link.value worker.new.link.value result }
+    ensures told { Followed stamp worker.old.link.value worker.new.link.value result }
+    ensures order { (before : ℕ) (g h : Option Owned) → Stamped g h before stamp 0 → result ≡ 0
+        → HasCaughtUp h worker.new.link.value }
 {
     follow_told(follow(alloc, worker, stamp))
 }
