@@ -34,7 +34,7 @@
 extern "C" {
 #endif
 
-/* The workers of a heap that have no handle yet. The program does not use the fields. */
+/* The workers of a heap that have no handle. The program does not use the fields. */
 typedef struct rtheap_group {
     uint64_t open;
     void *group;
@@ -77,9 +77,9 @@ RTHEAP_CHECKED static inline rtheap_status rtheap_group_open(
         rtheap_group_raw_open(group, version, threads, blocks, live, object, shared));
 }
 
-/* Moves the worker of the lowest thread that has no handle yet to a closed handle. Or:
-   RTHEAP_NO_HEAP (the group is closed), RTHEAP_IS_OPEN (the worker's handle is open),
-   RTHEAP_NO_WORKER, RTHEAP_NO_MEMORY. */
+/* Moves the first worker of the group to a closed handle. They are in thread order, and those that
+   were given back come last. Or: RTHEAP_NO_HEAP (the group is closed), RTHEAP_IS_OPEN (the worker's
+   handle is open), RTHEAP_NO_WORKER, RTHEAP_NO_MEMORY. */
 RTHEAP_CHECKED static inline rtheap_status rtheap_group_attach(rtheap_group *group,
                                                                rtheap_worker *worker) {
     if (!group || !worker) return RTHEAP_NULL_HANDLE;
