@@ -178,7 +178,9 @@ module _ (c : Config) (t : ℕ) (tl : t < c.threads) (r : Run) (by : IsAfterTurn
 
   -- it is at rest, so nobody is inside where it is the only thread
   quiet_alone : c.threads ≡ 1 → IsQuiet c r
-  quiet_alone one = all_done_quiet c by.traces r (kept_of c r by) (λ u ul. subst (λ v. is_done (local_in c r v) ≡ true) (omega (arith, one, tl, ul)) (sym (ap is_done at) ∙ done))
+  quiet_alone one = all_done_quiet c by.traces r (kept_of c r by) (λ u ul.
+      let same : t ≡ u = omega (arith, one, tl, ul) in
+      subst (λ v. is_done (local_in c r v) ≡ true) same (sym (ap is_done at) ∙ done))
 
   -- where the step that announced it found this phase word
   pub timed_given : (h : Held) → h.local ≡ l → (phase : ℕ) → phase ≡ get_or r.state.words 0 0 → (now : List Moment) (n : ℕ) (ns : List (List Moment)) → IsTimed c later n (held (given k l) (given_past k phase now n ns h))
