@@ -72,13 +72,14 @@ are refused.""",
     Promise("shared", "Heap of several threads", """
 Between any two steps the answers so far fit one legal history with exact work, in which each `full`
 is licensed; at `close` there is that of the whole life. What a worker has seen comes before each
-command that is invoked later; a command comes after what its worker learned by notes. If all
-workers are at rest, and one is then asked and alone has turns, its command ends within the bound of
-a lone thread.""",
+command that is invoked later; a command comes after what its worker learned by notes. In a heap of
+one worker each command takes at most the turns of a lone thread; in any other, if all workers are
+at rest, and one is then asked and alone has turns, its command ends within that bound.""",
             ["shared_heap::SharedHeap::open", "shared_heap::SharedHeap::ask",
              "shared_heap::SharedHeap::request", "shared_heap::SharedHeap::note",
              "shared_heap::SharedHeap::learn", "shared_heap::SharedHeap::stamp",
-             "shared_heap::SharedHeap::close", "shared_heap::SharedHeap::close_some",
+             "shared_heap::SharedHeap::follow", "shared_heap::SharedHeap::close",
+             "shared_heap::SharedHeap::close_some",
              "shared_heap::laws"]),
     Promise("live_tags", "Table of tags", """
 At `close` every operation was answered as on a plain table, in one order that keeps each worker's
