@@ -87,11 +87,13 @@ typedef enum rtheap_status {
     RTHEAP_KIND = 13,           /* register s holds a number, and not a reference */
     RTHEAP_RANGE = 14,          /* the object in register s has no field or element i */
     RTHEAP_TOO_FEW_WORDS = 15,  /* rtheap_open_in, which did nothing: too few words, or NULL */
-    RTHEAP_BUSY = 16,           /* these five: see rtheap_shared.h */
+    RTHEAP_BUSY = 16,           /* these seven: see rtheap_shared.h */
     RTHEAP_NOT_DONE = 17,
     RTHEAP_NO_COMMAND = 18,
     RTHEAP_NO_SUCH_COMMAND = 19,
-    RTHEAP_NO_WORKER = 20
+    RTHEAP_NO_WORKER = 20,
+    RTHEAP_NOT_SEEN = 21,
+    RTHEAP_IN_USE = 22
 } rtheap_status;
 
 /* What a register, field or element holds. */
@@ -384,7 +386,9 @@ static inline const char *rtheap_text(rtheap_status status) {
     case RTHEAP_NOT_DONE: return "the command is not done yet";
     case RTHEAP_NO_COMMAND: return "the worker has no command to carry out";
     case RTHEAP_NO_SUCH_COMMAND: return "there is no command of this number";
-    case RTHEAP_NO_WORKER: return "all workers of the heap have handles";
+    case RTHEAP_NO_WORKER: return "the group has no worker";
+    case RTHEAP_NOT_SEEN: return "the worker has not seen all that came before the stamp";
+    case RTHEAP_IN_USE: return "a handle has a worker of the heap";
     }
     return "not a status";
 }

@@ -17,11 +17,14 @@
 
    The replies of all workers are those of one order of all commands. In it each worker's commands
    have the order in which it was given them, and a command whose reply was returned comes before
-   each command, of any worker, that is started later.
+   each command, of any worker, that is started later. So a thread that has waited for a semaphore
+   reads what another had put before it posted that. rtheap_group_finish says this of the whole life
+   of a heap, rtheap_worker_poll of what one worker has seen, and rtheap_worker_follow of two.
 
    The program has to ensure what rtheap.h asks for a handle, of these two kinds of handles as well.
    It also has to poll each command to its end: while one is not done, the others may not get on. A
-   thread that stops in the middle of a command holds up the others. */
+   thread that stops in the middle of a command holds up the others. A worker is given back only to
+   the group that it was attached from. */
 #ifndef RTHEAP_SHARED_H
 #define RTHEAP_SHARED_H
 
@@ -31,7 +34,7 @@
 extern "C" {
 #endif
 
-/* The workers of a heap that have no handle yet. The program does not use the fields. */
+/* The workers of a heap that have no handle. The program does not use the fields. */
 typedef struct rtheap_group {
     uint64_t open;
     void *group;
@@ -51,9 +54,13 @@ uint32_t rtheap_group_raw_open(rtheap_group *group, uint32_t version, uint32_t t
                                uint32_t blocks, uint32_t live, uint32_t object, uint32_t shared);
 uint32_t rtheap_group_raw_attach(rtheap_group *group, rtheap_worker *worker);
 uint32_t rtheap_group_raw_close(rtheap_group *group);
+uint32_t rtheap_group_raw_return(rtheap_group *group, rtheap_worker *worker);
+uint32_t rtheap_group_raw_finish(rtheap_group *group, uint64_t *cycles);
 uint32_t rtheap_worker_raw_start(rtheap_worker *worker, uint32_t kind, uint32_t a, uint32_t b,
                                  uint32_t v, uint64_t n);
 uint32_t rtheap_worker_raw_poll(rtheap_worker *worker, uint64_t most, rtheap_reply *reply);
+uint32_t rtheap_worker_raw_stamp(rtheap_worker *worker, uint64_t *stamp);
+uint32_t rtheap_worker_raw_follow(rtheap_worker *worker, uint64_t stamp);
 uint32_t rtheap_worker_raw_close(rtheap_worker *worker);
 uint32_t rtheap_worker_raw_thread(rtheap_worker *worker);
 uint64_t rtheap_worker_raw_units_left(rtheap_worker *worker);
@@ -70,9 +77,9 @@ RTHEAP_CHECKED static inline rtheap_status rtheap_group_open(
         rtheap_group_raw_open(group, version, threads, blocks, live, object, shared));
 }
 
-/* Moves the worker of the lowest thread that has no handle yet to a closed handle. Or:
-   RTHEAP_NO_HEAP (the group is closed), RTHEAP_IS_OPEN (the worker's handle is open),
-   RTHEAP_NO_WORKER, RTHEAP_NO_MEMORY. */
+/* Moves the first worker of the group to a closed handle. They are in thread order, and those that
+   were given back come last. Or: RTHEAP_NO_HEAP (the group is closed), RTHEAP_IS_OPEN (the worker's
+   handle is open), RTHEAP_NO_WORKER, RTHEAP_NO_MEMORY. */
 RTHEAP_CHECKED static inline rtheap_status rtheap_group_attach(rtheap_group *group,
                                                                rtheap_worker *worker) {
     if (!group || !worker) return RTHEAP_NULL_HANDLE;
@@ -84,6 +91,32 @@ RTHEAP_CHECKED static inline rtheap_status rtheap_group_attach(rtheap_group *gro
 static inline rtheap_status rtheap_group_close(rtheap_group *group) {
     if (!group) return RTHEAP_NULL_HANDLE;
     return rtheap_status_of(rtheap_group_raw_close(group));
+}
+
+/* Gives a worker back to the group that it was attached from, and closes its handle. Or, and
+   nothing has changed: RTHEAP_NO_HEAP (one of the handles is closed), RTHEAP_BUSY (the worker's
+   command is not done), RTHEAP_NO_MEMORY. The group may attach it again. */
+RTHEAP_CHECKED static inline rtheap_status rtheap_group_return(rtheap_group *group,
+                                                               rtheap_worker *worker) {
+    if (!group || !worker) return RTHEAP_NULL_HANDLE;
+    return rtheap_status_of(rtheap_group_raw_return(group, worker));
+}
+
+/* Closes the heap with the workers that its group has, and the group's handle; the number of cycles
+   of collection that were started is written unless `cycles` is NULL. Then there was one order of
+   all commands. In it the commands of each of these workers are those that it was given, in their
+   order, with the replies that it had. Of a worker whose handle was closed it has the first of the
+   commands that it was given. A command that had its effect before another was started comes before
+   it. Or, and nothing has changed: RTHEAP_NO_HEAP (the group is closed), RTHEAP_NO_WORKER (it has
+   none), RTHEAP_IN_USE (a worker's handle is open). */
+RTHEAP_CHECKED static inline rtheap_status rtheap_group_finish(rtheap_group *group,
+                                                               uint64_t *cycles) {
+    uint64_t told = 0;
+    uint32_t status;
+    if (!group) return RTHEAP_NULL_HANDLE;
+    status = rtheap_group_raw_finish(group, &told);
+    if (status == 0 && cycles) *cycles = told;
+    return rtheap_status_of(status);
 }
 
 /* Closes a worker's handle, and frees the heap if it was the last. RTHEAP_BUSY: its command is not
@@ -184,6 +217,28 @@ RTHEAP_CHECKED static inline rtheap_status rtheap_worker_poll(rtheap_worker *wor
     status = rtheap_worker_raw_poll(worker, most, &told);
     if (status == 0 && reply) *reply = told;
     return rtheap_outcome(status, &told);
+}
+
+/* Draws a stamp: a number that may pass to other threads by any channel. RTHEAP_OK, RTHEAP_NO_HEAP
+   or RTHEAP_BUSY (a command is not done). `stamp` may be NULL. */
+RTHEAP_CHECKED static inline rtheap_status rtheap_worker_stamp(rtheap_worker *worker,
+                                                               uint64_t *stamp) {
+    uint64_t told = 0;
+    uint32_t status;
+    if (!worker) return RTHEAP_NULL_HANDLE;
+    status = rtheap_worker_raw_stamp(worker, &told);
+    if (status == 0 && stamp) *stamp = told;
+    return rtheap_status_of(status);
+}
+
+/* Gives a stamp of another worker of the heap to a worker. RTHEAP_OK: this one has now seen all
+   that the other had seen when it drew the stamp, its own commands included, and what it is given
+   from now on comes after that in the one order; or 2^64 stamps were drawn. RTHEAP_NOT_SEEN: the
+   stamp is none that was drawn before. RTHEAP_NO_HEAP, RTHEAP_BUSY: nothing was done. */
+RTHEAP_CHECKED static inline rtheap_status rtheap_worker_follow(rtheap_worker *worker,
+                                                                uint64_t stamp) {
+    if (!worker) return RTHEAP_NULL_HANDLE;
+    return rtheap_status_of(rtheap_worker_raw_follow(worker, stamp));
 }
 
 /* Starts a command and polls it to its end, 64 steps at a time. Between two polls it calls `pause`,

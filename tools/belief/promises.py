@@ -72,13 +72,14 @@ are refused.""",
     Promise("shared", "Heap of several threads", """
 Between any two steps the answers so far fit one legal history with exact work, in which each `full`
 is licensed; at `close` there is that of the whole life. What a worker has seen comes before each
-command that is invoked later; a command comes after what its worker learned by notes. If all
-workers are at rest, and one is then asked and alone has turns, its command ends within the bound of
-a lone thread.""",
+command that is invoked later; a command comes after what its worker learned by notes. In a heap of
+one worker each command takes at most the turns of a lone thread; in any other, if all workers are
+at rest, and one is then asked and alone has turns, its command ends within that bound.""",
             ["shared_heap::SharedHeap::open", "shared_heap::SharedHeap::ask",
              "shared_heap::SharedHeap::request", "shared_heap::SharedHeap::note",
              "shared_heap::SharedHeap::learn", "shared_heap::SharedHeap::stamp",
-             "shared_heap::SharedHeap::close", "shared_heap::SharedHeap::close_some",
+             "shared_heap::SharedHeap::follow", "shared_heap::SharedHeap::close",
+             "shared_heap::SharedHeap::close_some",
              "shared_heap::laws"]),
     Promise("live_tags", "Table of tags", """
 At `close` every operation was answered as on a plain table, in one order that keeps each worker's
@@ -105,7 +106,8 @@ thread's ring.""",
     Promise("from_c", "Calls from C", """
 Each command is answered as by `ControlHeap::ask`, with a number for each status and reply; one
 whose status is not 0 changes neither heap nor reply. What C owes is in the type of the handle:
-one that begins with the mark owns what its pointer leads to.""",
+one that begins with the mark owns what its pointer leads to; and a worker is given back only to its
+own group. A group that is finished has one history with its workers, as `close_some`.""",
             ["control_heap_c::exports", "control_heap_c::laws"]),
     Promise("tags", "Tags of a script", """
 The answers are those of a plain table on which the operations are done in one order, which keeps

@@ -1,7 +1,8 @@
 -- The first of a group's workers, and the others, are of its heap.
 use Rattle.std.proofs.Common.{◌≡◌, ◌<◌, ℕ, suc, List, [], ◌∷◌, length, slice_index_or, sym, ap, ◌∙◌, subst, arith}
 use Rattle.atomic_table.specs.Seated.{TableId}
-use Rattle.shared_heap.specs.Workers.{WorkerState}
+use Rattle.std.specs.Prelude.{Option, Some, None}
+use Rattle.shared_heap.specs.Workers.{HeapState, WorkerState}
 
 abbrev AllOf : TableId → List WorkerState → Type 0
 AllOf t ws = (i : ℕ) (d : WorkerState) → i < length ws → (slice_index_or ws i d).heap ≡ t
@@ -11,3 +12,10 @@ first_of t w rest ws e all = (subst (λ (xs : List WorkerState). AllOf t xs) (sy
 
 pub others_of : (t : TableId) (w : WorkerState) (rest ws : List WorkerState) → w ∷ rest ≡ ws → AllOf t ws → AllOf t rest
 others_of t w rest ws e all i d lt = (subst (λ (xs : List WorkerState). AllOf t xs) (sym e) all) (suc i) d (omega (arith, lt))
+
+home_or : HeapState → Option HeapState → HeapState
+home_or d None = d
+home_or d (Some h) = h
+
+pub same_home : (h s : HeapState) → Some h ≡ Some s → h.id ≡ s.id
+same_home h s e = ap (λ o. (home_or h o).id) e

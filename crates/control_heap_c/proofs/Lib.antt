@@ -2,3 +2,4 @@ mod AsBox
 mod Handing
 mod ReadBack
 mod Shutting
+mod Stamping

@@ -43,6 +43,14 @@ workers_of (Some g) = Some g.workers.items
 abbrev pub workers_in : Option Owned → Option (List WorkerState)
 workers_in h = workers_of (group_in h)
 
+-- the heap of a handle's group
+abbrev pub home_of : Option groups.Group → Option HeapState
+home_of None = None
+home_of (Some g) = Some (arc_value g.heap)
+
+abbrev pub home_in : Option Owned → Option HeapState
+home_in h = home_of (group_in h)
+
 -- all workers of a heap before its first command
 pub record IsFreshGroup (c : Config) (g : groups.Group) : Type 0 where
   pub can : CanOpen c
@@ -102,8 +110,8 @@ IsGroupShut old status new = IsClosedGroup (group_in old) status old new
 
 -- ---- a worker gets a handle
 
--- The first worker of the group is this value, and no longer the group's. The handle for it is not
--- open.
+-- The first worker of the group is this value, and no longer the group's. It is of the group's heap.
+-- The handle for it is not open.
 pub record HasHanded (old : Option Owned) (is_open : Bool) (x : Owned) (new : Option Owned) : Type 0
   where
     pub closed : is_open ≡ false
@@ -112,6 +120,8 @@ pub record HasHanded (old : Option Owned) (is_open : Bool) (x : Owned) (new : Op
     pub is_first : worker_at (Some x) ≡ Some first
     pub before : workers_in old ≡ Some (first ∷ rest)
     pub after : workers_in new ≡ Some rest
+    pub home : home_in new ≡ home_in old
+    pub own : (s : HeapState) → home_in old ≡ Some s → first.heap ≡ s.id
 
 -- why none does; the group is as it was
 abbrev pub IsNotAttached : Option Owned → Bool → AttachRefusal → Option Owned → Type 0

@@ -27,8 +27,8 @@ abbrev pub last_three : Reply → Reply → Reply → List Reply → Reply × Re
 last_three a b c [] = (a, b, c)
 last_three a b c (r ∷ rs) = last_three b c r rs
 
--- The same worker has executed these commands one by one, and done nothing else between them. For
--- each its code announced the command, made its events, and no other operation.
+-- The same worker has executed these commands one by one, and no other between them. For each its
+-- thread made the events of the command and no others (`HasMade`).
 abbrev pub Executes : WorkerState → List Command → WorkerState → Type 0
 Executes old [] new = new ≡ old
 Executes old (k ∷ ks) new =

@@ -79,6 +79,7 @@ module _ (k : Whole) (s : table.State Command View) (kept : SharedKept k s) (id 
   still_timed = record {
     own = omega (arith, timed.own, timed.last);
     last = omega arith;
+    single = timed.single;
     ends = λ same nobody opened going b bound. (let z : true ≡ _ = sym done ∙ going in cc);
   }
 

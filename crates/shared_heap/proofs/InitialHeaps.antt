@@ -6,7 +6,7 @@ use mathlib.Core.Option.{some, some-injective, some-ne-none}
 use lib.ListN.{get_elem?}
 use Rattle.atomic_table.specs.Table as table
 use Rattle.block_store.specs.declared.Config.{Config}
-use Rattle.block_store.specs.Phases.{bit}
+use Rattle.block_store.specs.Phases.{bit, inside_of, is_closed}
 use Rattle.never_heap.specs.declared.Command.{Command}
 use Rattle.never_heap.specs.declared.Command.TheVariants as commands
 use Rattle.never_heap.specs.Bounds.{IsCommandInBounds}
@@ -20,7 +20,8 @@ use Rattle.atom_board.proofs.InitialHeaps.{at_length}
 use Rattle.shared_heap.specs.declared.rules.Held.{Held}
 use Rattle.shared_heap.specs.declared.rules.Moment.TheVariants as moments
 use Rattle.shared_heap.specs.declared.rules.View.{View}
-use Rattle.shared_heap.specs.Shared.{AllFit, AllNotedIn, AllSeenIn, AllTimed, SharedKept, IsOfRun, IsTimelineOf, threads_of, first_held, first_past, first_view, held, unasked}
+use Rattle.shared_heap.specs.Shared.{AllFit, AllNotedIn, AllSeenIn, AllTimed, SharedKept, IsOfRun, IsTimelineOf, threads_of, first_held, first_past, first_view, held, no_span, unasked}
+use Rattle.shared_heap.specs.Spans.{IsAlone}
 use Rattle.shared_heap.specs.Workers.{AreOnes, CanOpen, IsDealt}
 use Rattle.shared_heap.proofs.Timelines.{invoked_start, part_start}
 use Rattle.shared_heap.proofs.Views.{starts_itself}
@@ -86,12 +87,17 @@ firsts_seen [] = tt
 firsts_seen (l ∷ ls) = (starts_itself (moments.Began ∷ []), firsts_seen ls)
 
 -- none has had a turn
+none_yet : IsAlone no_span
+unfolding inside_of is_closed
+none_yet = record { nobody = refl; opened = refl; own = refl }
+
 starts_timed : (c : Config) (rate : ℕ) (space : ℕ → ℕ) (r : Run) (t : ℕ) (traces : List (List Command)) → AllTimed c r 0 (map opening_held (starts_from c rate space t (nothings traces)))
 starts_timed c rate space r t [] = tt
 starts_timed c rate space r t (trace ∷ traces) = (
   record {
     own = omega arith;
     last = omega arith;
+    single = λ one. none_yet;
     ends = λ same nobody opened going b is. (let z : true ≡ false = going in cc);
   },
   starts_timed c rate space r (t + 1) traces,

@@ -5,6 +5,7 @@ pub mod FirstCommands
 pub mod Timelines
 pub mod Grown
 pub mod Rests
+pub mod Quiet
 pub mod Timed
 pub mod Steps
 pub mod Gifts

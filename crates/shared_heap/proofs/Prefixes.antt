@@ -5,21 +5,17 @@ use mathlib.Core.Option.{some}
 use lib.ListN.{get_elem?}
 use Rattle.atomic_table.specs.Table as table
 use Rattle.block_store.specs.declared.Config.{Config}
-use Rattle.block_store.specs.Phases.{bit, is_closed}
-use Rattle.block_store.specs.Places.{Phase}
-use Rattle.block_store.proofs.Functions.{total_none}
+use Rattle.block_store.specs.Phases.{bit}
 use Rattle.never_heap.specs.declared.Command.{Command}
 use Rattle.never_heap.specs.declared.Command.TheVariants as commands
 use Rattle.never_heap.specs.declared.Entry.{Entry}
 use Rattle.never_heap.specs.declared.Reply.{Reply}
 use Rattle.never_heap.specs.Bounds.{IsCommandInBounds}
 use Rattle.never_heap.specs.Histories.{part, replay}
-use Rattle.heap_machine.specs.Gating.{is_inside, is_closing}
 use Rattle.heap_system.specs.Alone.{IsQuiet, HasCommand, EndsWithin, command_bound, command_near}
-use Rattle.heap_system.specs.Parts.{Rest}
 use Rattle.heap_system.specs.Locals.{LocalState, command_of, entries_of, is_done}
-use Rattle.heap_system.specs.Machines.{Run, heap_in, local_in}
-use Rattle.heap_system.specs.Pictures.{entries_waiting, gating, waiting}
+use Rattle.heap_system.specs.Machines.{Run, local_in}
+use Rattle.heap_system.specs.Pictures.{entries_waiting, waiting}
 use Rattle.heap_system.specs.Systems.{Whole}
 use Rattle.heap_system.proofs.Kept.{Kept}
 use Rattle.heap_system.proofs.LawsOf.{laws_of}
@@ -39,6 +35,7 @@ use Rattle.shared_heap.specs.declared.rules.View.{View}
 use Rattle.shared_heap.specs.Shared.{Fits, AllFit, SharedKept, IsOfRun, later_past, one_view, seats_of, threads_of}
 use Rattle.shared_heap.specs.Workers.{HasRoom}
 use Rattle.shared_heap.specs.Prefixes.{AllDone, HasPartOf, AllHaveParts, FitsOneHistory, AllAreDone, EndsInTime}
+use Rattle.shared_heap.proofs.Quiet.{all_done_quiet}
 use Rattle.shared_heap.proofs.Timelines.{keeps_real_time}
 use Rattle.shared_heap.proofs.Grown.{events_grown, given_here, here}
 use Rattle.shared_heap.proofs.Rests.{room_for}
@@ -127,18 +124,8 @@ module _ (k : Whole) (s : table.State Command View) (kept : SharedKept k s) wher
     done_at : (t : ℕ) → t < c.threads → is_done (local_in c r t) ≡ true
     done_at t tl = in_views t tl s.views (omega (arith, kept.once t tl)) (λ id v at. ((kept.each id v at).0, over id v at))
 
-    rest_at : (t : ℕ) → t < c.threads → (local_in c r t).part ≡ Rest
-    rest_at t tl = rest_is (local_in c r t).part (at_rest (local_in c r t) (done_at t tl))
-
-    opened_is : (b : Bool) → bit b ≡ 0 → b ≡ false
-    opened_is true e = absurd (omega (arith, e))
-    opened_is false e = refl
-
     quiet : IsQuiet c r
-    quiet = record {
-      nobody = sym all.gate.count ∙ total_none c.threads _ (λ t tl. ap (λ p. bit (is_inside (gating c (local_in c r t).pass p).stand)) (rest_at t tl));
-      opened = opened_is (is_closed (heap_in c r.state Phase)) (sym all.gate.closers ∙ total_none c.threads _ (λ t tl. ap (λ p. bit (is_closing (gating c (local_in c r t).pass p).stand)) (rest_at t tl)));
-    }
+    quiet = all_done_quiet c kept.by.after.traces r all done_at
 
     module _ (id : ℕ) (h : Held) (ns : List (List Moment)) (m : Command) (at : get_elem? s.views id ≡ some (one_view h ns)) (bounds : IsCommandInBounds h.local.config m) (room : HasRoom h.local m) where
       abbrev l : LocalState

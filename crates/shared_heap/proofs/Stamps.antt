@@ -1,5 +1,5 @@
 -- A worker that draws a stamp, and what stamps tell of each other.
-use Rattle.std.proofs.Common.{◌≡◌, ℕ, ◌+◌, ◌≤◌, ◌<◌, ◌^◌, refl, arith, subst, sym, ap, ◌∙◌, List, [], ◌∷◌, ◌++◌, append_assoc, length, inl, inr, ◌⊎◌}
+use Rattle.std.proofs.Common.{◌≡◌, ℕ, ◌+◌, ◌≤◌, ◌<◌, ◌^◌, Bool, refl, arith, subst, sym, ap, ◌∙◌, List, [], ◌∷◌, ◌++◌, append_assoc, length, inl, inr, ◌⊎◌}
 use Rattle.atomic_table.specs.Table as table
 use Rattle.atomic_table.specs.Seated.{TableId}
 use Rattle.never_heap.specs.declared.Command.{Command}
@@ -9,7 +9,7 @@ use Rattle.shared_heap.specs.declared.rules.Moment.{Moment}
 use Rattle.shared_heap.specs.declared.rules.Moment.TheVariants as moments
 use Rattle.shared_heap.specs.declared.rules.View.{View}
 use Rattle.shared_heap.specs.Shared.{AllOfRuns, AllSeenIn, IsCountUnlessWrapped, Draws, IsOfRun, IsStartOf, drawn_by, drawn_of, held_of, one_view, stamps_in}
-use Rattle.shared_heap.specs.Stamps.{HasDrawn}
+use Rattle.shared_heap.specs.Stamps.{HasDrawn, HasFollowed}
 use Rattle.shared_heap.specs.Workers.{IsKept, IsSame, Keeps, WorkerState, worker_of}
 use Rattle.shared_heap.proofs.Asking.{held_is, is_kept, notes_are, sound_of}
 use Rattle.shared_heap.proofs.Timelines.{before_or_after, stamps_append, stamps_start}
@@ -76,6 +76,9 @@ drawn_same old new n is = record {
   config = ap (λ (l : LocalState). l.config) is.thread;
   thread = ap (λ (l : LocalState). l.thread) is.thread;
 }
+
+pub followed_same : (old new : WorkerState) (n : ℕ) (reached : Bool) → HasFollowed old n reached new → IsSame old new
+followed_same old new n reached is = drawn_same old new is.own is.drawn
 
 -- a worker whose stamp is no less has seen at least as much
 pub stamps_in_order : (timeline : List Moment) (u v x y : WorkerState) (n m : ℕ) → HasDrawn u n v → HasDrawn x m y → n ≤ m → IsStartOf v.timeline timeline → IsStartOf y.timeline timeline → IsStartOf v.timeline y.timeline ⊎ (2 ^ 64 ≤ stamps_in timeline)

@@ -190,7 +190,7 @@ module _ (k : Whole) (s : table.State Command View) (kept : SharedKept k s) (id 
         let both = seat_parts t s.views id j (one_view h ns) u at p.1 (λ q. p.0 (sym q)) in
         let one = kept.once t f.0 in
         let is_one : bit (eqb t t) ≡ 1 = rw (eq-eqb t t refl) refl in
-        (others_fit c r later t new locals u.threads (omega (arith, both, one, is_one)) (kept.each j u p.1).0, noted_more kept.timeline items u.notes (kept.each j u p.1).1, timed_others c r later (length kept.by.after.turns) (length of_events.after.turns) u.threads (omega (arith, one_more)) (kept.each j u p.1).2, seen_more kept.timeline items u.threads (kept.each j u p.1).3))
+        (others_fit c r later t new locals u.threads (omega (arith, both, one, is_one)) (kept.each j u p.1).0, noted_more kept.timeline items u.notes (kept.each j u p.1).1, timed_others c t r later (length kept.by.after.turns) (length of_events.after.turns) u.threads f.0 (omega (arith, one_more)) (kept.each j u p.1).0 (omega (arith, both, one, is_one)) (kept.each j u p.1).2, seen_more kept.timeline items u.threads (kept.each j u p.1).3))
         (at_set s.views id j then_view u e);
     once = λ u ul. omega (arith, seats_set u s.views id (one_view h ns) then_view at, kept.once u ul);
   }

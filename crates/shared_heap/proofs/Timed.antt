@@ -21,8 +21,9 @@ use Rattle.control_heap.proofs.GrownRuns.{local_grown, next_grown}
 use Rattle.shared_heap.specs.declared.rules.Held.{Held}
 use Rattle.shared_heap.specs.declared.rules.Moment.{Moment}
 use Rattle.shared_heap.specs.Shared.{AllFit, AllTimed, given_past, held, stepped_past, threads_of}
-use Rattle.shared_heap.specs.Spans.{EndsBy, IsAlone, IsBound, IsInTime, IsTimed}
+use Rattle.shared_heap.specs.Spans.{EndsBy, HasNoRival, IsAlone, IsBound, IsInTime, IsTimed}
 use Rattle.shared_heap.proofs.Grown.{given_here, here}
+use Rattle.shared_heap.proofs.Quiet.{all_done_quiet}
 use Rattle.shared_heap.proofs.Views.{apart_of}
 
 -- an event of a thread that is alone
@@ -38,6 +39,9 @@ module _ (c : Config) (r : Run) (n m : ℕ) (h : Held) (w : ℕ) (now : List Mom
   timed_next = record {
     own = omega (arith, timed.own, timed.last, more);
     last = omega arith;
+    single = λ one.
+        (let a = timed.single one in
+        record { nobody = a.nobody; opened = a.opened; own = (let e : n ≡ h.past.span.first + h.past.span.own = a.own in omega (arith, e, more)) });
     ends = λ same nobody opened still b is. ends_next c h.local.thread h.past.span.own b r (sym (ap is_done at) ∙ going)
         (timed.ends (omega (arith, same, more)) nobody opened going b is);
   }
@@ -48,23 +52,28 @@ module _ (c : Config) (r : Run) (n m : ℕ) (h : Held) (w : ℕ) (now : List Mom
       (timed.ends (let s : m ≡ h.past.span.first + (h.past.span.own + 1) = alone.own in omega (arith, s, more)) alone.nobody alone.opened going b is) in
       omega (arith, e.few)
 
+  alone : HasNoRival c (stepped_past now m h.past).span → IsAlone (stepped_past now m h.past).span
+  alone (inl is) = is
+  alone (inr one) = timed_next.single one
+
   pub in_time : h.local.config ≡ c → IsInTime h.local.config h.past.call.command (stepped_past now m h.past).span
-  in_time config = subst (λ x. IsInTime x h.past.call.command (stepped_past now m h.past).span) (sym config) (λ alone. record {
-    far = λ rate planned. within alone (command_bound c rate h.past.call.command) (rate, planned, inl refl);
-    near = λ rate planned. within alone (command_near c rate h.past.call.command) (rate, planned, inr refl);
+  in_time config = subst (λ x. IsInTime x h.past.call.command (stepped_past now m h.past).span) (sym config) (λ lone. record {
+    far = λ rate planned. within (alone lone) (command_bound c rate h.past.call.command) (rate, planned, inl refl);
+    near = λ rate planned. within (alone lone) (command_near c rate h.past.call.command) (rate, planned, inr refl);
   })
 
 -- a turn of another thread
-pub timed_others : (c : Config) (r z : Run) (n m : ℕ) (hs : List Held) → n < m → AllTimed c r n hs → AllTimed c z m hs
-timed_others c r z n m [] low all = tt
-timed_others c r z n m (h ∷ hs) low all =
-    let t = all.0 in (
+pub timed_others : (c : Config) (t : ℕ) (r z : Run) (n m : ℕ) (hs : List Held) → t < c.threads → n < m → AllFit c r hs → threads_of t hs ≡ 0 → AllTimed c r n hs → AllTimed c z m hs
+timed_others c t r z n m [] tl low fit none all = tt
+timed_others c t r z n m (h ∷ hs) tl low fit none all =
+    let a = all.0 in (
       record {
-        own = t.own;
-        last = omega (arith, t.last, low);
-        ends = λ same nobody opened going b is. absurd (omega (arith, same, t.own, t.last, low));
+        own = a.own;
+        last = omega (arith, a.last, low);
+        single = λ one. absurd (apart_of t h hs none (omega (arith, one, tl, fit.0.0)));
+        ends = λ same nobody opened going b is. absurd (omega (arith, same, a.own, a.last, low));
       },
-      timed_others c r z n m hs low all.1,
+      timed_others c t r z n m hs tl low fit.1 (omega (arith, none)) all.1,
     )
 
 -- a command of another thread
@@ -104,6 +113,7 @@ module _ (c : Config) (t : ℕ) (k : Command) (tl : t < c.threads) (traces : Lis
         record {
           own = a.own;
           last = a.last;
+          single = a.single;
           ends = λ same nobody opened going b bound.
               (let e = a.ends same nobody opened going b bound in
               ends_grown h.local.thread ul (apart_of t h hs none) e.turns h.past.span.own b r kept e.few (sym (ap is_done at) ∙ going) e.done);
@@ -166,11 +176,20 @@ module _ (c : Config) (t : ℕ) (tl : t < c.threads) (r : Run) (by : IsAfterTurn
       at_bound (inr e) = subst (λ x. EndsWithin c t later x) (sym e) (subst (λ x. EndsWithin c t later (command_near c is.0 x)) command_is
           (near_ends c traces grown_by.after.job is.0 is.1 t tl later kept quiet has))
 
+  -- it is at rest, so nobody is inside where it is the only thread
+  quiet_alone : c.threads ≡ 1 → IsQuiet c r
+  quiet_alone one = all_done_quiet c by.traces r (kept_of c r by) (λ u ul.
+      let same : t ≡ u = omega (arith, one, tl, ul) in
+      subst (λ v. is_done (local_in c r v) ≡ true) same (sym (ap is_done at) ∙ done))
+
   -- where the step that announced it found this phase word
   pub timed_given : (h : Held) → h.local ≡ l → (phase : ℕ) → phase ≡ get_or r.state.words 0 0 → (now : List Moment) (n : ℕ) (ns : List (List Moment)) → IsTimed c later n (held (given k l) (given_past k phase now n ns h))
   timed_given h is phase read now n ns = record {
     own = omega arith;
     last = omega arith;
+    single = λ one.
+        (let q = quiet_alone one in
+        record { nobody = ap inside_of read ∙ q.nobody; opened = ap is_closed read ∙ q.opened; own = omega arith });
     ends = λ same nobody opened going b bound. subst (λ u. EndsBy c u later 0 b) (sym named) (ends_given (record {
       nobody = sym (ap inside_of read) ∙ nobody;
       opened = sym (ap is_closed read) ∙ opened;

@@ -38,9 +38,9 @@ start_pending w k = record {
   events = 0;
 }
 
--- The worker's code has made at most so many events of the command, and no others, which led to
+-- The worker's thread has made at most so many events of the command, and no others, which led to
 -- this thread. There are fewer only where the command is done or the last event waited for another
--- thread.
+-- thread. `HasDrivenIn` excludes other operations, of the loop that makes the events.
 pub record MadeMore (old : PendingState) (most : ℕ) (thread : LocalState) (events : ℕ) : Type 0
   where
     pub words : List ℕ

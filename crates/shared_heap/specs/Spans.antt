@@ -23,9 +23,13 @@ pub record AreWithin (c : Config) (k : Command) (n : ℕ) : Type 0 where
   pub far : (rate : ℕ) → IsRate c rate → n ≤ command_bound c rate k
   pub near : (rate : ℕ) → IsRate c rate → n ≤ command_near c rate k
 
--- If the worker was alone, its command has taken at most so many turns.
+-- the worker was alone, or its heap has no other
+abbrev pub HasNoRival : Config → Span → Type 0
+HasNoRival c s = IsAlone s ⊎ (c.threads ≡ 1)
+
+-- If the worker had no rival, its command has taken at most so many turns.
 abbrev pub IsInTime : Config → Command → Span → Type 0
-IsInTime c k s = IsAlone s → AreWithin c k s.own
+IsInTime c k s = HasNoRival c s → AreWithin c k s.own
 
 -- ---- within the rule
 
@@ -41,10 +45,11 @@ pub record EndsBy (c : Config) (t : ℕ) (r : Run) (own bound : ℕ) : Type 0 wh
   pub done : is_done (local_in c (after_alone c t r turns) t) ≡ true
 
 -- A run of so many turns has a thread whose seat counts them. If the thread is alone and not done,
--- it ends within what is left of its bounds.
+-- it ends within what is left of its bounds. The only thread of a configuration is alone.
 pub record IsTimed (c : Config) (r : Run) (turns : ℕ) (h : Held) : Type 0 where
   pub own : h.past.span.first + h.past.span.own ≤ h.past.span.last
   pub last : h.past.span.last ≤ turns
+  pub single : c.threads ≡ 1 → IsAlone (record h.past.span { last = turns })
   pub ends : turns ≡ h.past.span.first + h.past.span.own → inside_of h.past.span.phase ≡ 0
       → is_closed h.past.span.phase ≡ false → is_done h.local ≡ false → (b : ℕ)
       → IsBound c h.past.call.command b → EndsBy c h.local.thread r h.past.span.own b

@@ -1,5 +1,5 @@
 -- Stamps: numbers that workers compare, to know which of them has seen more of a heap's timeline.
-use Rattle.std.specs.Prelude.{ℕ, ◌≡◌, ◌++◌, List, [], ◌∷◌}
+use Rattle.std.specs.Prelude.{ℕ, ◌≤◌, ◌≡◌, ◌↔◌, ◌++◌, Bool, IsTrue, List, [], ◌∷◌}
 use Rattle.shared_heap.specs.declared.rules.Moment.{Moment}
 use Rattle.shared_heap.specs.declared.rules.Moment.TheVariants as moments
 use Rattle.shared_heap.specs.Shared.{IsCountUnlessWrapped, IsStartOf, stamps_in}
@@ -18,3 +18,10 @@ pub record HasDrawn (old : WorkerState) (n : ℕ) (new : WorkerState) : Type 0 w
   pub before : IsStartOf old.timeline past
   pub counts : IsCountUnlessWrapped n (stamps_in past)
   pub sound : HasSeenIts new
+
+-- The worker drew a stamp of its own, and the answer is whether that is no less than this number.
+pub record HasFollowed (old : WorkerState) (n : ℕ) (reached : Bool) (new : WorkerState) : Type 0
+  where
+    pub own : ℕ
+    pub drawn : HasDrawn old own new
+    pub told : IsTrue reached ↔ n ≤ own

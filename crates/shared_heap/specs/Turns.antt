@@ -23,7 +23,8 @@ LastWaited l (w ∷ v ∷ ws) = LastWaited (local_got l w) (v ∷ ws)
 abbrev pub GoesFar : ℕ → LocalState → List ℕ → LocalState → Type 0
 GoesFar most l ws k = is_done k ≡ false → length ws < most → LastWaited l ws
 
--- A memory made at most so many events of a thread one after the other, and no other operation.
+-- A memory made at most so many events of a thread one after the other. A body of which this is
+-- proved for any memory makes no other operation, since one more might change the memory.
 pub record HasDrivenIn {M S : Type 0} (most : ℕ) (acts : Acts M S) (s : S) (before : M)
     (old : LocalState) (after : M) (new : LocalState) : Type 0 where
   pub words : List ℕ

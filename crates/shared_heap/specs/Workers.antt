@@ -160,8 +160,9 @@ pub record HasAnswered (old : WorkerState) (k : Command) (a : Reply) (new : Work
     pub started : start ≡ history_of past
     pub sound : HasSeenIts new
 
--- The worker's code has made the events of a command and no others: an event of its thread by each
--- of these words, from the command on to its end.
+-- The worker's thread has made the events of a command and no others: one by each of these words,
+-- from the command on to its end. An operation that is no event of it, such as a `peek`, this does
+-- not exclude; `HasDriven` of `atom_board` does, of the loop that makes the events.
 pub record HasMade (old : WorkerState) (k : Command) (new : WorkerState) : Type 0 where
   pub words : List ℕ
   pub made : MadeTurns (given k old.thread) words new.thread

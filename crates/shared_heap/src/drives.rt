@@ -27,8 +27,10 @@ fn one_event<C: ThreadMemory>(memory: &mut C, shared: &C::Shared, local: &mut Lo
     local.event(memory, shared)
 }
 
-// Makes at most so many events of a thread, up to the end of its command or the first that waits.
-pub(crate) fn drives_some<C: ThreadMemory>(
+/// Makes at most so many events of a thread, up to the end of its command or the first that waits.
+/// Of the memory it makes the operations of these events, and no other: this code has no other way
+/// to the words.
+pub fn drives_some<C: ThreadMemory>(
     memory: &mut C,
     shared: &C::Shared,
     local: &mut Local,

@@ -10,7 +10,7 @@ ghost use Rattle.shared_heap.specs.Shared.{first_held};
 ghost use Rattle.shared_heap.specs.Pending.{HasAnnounced, MayAnnounce};
 ghost use Rattle.shared_heap.specs.Workers.{HeapState, WorkerState, CanOpen, AreInOrder, AreEachOnce, AreAmong, AreSome, HasWorker, AreFresh, HasLeft, HasAnswered, HasMade, IsSame, HaveHistoryOfSome, HaveOneHistory, IsDealt, KnowsAll, AreOnes, WasClosedWith, start_worker};
 ghost use Rattle.shared_heap.specs.Spans.{IsInTime};
-ghost use Rattle.shared_heap.specs.Stamps.{HasDrawn};
+ghost use Rattle.shared_heap.specs.Stamps.{HasDrawn, HasFollowed};
 ghost use Rattle.shared_heap.specs.Refusals.{IsOpenFault, IsRefused};
 
 use crate::note::Note;
@@ -281,10 +281,14 @@ impl SharedHeap {
     ///
     /// Other threads may use other workers meanwhile. The call may wait for them at the gate and at
     /// a free list, and it retries where another thread changed a word first. On the shared words
-    /// its code makes one operation that announces the command and changes nothing, the operations
-    /// of the command's events, and no others. If nobody was inside and the gate was open when the
-    /// command was announced, and no other worker had a turn from then to its last event, it took
-    /// at most the turns of a thread that runs alone (`in_time`).
+    /// one operation announces the command and changes nothing; then each event is one operation.
+    /// The worker's thread makes the command's events and no others (`made`). The loop that makes
+    /// them has no other operation (`atom_board::drives`); the lines around it are listed in
+    /// `tools/steps`.
+    ///
+    /// Where the heap has one worker, the command took at most the turns of a thread that runs
+    /// alone (`in_time`). So it did where nobody was inside and the gate was open when it was
+    /// announced, and no other worker had a turn from then to its last event.
     pub fn request<R: Wait>(&self, rt: &R, who: &mut Worker, command: Command) -> Reply
         requires heap { who.old.heap ≡ self.now.id }
         requires bounds { IsCommandInBounds who.old.thread.config command }
@@ -363,6 +367,18 @@ impl SharedHeap {
         self.table
             .shared
             .fetch_add::<Drawn>(&mut who.port.seat, place, 1)
+    }
+
+    /// Gives a worker of this heap a stamp of another, and returns whether it has now seen all that
+    /// that one had seen at its stamp: it draws a stamp of its own, which is then no less
+    /// (`stamps_are_in_order`). That is so wherever this call began after the other `stamp`
+    /// returned, unless 2^64 were drawn.
+    pub fn follow(&self, who: &mut Worker, stamp: u64) -> bool
+        requires { who.old.heap ≡ self.now.id }
+        ensures { HasFollowed who.old stamp result who.new }
+    {
+        let own = self.stamp(who);
+        stamp <= own
     }
 
     /// Closes the heap. It takes all of its workers, each once, in any order. One history has all

@@ -14,6 +14,7 @@ mod rules;
 mod worker;
 
 pub use control_heap::{Fault, Refused};
+pub use drives::drives_some;
 pub use heap::{OpenFault, SharedHeap};
 pub use laws::{
     commands_alone_end_in_time, commands_keep_real_time, commands_stand_behind_what_was_seen,

@@ -98,9 +98,10 @@ impl SharedHeap {
     }
 
     /// Makes at most `most` events of a pending command, and never waits. Each event is one
-    /// operation on one of the shared words, and the code makes no others. If the command is then
-    /// done, it returns the worker with the reply, as `request` does, and the bound of a command
-    /// that was alone holds as there (`in_time`).
+    /// operation on one of the shared words, and the loop that makes them has no others
+    /// (`drives_some`). If the command is then done, it returns the worker with the reply, as
+    /// `request` does, and the bound of a command that was alone, or of a heap with one worker,
+    /// holds as there (`in_time`).
     ///
     /// # Errors
     ///

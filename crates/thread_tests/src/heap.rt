@@ -5,8 +5,8 @@ ghost use Rattle.std.specs.Prelude.{◌≡◌, IfOk};
 ghost use Rattle.shared_heap.specs.Workers.{AreEachOnce, AreInOrder, IsSame};
 
 use crate::slim::heap::{
-    Seat, Told, ask, asked, close, close_swapped, close_with_one, fault_of, heap_of, objects_left,
-    open, pass_note, stamps, two_of,
+    Seat, Told, ask, ask_alone, asked, close, close_swapped, close_with_one, fault_of, follow, heap_of,
+    objects_left, open, open_one, pass_note, stamps, two_of,
 };
 use block_store::{Config, Name, OutOfMemory, Value};
 use never_heap::{Command, Reply};
@@ -317,8 +317,22 @@ fn stamps_grow_and_a_worker_is_lost(rt: HostRuntime) -> Result<(), OutOfMemory> 
     let mut reader = second;
     let read = reads_behind(&rt, &heap, &mut writer, &mut reader);
     assert_eq!(rt; read, (0, 1, true));
+    assert!(rt; follow(&heap, &mut reader, 1));
+    assert!(rt; !follow(&heap, &mut reader, 9));
     assert_eq!(rt; close_with_one(rt.alloc(), heap, reader)?, 1);
     Ok(())
+}
+
+// The one worker of a heap has a bound by clause.
+#[test]
+fn a_lone_worker_is_bounded(rt: HostRuntime) {
+    let Ok((heap, first)) = open_one(rt.alloc()) else {
+        assert!(rt; false, "it opens");
+        return;
+    };
+    let mut who = first;
+    let idle = ask_alone(&rt, &heap, &mut who, Command::Idle { units: 10 });
+    assert_eq!(rt; idle, Ok(Reply::Idle));
 }
 
 // It opens, or memory is refused: `rt try --test --fail-alloc N` runs it with the Nth allocation

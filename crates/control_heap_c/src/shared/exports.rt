@@ -1,13 +1,18 @@
 //! The calls for a program in C whose threads share a heap. None of them waits. A call that is
 //! refused changes nothing, and its status gives the cause.
 
-ghost use Rattle.std.specs.Prelude.{◌≡◌};
+ghost use Rattle.std.specs.Prelude.{◌≡◌, ℕ, Option};
+ghost use Rattle.control_heap_c.specs.declared.owned.Owned.{Owned};
 ghost use Rattle.control_heap_c.specs.Outcomes.{width_of};
+ghost use Rattle.control_heap_c.specs.Closings.{Finished, IsOfGroup, Returned};
 ghost use Rattle.control_heap_c.specs.Groups.{Attached, IsGroupShut, OpenedGroup, shared_config};
 ghost use Rattle.control_heap_c.specs.Shared.{IsShut, Polled, Started, command_in, worker_at, worker_counts};
+ghost use Rattle.control_heap_c.specs.Stamps.{Followed, HasCaughtUp, Stamped};
 
+use super::closing::{finish, finish_told, give_back, return_told};
 use super::coded::command_in;
 use super::group::{attach, attach_told, close as close_group, group_told, open};
+use super::stamps::{draw, follow, follow_told, stamp_told};
 use super::worker::{close, counts, poll, poll_told, start, start_told};
 use crate::answer::Answer;
 use crate::handle::Handle;
@@ -54,6 +59,35 @@ pub extern "C" fn rtheap_group_raw_close(alloc: Global, group: &mut Handle) -> u
     close_group(alloc, group)
 }
 
+/// Gives the worker of a handle back to the group that it was attached from, and closes the handle,
+/// unless the worker's command is not done.
+#[unsafe(no_mangle)]
+pub extern "C" fn rtheap_group_raw_return(
+    alloc: Global,
+    group: &mut Handle,
+    worker: &mut Handle,
+) -> u32
+    requires { IsOfGroup group.old.link.value worker.old.link.value }
+    ensures { Returned group.old.link.value worker.old.link.value result group.new.link.value
+        worker.new.link.value }
+{
+    return_told(give_back(alloc, group, worker))
+}
+
+/// Closes the heap of a group with the workers that the group has, if no other handle has one. One
+/// history has all commands that these workers executed, with their replies, and keeps real time.
+/// Writes how many cycles of collection were started.
+#[unsafe(no_mangle)]
+pub extern "C" fn rtheap_group_raw_finish(
+    alloc: Global,
+    group: &mut Handle,
+    cycles: &mut u64,
+) -> u32
+    ensures { Finished group.old.link.value group.new.link.value cycles.old cycles.new result }
+{
+    finish_told(finish(alloc, group), cycles)
+}
+
 /// Starts the command of these numbers, and makes none of its events.
 #[unsafe(no_mangle)]
 pub extern "C" fn rtheap_worker_raw_start(
@@ -84,6 +118,35 @@ pub extern "C" fn rtheap_worker_raw_poll(
 {
     let outcome = poll(alloc, worker, most);
     poll_told(outcome, out)
+}
+
+/// Draws a stamp for a worker, and writes it.
+#[unsafe(no_mangle)]
+pub extern "C" fn rtheap_worker_raw_stamp(
+    alloc: Global,
+    worker: &mut Handle,
+    stamp: &mut u64,
+) -> u32
+    ensures { Stamped worker.old.link.value worker.new.link.value stamp.old stamp.new result }
+{
+    stamp_told(draw(alloc, worker), stamp)
+}
+
+/// Gives a stamp of another worker to a worker, which draws one of its own. Returns 0 if that is no
+/// less, and 21 if it is less. With 0 the worker has seen all that the other had seen when it drew
+/// the stamp, or 2^64 stamps were drawn. So what is started from then on comes after all of this
+/// (`shared_heap::commands_keep_real_time`).
+#[unsafe(no_mangle)]
+pub extern "C" fn rtheap_worker_raw_follow(
+    alloc: Global,
+    worker: &mut Handle,
+    stamp: u64,
+) -> u32
+    ensures told { Followed stamp worker.old.link.value worker.new.link.value result }
+    ensures order { (before : ℕ) (g h : Option Owned) → Stamped g h before stamp 0 → result ≡ 0
+        → HasCaughtUp h worker.new.link.value }
+{
+    follow_told(follow(alloc, worker, stamp))
 }
 
 /// Closes the handle of a worker, unless its command is not done.

@@ -1,6 +1,7 @@
 //! Calls of `shared_heap`.
 
-ghost use Rattle.std.specs.Prelude.{◌≡◌, ◌<◌, ◌∷◌, length, IfOk};
+ghost use Rattle.std.specs.Prelude.{◌≡◌, ◌<◌, ◌∷◌, length, IfOk, OnOk};
+ghost use Rattle.shared_heap.specs.Spans.{AreWithin};
 ghost use Rattle.shared_heap.specs.Workers.{AreEachOnce, AreInOrder, IsSame, IsWorkerOf};
 
 use block_store::{Config, Name, OutOfMemory, Value, Width};
@@ -76,6 +77,41 @@ pub fn stamps(heap: &SharedHeap, first: &mut Worker, second: &mut Worker) -> (u6
     ensures second { second.new.heap ≡ heap.now.id }
 {
     (heap.stamp(first), heap.stamp(second))
+}
+
+// Gives a worker a stamp.
+#[tactic(auto, using(shared_heap::proofs::Stamps::followed_same))]
+pub fn follow(heap: &SharedHeap, who: &mut Worker, stamp: u64) -> bool
+    requires { who.old.heap ≡ heap.now.id }
+    ensures { who.new.heap ≡ heap.now.id }
+{
+    heap.follow(who, stamp)
+}
+
+// Opens a heap with one worker.
+pub fn open_one(alloc: Global) -> Result<(SharedHeap, Worker), OpenFault>
+    ensures own { IfOk result (λ r. r.1.heap ≡ r.0.id) }
+    ensures single { IfOk result (λ r. r.1.thread.config.threads ≡ 1) }
+{
+    let (heap, workers) = SharedHeap::open(alloc, heap_of(1))?;
+    let (first, _none) = first_and_rest(workers);
+    Ok((heap, first))
+}
+
+// Executes a command of a heap with one worker, in at most the turns of a thread that runs alone.
+#[tactic(auto, using(crate::proofs::Crews::lone_turns))]
+pub fn ask_alone<R: Wait>(
+    rt: &R,
+    heap: &SharedHeap,
+    who: &mut Worker,
+    command: Command,
+) -> Result<Reply, Refused>
+    requires own { who.old.heap ≡ heap.now.id }
+    requires single { who.old.thread.config.threads ≡ 1 }
+    ensures same { IsSame who.old who.new }
+    ensures few { OnOk result (AreWithin who.old.thread.config command who.new.span.own) }
+{
+    heap.ask(rt, who, command)
 }
 
 // The first of the workers, and the others.

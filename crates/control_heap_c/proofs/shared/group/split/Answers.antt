@@ -3,7 +3,7 @@ use Rattle.std.specs.Prelude.{Some}
 use Rattle.shared_heap.specs.Workers.{HeapState}
 use Rattle.control_heap_c.specs.declared.owned.Owned.{Owned}
 use Rattle.control_heap_c.specs.Shared.{worker_at}
-use Rattle.control_heap_c.proofs.Handing.{first_of, others_of}
+use Rattle.control_heap_c.proofs.Handing.{first_of, others_of, same_home}
 use Rattle.control_heap_c.proofs.shared.group.split.Goals as goal
 
 pub invariant_of-replace : goal.invariant_of-replace
@@ -22,4 +22,6 @@ returns-clause-first c = record {
   is_first = ap (λ (x : Owned). worker_at (Some x)) c.replace.ensures.after;
   before = ap Some (sym c.first_and_rest-worker.ensures);
   after = refl;
+  home = refl;
+  own = λ s at. first_of _ _ _ _ c.first_and_rest-worker.ensures c.args.group.own ∙ same_home _ s at;
 }
