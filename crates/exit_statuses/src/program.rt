@@ -24,8 +24,8 @@ pub struct Program<'a> {
 
 impl Program<'_> {
     /// Answers a question about the program, or else makes the top call with the words after the
-    /// program's name and a sink over the output. The call returns its status, or an error if
-    /// memory ran out before anything was written, which is then told here.
+    /// program's name and a sink over the output. The call returns the status, or an error if
+    /// memory ran out before it wrote anything: then the line of that refusal is written here.
     pub fn run<R: Env + AllocGlobal, W: Write + Drop, F>(
         self,
         rt: &R,
