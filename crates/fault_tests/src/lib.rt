@@ -1,5 +1,5 @@
 //! Tests whose streams fail, or whose clocks are their own: of `historian_core`, `saved_heap`,
-//! `rt_mail`, `timed_runs` and `timed_runs`.
+//! `rt_mail` and `timed_runs`.
 #![tactic(auto)]
 
 #[cfg(test)]

@@ -1,5 +1,5 @@
-//! Tests of what stands on the model alone: graphs of `never_heap`, histories by `test_kit`,
-//! orders before `rt_check`, and what jobs need before `rt_check`.
+//! Tests of crates without a machine: graphs of `never_heap`, histories by `test_kit`, texts of
+//! `trace_text`, orders and needs by `rt_check`.
 #![tactic(auto)]
 
 #[cfg(test)]
