@@ -13,7 +13,7 @@
        rtheap_worker worker = RTHEAP_WORKER_CLOSED;    one for each thread
        status = rtheap_group_open(&group, 2, 4, 512, 128, 1, 80);
        status = rtheap_group_attach(&group, &worker);  the first time: the worker of thread 0
-       status = rtheap_worker_ask(&worker, rtheap_cmd_new(1, 2), pause, NULL);
+       status = rtheap_worker_ask(&worker, rtheap_cmd_new(1, 2), let_others_run, NULL);
 
    The replies of all workers are those of one order of all commands. In it each worker's commands
    have the order in which it was given them, and a command whose reply was returned comes before

@@ -15,9 +15,12 @@ these for a promise.
 **What is listed.** The clauses of a promised call, all that it requires, its parameters' types and
 the traits that bound them; then whatever a listed definition cites: a trait with its supertraits, a
 constant with its value's macros, a type with its ghost fields. A record that makes a claim is read
-whole, or the fields that a promise names ("read in part"); of a record of values only the fields
-that a listed definition reads; of a type with a model the line that names it. Lines are of
-code; new are those that no promise above has."""
+whole, or the fields that a promise names ("read in part"). Of a record that only holds values, the
+fields that a listed definition reads are listed; of a type with a model, only the line that names
+the model.
+
+*Lines* are lines of what is listed, without comments and imports; *New* counts those that no row
+above has."""
 
 
 def lines_of(beliefs):

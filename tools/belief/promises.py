@@ -36,8 +36,8 @@ entry k of a thread has its unit turns there while its log has k entries.""",
             {**PRINTED, "HasHistory": "is_rate is_run same parts_logged",
              "IsRun": "legal traces_whole right_work", "IsFinished": "each"}),
     Promise("full", "Licensed `full`", """
-`full c` names the previous cycle, or cycle 1 in the first, which began with more live blocks than
-the job's limit. If no cycle did, no entry is `full`.""",
+`full c` names the previous cycle (by its definition cycle 1 in the first, but none comes there),
+which began with more live blocks than the job's limit. If no cycle did, no entry is `full`.""",
             ["rtheap_core::rtheap.done", "rtheap_core::rtheap.never_full"],
             {**PRINTED, "HasHistory": "is_run", "IsRun": "legal traces_whole licensed"}),
     Promise("bound", "Bound of a lone thread", """
