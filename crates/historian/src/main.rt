@@ -11,7 +11,7 @@ use historian_core::{report_with_status, start};
 use std::alloc::AllocError;
 use std::io::BufReader;
 use std::process::ExitCode;
-use trace_text::{StdSource, put_line};
+use trace_text::{Sink, StdSource, put_line};
 
 /// The exit status of arguments, of which there may be none.
 const USAGE: u8 = 2;
@@ -22,13 +22,24 @@ fn main(rt: HostRuntime) -> ExitCode {
         help: HELP,
         version: VERSION,
     };
-    program.run(&rt, rt.stdout(), |words, sink| {
-        if !words.is_empty() {
-            return Ok(put_line(b"historian: usage\n", USAGE, sink));
-        }
-        let input = BufReader::new(rt.alloc(), rt.stdin()).map_err(|_| AllocError)?;
-        let mut source = StdSource::new(input);
-        let mut heap = start(rt.alloc()).map_err(|_| AllocError)?;
-        Ok(report_with_status(&mut heap, &mut source, sink))
-    })
+    program.run(
+        &rt,
+        rt.stdout(),
+        |words, sink| report_readings(&rt, words, sink),
+    )
+}
+
+/// Reports the readings from standard input, and returns the exit status.
+fn report_readings<K: Sink>(
+    rt: &HostRuntime,
+    words: &[String],
+    sink: &mut K,
+) -> Result<u8, AllocError> {
+    if !words.is_empty() {
+        return Ok(put_line(b"historian: usage\n", USAGE, sink));
+    }
+    let input = BufReader::new(rt.alloc(), rt.stdin()).map_err(|_| AllocError)?;
+    let mut source = StdSource::new(input);
+    let mut heap = start(rt.alloc()).map_err(|_| AllocError)?;
+    Ok(report_with_status(&mut heap, &mut source, sink))
 }

@@ -10,7 +10,10 @@ use plantrun_core::plant_with_status;
 use std::alloc::AllocError;
 use std::io::BufReader;
 use std::process::ExitCode;
-use trace_text::StdSource;
+use std::sync::Wait;
+use std::thread::Threads;
+use std::time::Clock;
+use trace_text::{Sink, StdSource};
 
 fn main(rt: HostRuntime) -> ExitCode {
     let program = Program {
@@ -18,9 +21,22 @@ fn main(rt: HostRuntime) -> ExitCode {
         help: HELP,
         version: VERSION,
     };
-    program.run_buffered(&rt, rt.stdout(), |words, sink| {
-        let input = BufReader::new(rt.alloc(), rt.stdin()).map_err(|_| AllocError)?;
-        let mut source = StdSource::new(input);
-        Ok(plant_with_status(&rt, rt.alloc(), words, &mut source, sink).status)
-    })
+    program.run_buffered(
+        &rt,
+        rt.stdout(),
+        |words, sink| run_plant(&rt, &rt, words, sink),
+    )
+}
+
+/// Runs a plant, and returns the exit status. The second handle is the same runtime, by which the
+/// plant starts threads, waits and reads the clock.
+fn run_plant<T: Threads + Wait + Clock + Sync, K: Sink>(
+    rt: &HostRuntime,
+    threads: &T,
+    words: &[String],
+    sink: &mut K,
+) -> Result<u8, AllocError> {
+    let input = BufReader::new(rt.alloc(), rt.stdin()).map_err(|_| AllocError)?;
+    let mut source = StdSource::new(input);
+    Ok(plant_with_status(threads, rt.alloc(), words, &mut source, sink).status)
 }

@@ -18,7 +18,9 @@ fn main(rt: HostRuntime) -> ExitCode {
     };
     program.run_buffered(&rt, rt.stdout(), |words, sink| {
         let mut source = StdSource::new(rt.stdin());
-        let ended = timed(&rt, &rt, rt.alloc(), words, &mut source, sink);
-        Ok(ended.map_err(|_| AllocError)?.status)
+        match timed(&rt, &rt, rt.alloc(), words, &mut source, sink) {
+            Ok(ended) => Ok(ended.status),
+            Err(_) => Err(AllocError),
+        }
     })
 }
