@@ -17,7 +17,7 @@ use Rattle.array_scripts.specs.declared.script.Fault.{Fault}
 use Rattle.array_scripts.specs.declared.script.Fault.TheVariants.{BadLine, OutOfMemory}
 use Rattle.array_scripts.specs.Kinds.{Kind, language, IsHeader, Fits, IsScriptOf}
 use Rattle.array_scripts.specs.Parts.{Blames, IsFirstBad, refusal_of}
-use Rattle.array_scripts.specs.Scripts.{HasRoom, HasNoRoom, IsFine, Causes, IsCause, IsReadAs}
+use Rattle.array_scripts.specs.JobsOfScripts.{HasRoom, HasNoRoom, IsFine, Causes, IsCause, IsReadAs}
 
 module _ {Op : Type 0} (kind : Kind Op) (reads : Reads (language kind) (IsHeader kind) (Fits kind))
   where

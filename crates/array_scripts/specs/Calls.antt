@@ -5,7 +5,7 @@ use Rattle.exit_statuses.specs.Refusals.{AreNone}
 use Rattle.exit_statuses.specs.Sides.{Sides}
 use Rattle.trace_text.specs.Jobs.{input_limit}
 use Rattle.array_scripts.specs.Kinds.{Kind}
-use Rattle.array_scripts.specs.Scripts.{Causes, IsFine}
+use Rattle.array_scripts.specs.JobsOfScripts.{Causes, IsFine}
 
 -- what a call was given, and what it answered
 abbrev pub exit_of : List (List ℕ) → Sides → Sides → ℕ → ℕ → Exit

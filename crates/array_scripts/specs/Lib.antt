@@ -1,7 +1,7 @@
 pub mod Kinds
 pub mod Said
 pub mod Parts
-pub mod Scripts
+pub mod JobsOfScripts
 pub mod Answers
 pub mod Runnable
 pub mod Tellings

@@ -8,7 +8,7 @@ ghost use Rattle.rate_plan.specs.Rates.{IsAdmitted};
 ghost use Rattle.array_scripts.specs.Answers.{traces_in, answers_in};
 ghost use Rattle.array_scripts.specs.Kinds.{IsHeader, AreOfThread};
 ghost use Rattle.array_scripts.specs.Runnable.{IsRunnable};
-ghost use Rattle.array_scripts.specs.Scripts.{HasRoom, HasNoRoom};
+ghost use Rattle.array_scripts.specs.JobsOfScripts.{HasRoom, HasNoRoom};
 
 use crate::header::Header;
 use crate::runnable::Runnable;

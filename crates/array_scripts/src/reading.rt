@@ -4,7 +4,7 @@ ghost use Rattle.std.specs.Prelude.{◌≡◌, map, [], IfOk, IfErr, OnOk};
 ghost use Rattle.exit_statuses.specs.Sides.{sides};
 ghost use Rattle.array_scripts.specs.scripts.Scripts.{Reads};
 ghost use Rattle.array_scripts.specs.Kinds.{language, IsHeader, Fits};
-ghost use Rattle.array_scripts.specs.Scripts.{IsReadAs, IsCause};
+ghost use Rattle.array_scripts.specs.JobsOfScripts.{IsReadAs, IsCause};
 
 use crate::header::Header;
 use crate::kinds::Scripted;

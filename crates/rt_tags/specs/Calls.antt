@@ -2,7 +2,7 @@
 use Rattle.std.specs.Prelude.{ℕ, ◌≡◌, List, codes}
 use Rattle.array_scripts.specs.declared.header.Header.{Header}
 use Rattle.array_scripts.specs.Calls as calls
-use Rattle.array_scripts.specs.Scripts.{HasRoom, IsReadAs}
+use Rattle.array_scripts.specs.JobsOfScripts.{HasRoom, IsReadAs}
 use Rattle.array_scripts.specs.Tellings.{lines_from}
 use Rattle.atom_board.specs.Mutators.{ClosedState}
 use Rattle.exit_statuses.specs.Exits.{IsWritten}

@@ -4,7 +4,7 @@ use Rattle.array_scripts.specs.declared.header.Header.{Header}
 use Rattle.array_scripts.specs.Answers.{traces_in, answers_in}
 use Rattle.array_scripts.specs.Calls as calls
 use Rattle.array_scripts.specs.Kinds.{Kind}
-use Rattle.array_scripts.specs.Scripts.{HasRoom, IsReadAs}
+use Rattle.array_scripts.specs.JobsOfScripts.{HasRoom, IsReadAs}
 use Rattle.array_scripts.specs.Tellings.{lines_from}
 use Rattle.atom_board.specs.Mutators.{ClosedState}
 use Rattle.block_store.specs.declared.Config.{Config}

@@ -4,7 +4,7 @@ ghost use Rattle.std.specs.Prelude.{◌≡◌, ℕ, map, [], slice_index_or, IfO
 ghost use Rattle.array_scripts.specs.Answers.{traces_in, answers_in};
 ghost use Rattle.array_scripts.specs.Kinds.{AreOfThread};
 ghost use Rattle.array_scripts.specs.Runnable.{IsRunnable};
-ghost use Rattle.array_scripts.specs.Scripts.{IsCause};
+ghost use Rattle.array_scripts.specs.JobsOfScripts.{IsCause};
 ghost use Rattle.exit_statuses.specs.Sides.{sides};
 ghost use Rattle.never_heap.specs.Jobs.{IsJobInBounds};
 ghost use Rattle.rate_plan.specs.Rates.{IsAdmitted};

@@ -2,7 +2,7 @@
 
 ghost use Rattle.std.specs.Prelude.{◌≡◌, ◌≤◌, [], map, length, string_bytes, IfOk, IfErr, OnOk};
 ghost use Rattle.array_scripts.specs.Runnable.{IsRunnable};
-ghost use Rattle.array_scripts.specs.Scripts.{IsCause};
+ghost use Rattle.array_scripts.specs.JobsOfScripts.{IsCause};
 ghost use Rattle.exit_statuses.specs.Sides.{sides};
 ghost use Rattle.array_scripts.specs.script_runs.Runs.{HasAnswers, IsCarriedOut};
 

@@ -1,7 +1,7 @@
 use Rattle.std.proofs.Common.{arith, ◌≡◌, [], map, string_bytes, sym, subst, IfErr, List, ℕ}
 use Rattle.std.proofs.lemmas.Grind.{common_steps}
 use Rattle.exit_statuses.specs.Sides.{sides}
-use Rattle.array_scripts.specs.Scripts.{IsCause}
+use Rattle.array_scripts.specs.JobsOfScripts.{IsCause}
 use Rattle.array_scripts.proofs.script_runs.top.asked.Goals as goal
 
 pub returns-clause-refused : goal.returns-clause-refused
