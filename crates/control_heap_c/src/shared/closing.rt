@@ -55,11 +55,7 @@ pub fn give_back(
 }
 
 // The group takes a worker, or hands back what it was given.
-fn taken(
-    alloc: Global,
-    group: &mut Handle,
-    owned: Owned,
-) -> Result<(), (Owned, ReturnRefusal)>
+fn taken(alloc: Global, group: &mut Handle, owned: Owned) -> Result<(), (Owned, ReturnRefusal)>
     requires { IsOfGroup group.old.link.value (Some owned) }
     ensures done { OnOk result (HasTakenFrom group.old.link.value (Some owned)
         group.new.link.value) }
@@ -78,11 +74,7 @@ fn taken(
 }
 
 // A worker between two commands becomes the last of a handle's group.
-fn entered(
-    alloc: Global,
-    group: &mut Handle,
-    at: Resting,
-) -> Result<(), (Resting, ReturnRefusal)>
+fn entered(alloc: Global, group: &mut Handle, at: Resting) -> Result<(), (Resting, ReturnRefusal)>
     requires { IsOfGroup group.old.link.value (Some (owned.Resting at)) }
     ensures done { OnOk result (HasTaken group.old.link.value at.worker group.new.link.value) }
     ensures refused { IfErr result (λ e.
@@ -135,10 +127,7 @@ fn grown(group: Group, at: Resting) -> (Group, Result<(), (Resting, ReturnRefusa
                 heap: own,
                 worker: value,
             };
-            (
-                Group { heap, workers },
-                Err((at, ReturnRefusal::NoMemory)),
-            )
+            (Group { heap, workers }, Err((at, ReturnRefusal::NoMemory)))
         }
     }
 }

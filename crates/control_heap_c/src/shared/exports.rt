@@ -137,11 +137,7 @@ pub extern "C" fn rtheap_worker_raw_stamp(
 /// the stamp, or 2^64 stamps were drawn. So what is started from then on comes after all of this
 /// (`shared_heap::commands_keep_real_time`).
 #[unsafe(no_mangle)]
-pub extern "C" fn rtheap_worker_raw_follow(
-    alloc: Global,
-    worker: &mut Handle,
-    stamp: u64,
-) -> u32
+pub extern "C" fn rtheap_worker_raw_follow(alloc: Global, worker: &mut Handle, stamp: u64) -> u32
     ensures told { Followed stamp worker.old.link.value worker.new.link.value result }
     ensures order { (before : ℕ) (g h : Option Owned) → Stamped g h before stamp 0 → result ≡ 0
         → HasCaughtUp h worker.new.link.value }
