@@ -1,4 +1,4 @@
-pub mod live_rows
-pub mod live_tags
-pub mod live_handles
-pub mod live_rings
+pub mod rows
+pub mod tags
+pub mod handles
+pub mod rings

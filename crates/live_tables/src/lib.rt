@@ -2,7 +2,7 @@
 //! commands of a shared heap, and all operations have one order.
 #![tactic(auto)]
 
-pub mod live_handles;
-pub mod live_rings;
-pub mod live_rows;
-pub mod live_tags;
+pub mod handles;
+pub mod rings;
+pub mod rows;
+pub mod tags;

@@ -3,7 +3,7 @@
 ghost use Rattle.std.specs.Prelude.{◌≡◌, ◌<◌, ◌∷◌, ◌++◌, [], length, IfErr, IfOk, OnErr, OnOk};
 ghost use Rattle.std.specs.Vec.{vec_capacity};
 ghost use Rattle.array_tables.specs.tag_table.Tables.{IsOperationInRange};
-ghost use Rattle.live_tables.specs.live_tags.Live.{CanDo, HasDone, IsOf, IsRefused, IsSameWorker, places_of};
+ghost use Rattle.live_tables.specs.tags.Live.{CanDo, HasDone, IsOf, IsRefused, IsSameWorker, places_of};
 ghost use Rattle.plantrun_core.specs.Logs.{IsLog};
 ghost use Rattle.plantrun_core.specs.Refusals.{AreFitting, AreInRange, IsRefusedAfter};
 
@@ -11,7 +11,7 @@ use crate::calls::Done;
 use crate::clock::nanoseconds;
 use crate::telling::Figures;
 use array_tables::tag_table::Operation;
-use live_tables::live_tags::{LiveTags, Refused, TagWorker};
+use live_tables::tags::{LiveTags, Refused, TagWorker};
 use std::sync::Wait;
 use std::time::Clock;
 

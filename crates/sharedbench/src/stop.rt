@@ -15,9 +15,9 @@ pub enum Stop {
     /// The heap refused a command.
     Refused(Refused),
     /// The table of tags was not opened.
-    NoTable(live_tables::live_tags::OpenFault),
+    NoTable(live_tables::tags::OpenFault),
     /// The table refused an operation.
-    TableRefused(live_tables::live_tags::Refused),
+    TableRefused(live_tables::tags::Refused),
     WriteFault,
     NoMemory,
 }
@@ -29,7 +29,7 @@ impl Stop {
             Stop::NoJob(TraceFault::ReadFault) => 5,
             Stop::NoJob(TraceFault::OutOfMemory)
             | Stop::NoHeap(shared_heap::OpenFault::NoMemory)
-            | Stop::NoTable(live_tables::live_tags::OpenFault::NoMemory)
+            | Stop::NoTable(live_tables::tags::OpenFault::NoMemory)
             | Stop::NoMemory => 7,
             Stop::NoJob(_) => 3,
             Stop::WriteFault => 6,

@@ -1,12 +1,12 @@
 //! Times writes and reads of a table of tags that threads use beside each other. `bench/live_tags`
 //! runs it.
 
-ghost use Rattle.live_tables.specs.live_tags.Live.{IsOf};
+ghost use Rattle.live_tables.specs.tags.Live.{IsOf};
 
 use crate::slim::{nanoseconds, open_tags, push, read_tag, room, tell, write_tag};
 use crate::stop::Stop;
 use crate::task::Rounds;
-use live_tables::live_tags::{LiveTags, TagWorker};
+use live_tables::tags::{LiveTags, TagWorker};
 use std::alloc::Global;
 use std::sync::Wait;
 use std::thread;

@@ -1,11 +1,11 @@
 //! Threads that share one table: no pair is torn, and none is lost or returned twice.
 
 ghost use Rattle.std.specs.Prelude.{IfOk};
-ghost use Rattle.live_tables.specs.live_tags.Live.{AreInOrder, IsOf, IsSameWorker};
+ghost use Rattle.live_tables.specs.tags.Live.{AreInOrder, IsOf, IsSameWorker};
 
 use crate::slim::tags::{Seat, Tag, clear, close, fault_of, open, read, write};
 use block_store::OutOfMemory;
-use live_tables::live_tags::{LiveTags, OpenFault, Refused, TagWorker};
+use live_tables::tags::{LiveTags, OpenFault, Refused, TagWorker};
 use std::process::Abort;
 use std::sync::Wait;
 use std::sync::atomic::{AtomicU64, Ordering};
@@ -87,7 +87,7 @@ fn does<R: Wait>(rt: &R, table: &LiveTags, who: &mut TagWorker, sums: &Sums, tas
     }
 }
 
-#[tactic(auto, using(live_tables::proofs::live_tags::Crews::same_first, live_tables::proofs::live_tags::Crews::same_then, live_tables::proofs::live_tags::Crews::of_same))]
+#[tactic(auto, using(live_tables::proofs::tags::Crews::same_first, live_tables::proofs::tags::Crews::same_then, live_tables::proofs::tags::Crews::of_same))]
 fn uses<R: Wait>(rt: &R, table: &LiveTags, who: &mut TagWorker, sums: &Sums, round: u32)
     requires { IsOf table.now who.old }
     ensures { IsSameWorker who.old who.new }
@@ -100,7 +100,7 @@ fn uses<R: Wait>(rt: &R, table: &LiveTags, who: &mut TagWorker, sums: &Sums, rou
 }
 
 // Does a task in so many rounds.
-#[tactic(auto, using(live_tables::proofs::live_tags::Crews::same_first, live_tables::proofs::live_tags::Crews::same_then, live_tables::proofs::live_tags::Crews::of_same))]
+#[tactic(auto, using(live_tables::proofs::tags::Crews::same_first, live_tables::proofs::tags::Crews::same_then, live_tables::proofs::tags::Crews::of_same))]
 fn repeats<R: Wait>(
     rt: &R,
     table: &LiveTags,
@@ -118,7 +118,7 @@ fn repeats<R: Wait>(
 }
 
 // Lets each worker do a task in a thread of its own.
-#[tactic(auto, using(live_tables::proofs::live_tags::Crews::of_same))]
+#[tactic(auto, using(live_tables::proofs::tags::Crews::of_same))]
 fn all_do<R: Threads + Wait + Sync>(
     rt: &R,
     table: &LiveTags,

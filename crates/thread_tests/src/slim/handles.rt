@@ -1,10 +1,10 @@
 //! Calls of `live_tables`.
-#![tactic(auto, using(live_tables::proofs::live_handles::Crews::of_same))]
+#![tactic(auto, using(live_tables::proofs::handles::Crews::of_same))]
 
 ghost use Rattle.std.specs.Prelude.{IfOk};
-ghost use Rattle.live_tables.specs.live_handles.Live.{AreEachOnce, AreInOrder, IsOf, IsSameWorker};
+ghost use Rattle.live_tables.specs.handles.Live.{AreEachOnce, AreInOrder, IsOf, IsSameWorker};
 
-use live_tables::live_handles::{HandleWorker, LiveHandles, OpenFault, Refused};
+use live_tables::handles::{HandleWorker, LiveHandles, OpenFault, Refused};
 use std::alloc::Global;
 use std::marker::Model;
 use std::sync::Wait;
@@ -108,7 +108,7 @@ pub struct Seat<'t> {
 }
 
 impl<'t> Model for Seat<'t> {
-    ghost use Rattle.live_tables.specs.live_handles.Live.{IsOf, HandleWorkerState};
+    ghost use Rattle.live_tables.specs.handles.Live.{IsOf, HandleWorkerState};
 
     ghost Value = { HandleWorkerState };
 

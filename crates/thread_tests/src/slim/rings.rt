@@ -1,10 +1,10 @@
 //! Calls of `live_tables`.
-#![tactic(auto, using(live_tables::proofs::live_rings::Crews::of_same))]
+#![tactic(auto, using(live_tables::proofs::rings::Crews::of_same))]
 
 ghost use Rattle.std.specs.Prelude.{IfOk};
-ghost use Rattle.live_tables.specs.live_rings.Live.{AreEachOnce, AreInOrder, IsOf, IsSameWorker};
+ghost use Rattle.live_tables.specs.rings.Live.{AreEachOnce, AreInOrder, IsOf, IsSameWorker};
 
-use live_tables::live_rings::{LiveRings, OpenFault, Refused, RingWorker};
+use live_tables::rings::{LiveRings, OpenFault, Refused, RingWorker};
 use std::alloc::Global;
 use std::marker::Model;
 use std::sync::Wait;
@@ -61,7 +61,7 @@ pub struct Seat<'t> {
 }
 
 impl<'t> Model for Seat<'t> {
-    ghost use Rattle.live_tables.specs.live_rings.Live.{IsOf, RingWorkerState};
+    ghost use Rattle.live_tables.specs.rings.Live.{IsOf, RingWorkerState};
 
     ghost Value = { RingWorkerState };
 

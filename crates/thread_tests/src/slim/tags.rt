@@ -1,10 +1,10 @@
 //! Calls of `live_tables`.
-#![tactic(auto, using(live_tables::proofs::live_tags::Crews::of_same))]
+#![tactic(auto, using(live_tables::proofs::tags::Crews::of_same))]
 
 ghost use Rattle.std.specs.Prelude.{IfOk};
-ghost use Rattle.live_tables.specs.live_tags.Live.{AreEachOnce, AreInOrder, IsOf, IsSameWorker};
+ghost use Rattle.live_tables.specs.tags.Live.{AreEachOnce, AreInOrder, IsOf, IsSameWorker};
 
-use live_tables::live_tags::{LiveTags, OpenFault, Refused, TagWorker};
+use live_tables::tags::{LiveTags, OpenFault, Refused, TagWorker};
 use std::alloc::Global;
 use std::marker::Model;
 use std::sync::Wait;
@@ -76,7 +76,7 @@ pub struct Seat<'t> {
 }
 
 impl<'t> Model for Seat<'t> {
-    ghost use Rattle.live_tables.specs.live_tags.Live.{IsOf, TagWorkerState};
+    ghost use Rattle.live_tables.specs.tags.Live.{IsOf, TagWorkerState};
 
     ghost Value = { TagWorkerState };
 

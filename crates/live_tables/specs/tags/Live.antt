@@ -1,0 +1,168 @@
+-- A table of tags that running threads share, and its workers, as contracts see them.
+use Rattle.std.specs.Prelude.{ℕ, ◌≤◌, ◌≡◌, ◌*◌, List}
+use Rattle.block_store.specs.declared.Config.{Config}
+use Rattle.never_heap.specs.declared.Command.{Command}
+use Rattle.never_heap.specs.Histories.{HistoryItem}
+use Rattle.array_tables.specs.operations.Linearizations.{Call}
+use Rattle.shared_heap.specs.declared.rules.Moment.{Moment}
+use Rattle.shared_heap.specs.Workers.{CanOpen, HeapState, WorkerState}
+use Rattle.array_tables.specs.declared.tag_table.operation.Operation.{Operation}
+use Rattle.array_tables.specs.declared.tag_table.operation.Operation.TheVariants.{Write}
+use Rattle.array_tables.specs.tag_table.Tables.{Tag, Row, rows_of, command_at, decides, ends, answer, table_after, empty_table, tag_config, AreInTable, IsOperationInRange}
+use Rattle.live_tables.specs.rows.Orders as orders
+use Rattle.live_tables.specs.rows.Rows as rows
+use Rattle.live_tables.specs.rows.Rows.{Rows}
+use Rattle.live_tables.specs.rows.Workers as workers
+use Rattle.live_tables.specs.rows.Workers.{RowWorkerState}
+use Rattle.live_tables.specs.declared.tags.table.Refused.{Refused}
+use Rattle.live_tables.specs.declared.tags.table.Refused.TheVariants.{OutOfRange, NoLifeLeft}
+use Rattle.live_tables.specs.declared.tags.table.OpenFault.{OpenFault}
+use Rattle.live_tables.specs.declared.tags.table.OpenFault.TheVariants as faults
+use Rattle.live_tables.specs.tags.Decoding.{operations_of}
+
+-- The table, its operations, and the commands that they are made of. Each thread may do any of
+-- them, and they can be read off any commands.
+abbrev pub tags : Rows Operation Row Tag (List Tag)
+tags = record {
+  rows_of = rows_of;
+  command_at = command_at;
+  decides = decides;
+  ends = ends;
+  say = answer;
+  act = table_after;
+  empty = empty_table;
+  config_of = tag_config;
+  AreDone = λ places t ops. AreInTable places ops;
+  CanBeNext = λ places t ops op. IsOperationInRange places op;
+  operations_of = λ t ks. operations_of ks;
+  AreRead = λ t ops. Unit {0};
+}
+
+-- A worker of a table: its worker of the heap, the operations that it did, and their answers. In
+-- memory it has only its last command.
+abbrev pub TagWorkerState : Type 0
+TagWorkerState = RowWorkerState Operation Tag
+
+-- its worker of the heap
+abbrev pub heap_worker : TagWorkerState → WorkerState
+heap_worker w = w.worker
+
+-- the thread of a worker
+abbrev pub thread_of : TagWorkerState → ℕ
+thread_of w = w.worker.thread.thread
+
+-- how many places its table has
+abbrev pub places_of : TagWorkerState → ℕ
+places_of w = w.worker.thread.config.shared
+
+-- the commands of operations
+abbrev pub commands_of : List Operation → List Command
+commands_of ops = rows.commands_of tags ops
+
+-- the heap of a table, of any number of blocks
+abbrev pub IsTagHeap : Config → Type 0
+IsTagHeap c = rows.IsRowHeap tags c
+
+-- a worker of the heap has executed the commands of operations on places of the table, and no
+-- others
+abbrev pub IsTagWorker : WorkerState → Type 0
+IsTagWorker w = workers.IsRowWorker tags w
+
+-- the value of a worker in contracts
+abbrev pub tag_worker : WorkerState → TagWorkerState
+tag_worker w = workers.row_worker tags w
+
+-- the heap of a table as it is opened
+abbrev pub opened_config : ℕ → ℕ → Config
+opened_config threads tags =
+    tag_config threads tags (4 * (tag_config threads tags 0).live)
+
+-- a worker is of this table
+abbrev pub IsOf : HeapState → TagWorkerState → Type 0
+IsOf t w = workers.IsOf t w
+
+-- the same worker, which has learned a note of this history
+abbrev pub has_learned : TagWorkerState → List HistoryItem → TagWorkerState
+has_learned w seen = workers.has_learned w seen
+
+-- these are all workers of this table, in thread order
+abbrev pub AreInOrder : HeapState → List TagWorkerState → Type 0
+AreInOrder t ws = workers.AreInOrder t ws
+
+-- one of these is of thread t
+abbrev pub HasWorker : ℕ → List TagWorkerState → Type 0
+HasWorker t ws = workers.HasWorker t ws
+
+-- these are all workers of this table, each once, in any order
+abbrev pub AreEachOnce : HeapState → List TagWorkerState → Type 0
+AreEachOnce t ws = workers.AreEachOnce t ws
+
+-- it has done no operation
+abbrev pub IsFresh : TagWorkerState → Type 0
+IsFresh w = workers.IsFresh w
+
+abbrev pub AreFresh : List TagWorkerState → Type 0
+AreFresh ws = workers.AreFresh ws
+
+-- the worker's lifetime allows all commands of an operation
+abbrev pub HasLife : TagWorkerState → Operation → Type 0
+HasLife w op = workers.HasLife tags w op
+
+-- it can do the operation
+abbrev pub CanDo : TagWorkerState → Operation → Type 0
+CanDo w op = IsOperationInRange (places_of w) op × HasLife w op
+
+-- A worker's entries are its part of what it has seen, and their commands are those of its
+-- operations.
+abbrev pub HasSeenAll : TagWorkerState → Type 0
+HasSeenAll w = workers.HasSeenAll tags w
+
+-- The worker has done one more operation, with this answer, after all that it had seen and learned.
+abbrev pub HasDone : TagWorkerState → Operation → Tag → TagWorkerState → Type 0
+HasDone old op tag new = workers.HasDone tags old op tag new
+
+-- the worker drew a stamp with this number, and executed nothing
+abbrev pub HasDrawn : TagWorkerState → ℕ → TagWorkerState → Type 0
+HasDrawn old n new = workers.HasDrawn old n new
+
+-- the same worker of the same table
+abbrev pub IsSameWorker : TagWorkerState → TagWorkerState → Type 0
+IsSameWorker old new = workers.IsSameWorker old new
+
+-- the cause of each refusal of an operation
+abbrev pub IsRefused : TagWorkerState → Operation → Refused → Type 0
+IsRefused w op OutOfRange = ¬ IsOperationInRange (places_of w) op
+IsRefused w op NoLifeLeft = IsOperationInRange (places_of w) op × ¬ HasLife w op
+
+-- the ranges of a table's places and threads
+pub record IsTableInRange (tags threads : ℕ) : Type 0 where
+  pub few_tags : tags ≤ 1024
+  pub some_thread : 1 ≤ threads
+  pub few_threads : threads ≤ 16
+
+abbrev pub IsOpenFault : ℕ → ℕ → OpenFault → Type 0
+IsOpenFault tags threads faults.OutOfRange = ¬ IsTableInRange tags threads
+IsOpenFault tags threads faults.NoMemory =
+    IsTableInRange tags threads × CanOpen (opened_config threads tags)
+
+-- This is the worker of thread t. It did the operations of the thread's script, and its answers are
+-- those of the thread's calls in the order. The timeline has the invocations of its commands. What
+-- it has seen is a prefix of the timeline and of the history.
+abbrev pub HasScript : List (List Operation) → List Moment → List HistoryItem
+    → List (Call Operation Tag) → ℕ → TagWorkerState → Type 0
+HasScript scripts timeline history order t w =
+    orders.HasScript scripts timeline history order t w
+
+-- There is a history of the job of some scripts, with a linearization and with no allocation that
+-- was answered full. Each worker did the operations of one script, in its order. Its answers are
+-- those of a plain table in the order of the linearization. The number of cycles is that of the
+-- history, whose units of work are within the bounds of so many cycles, and which is that of a run
+-- of the machine. The order keeps the real-time order of a timeline that has the invocations of all
+-- commands.
+abbrev pub HaveOneTable : Config → List TagWorkerState → ℕ → Type 0
+HaveOneTable c ws cycles = orders.HaveOneOrder tags c ws cycles
+
+-- how many records the commands of an operation make
+abbrev pub objects_by : Operation → ℕ
+objects_by (Write i v q) = 1
+objects_by _ = 0
