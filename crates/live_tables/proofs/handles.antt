@@ -1,4 +1,5 @@
 pub mod Makes
+pub mod Bounds
 pub mod Decoded
 pub mod Filled
 pub mod Doing

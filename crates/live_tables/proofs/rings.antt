@@ -1,3 +1,4 @@
+pub mod Bounds
 pub mod Decoded
 pub mod Doing
 pub mod Crews

@@ -2,16 +2,8 @@
 
 mod commands;
 mod faults;
-mod laws;
-mod note;
+mod kind;
 mod table;
-mod worker;
 
-pub use laws::{
-    operations_come_after_stamps, operations_keep_real_time,
-    operations_seen_come_before_later_ones, operations_stand_behind_what_was_seen,
-    what_was_answered_is_a_tables, workers_are_at_work_all_along,
-};
-pub use note::TagNote;
-pub use table::{LiveTags, OpenFault, Refused};
-pub use worker::TagWorker;
+pub use kind::{LiveTags, TagNote, TagWorker, Tags};
+pub use table::{OpenFault, Refused};

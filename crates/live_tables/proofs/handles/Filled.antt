@@ -7,8 +7,8 @@ use Rattle.block_store.specs.declared.Width.TheVariants.{Eight}
 use Rattle.live_tables.specs.rows.Life.{MakeObjects}
 use Rattle.live_tables.specs.declared.handles.request.Request.{Request}
 use Rattle.live_tables.specs.declared.handles.request.Request.TheVariants as asks
-use Rattle.live_tables.specs.handles.Kept.{NamesHandle, objects_by}
-use Rattle.live_tables.specs.handles.Live.{HandleWorkerState, IsInRange, commands_of, deed_of}
+use Rattle.live_tables.specs.handles.Kept.{objects_by}
+use Rattle.live_tables.specs.handles.Live.{HandleWorkerState, commands_of, deed_of}
 use Rattle.live_tables.specs.handles.Makes.{slot_after}
 
 pub set_there : (slots : List (Option ℕ)) (h i g : ℕ) → h < length slots
@@ -34,10 +34,3 @@ few_objects (asks.See h) = omega arith
 few_objects (asks.Release h) = omega arith
 few_objects (asks.Take i) = omega arith
 few_objects (asks.Evict i) = omega arith
-
-pub names_of : (slots : ℕ) (request : Request) → IsInRange slots request → NamesHandle request
-names_of slots (asks.Make h i x) range = range.0
-names_of slots (asks.See h) range = tt
-names_of slots (asks.Release h) range = tt
-names_of slots (asks.Take i) range = tt
-names_of slots (asks.Evict i) range = tt

@@ -30,6 +30,12 @@ CanFollow slots t n last (Drop u j h i) = (u ≡ t) × (last h ≡ j + 1) × (h 
 CanFollow slots t n last (Take i) = i < slots
 CanFollow slots t n last (Evict i) = i < slots
 
+-- the answer that the last three replies tell
+abbrev pub answer_by : Deed → Reply × Reply × Reply → Answer
+answer_by (Take i) p = Found (found_by p.0 p.2)
+answer_by (Evict i) p = Found (found_by p.0 p.2)
+answer_by _ p = Matched (is_yes p.2)
+
 -- The slots, the deeds, and the commands that they are made of.
 abbrev pub handles : Rows Deed Row Answer (List Slot)
 handles = record {
@@ -45,6 +51,7 @@ handles = record {
   CanBeNext = λ slots t before op. CanFollow slots t (made_by before) (last_by before) op;
   operations_of = deeds_of;
   AreRead = λ t ops. (slots : ℕ) × AreNumbered slots t 0 (λ h. 0) ops;
+  answer_by = answer_by;
 }
 
 -- A worker of the slots: its worker of the heap, the deeds that it did, and their answers. In
@@ -63,18 +70,6 @@ slots_of w = w.worker.thread.config.shared
 -- the commands of deeds
 abbrev pub commands_of : List Deed → List Command
 commands_of ops = rows.commands_of handles ops
-
--- the heap of slots, of any number of blocks
-abbrev pub IsHandleHeap : Config → Type 0
-IsHandleHeap c = rows.IsRowHeap handles c
-
--- a worker of the heap has executed the commands of numbered deeds, and no others
-abbrev pub IsHandleWorker : WorkerState → Type 0
-IsHandleWorker w = workers.IsRowWorker handles w
-
--- the value of a worker in contracts
-abbrev pub handle_worker : WorkerState → HandleWorkerState
-handle_worker w = workers.row_worker handles w
 
 -- the heap of slots as it is opened
 abbrev pub opened_config : ℕ → ℕ → Config
@@ -133,21 +128,11 @@ IsRefused w u OutOfRange = ¬ IsInRange (slots_of w) u
 IsRefused w u NotMade = IsInRange (slots_of w) u × ¬ IsMade w u
 IsRefused w u NoLifeLeft = IsInRange (slots_of w) u × IsMade w u × ¬ HasLife w (deed_of w u)
 
--- the answer that the last three replies tell
-abbrev pub answer_by : Request → Reply × Reply × Reply → Answer
-answer_by (asks.Take i) p = Found (found_by p.0 p.2)
-answer_by (asks.Evict i) p = Found (found_by p.0 p.2)
-answer_by _ p = Matched (is_yes p.2)
-
 -- ---- workers
 
 -- a worker is of these slots
 abbrev pub IsOf : HeapState → HandleWorkerState → Type 0
 IsOf t w = workers.IsOf t w
-
--- the same worker, which has learned a note of this history
-abbrev pub has_learned : HandleWorkerState → List HistoryItem → HandleWorkerState
-has_learned w seen = workers.has_learned w seen
 
 -- these are all workers of these slots, in thread order
 abbrev pub AreInOrder : HeapState → List HandleWorkerState → Type 0
@@ -161,17 +146,9 @@ AreEachOnce t ws = workers.AreEachOnce t ws
 abbrev pub AreFresh : List HandleWorkerState → Type 0
 AreFresh ws = workers.AreFresh ws
 
--- a worker's entries are its part of what it has seen, and their commands are those of its deeds
-abbrev pub HasSeenAll : HandleWorkerState → Type 0
-HasSeenAll w = workers.HasSeenAll handles w
-
 -- The worker has done one more deed, with this answer, after all that it had seen and learned.
 abbrev pub HasDone : HandleWorkerState → Deed → Answer → HandleWorkerState → Type 0
 HasDone old op a new = workers.HasDone handles old op a new
-
--- the worker drew a stamp with this number, and executed nothing
-abbrev pub HasDrawn : HandleWorkerState → ℕ → HandleWorkerState → Type 0
-HasDrawn old n new = workers.HasDrawn old n new
 
 -- the same worker of the same slots
 abbrev pub IsSameWorker : HandleWorkerState → HandleWorkerState → Type 0

@@ -43,6 +43,11 @@ CanBeNext places t before (Keep i v) =
     (i ≡ ring_place t (kept_by before)) × (i < places) × (v < 2 ^ 62)
 CanBeNext places t before (Recall i) = i < places
 
+-- the answer that the last three replies tell
+abbrev pub answer_by : Operation → Reply × Reply × Reply → Cell
+answer_by (Keep i v) p = None
+answer_by (Recall i) p = number_of p.2
+
 -- The places of all rings, the operations, and the commands that they are made of.
 abbrev pub rings : Rows Operation Row Cell (List Cell)
 rings = record {
@@ -58,6 +63,7 @@ rings = record {
   CanBeNext = CanBeNext;
   operations_of = λ t ks. operations_of ks;
   AreRead = λ t ops. AreOwn t ops;
+  answer_by = answer_by;
 }
 
 -- A worker of a ring: its worker of the heap, the operations that it did, and their answers. In
@@ -77,17 +83,9 @@ places_of w = w.worker.thread.config.shared
 abbrev pub commands_of : List Operation → List Command
 commands_of ops = rows.commands_of rings ops
 
--- the heap of rings, of any number of blocks: eight places for each thread
-abbrev pub IsRingHeap : Config → Type 0
-IsRingHeap c = rows.IsRowHeap rings c × (c.shared ≡ 8 * c.threads)
-
--- a worker of the heap has executed the commands of operations on rings, and no others
-abbrev pub IsRingWorker : WorkerState → Type 0
-IsRingWorker w = workers.IsRowWorker rings w
-
--- the value of a worker in contracts
-abbrev pub ring_worker : WorkerState → RingWorkerState
-ring_worker w = workers.row_worker rings w
+-- the heap of rings has eight places for each thread
+abbrev pub AreOfEight : Config → Type 0
+AreOfEight c = c.shared ≡ 8 * c.threads
 
 -- ---- what a worker is asked to do
 
@@ -118,20 +116,11 @@ abbrev pub IsRefused : RingWorkerState → Request → Refused → Type 0
 IsRefused w u OutOfRange = ¬ IsInRange (threads_of w) u
 IsRefused w u NoLifeLeft = IsInRange (threads_of w) u × ¬ HasLife w (operation_of w u)
 
--- the answer that the last reply tells
-abbrev pub answer_by : Request → Reply → Cell
-answer_by (asks.Keep v) r = None
-answer_by (asks.Recall u k) r = number_of r
-
 -- ---- workers
 
 -- a worker is of these rings
 abbrev pub IsOf : HeapState → RingWorkerState → Type 0
 IsOf t w = workers.IsOf t w
-
--- the same worker, which has learned a note of this history
-abbrev pub has_learned : RingWorkerState → List HistoryItem → RingWorkerState
-has_learned w seen = workers.has_learned w seen
 
 -- these are all workers of these rings, in thread order
 abbrev pub AreInOrder : HeapState → List RingWorkerState → Type 0
@@ -145,18 +134,9 @@ AreEachOnce t ws = workers.AreEachOnce t ws
 abbrev pub AreFresh : List RingWorkerState → Type 0
 AreFresh ws = workers.AreFresh ws
 
--- a worker's entries are its part of what it has seen, and their commands are those of its
--- operations
-abbrev pub HasSeenAll : RingWorkerState → Type 0
-HasSeenAll w = workers.HasSeenAll rings w
-
 -- The worker has done one more operation, with this answer, after all that it had seen and learned.
 abbrev pub HasDone : RingWorkerState → Operation → Cell → RingWorkerState → Type 0
 HasDone old op a new = workers.HasDone rings old op a new
-
--- the worker drew a stamp with this number, and executed nothing
-abbrev pub HasDrawn : RingWorkerState → ℕ → RingWorkerState → Type 0
-HasDrawn old n new = workers.HasDrawn old n new
 
 -- the same worker of the same rings
 abbrev pub IsSameWorker : RingWorkerState → RingWorkerState → Type 0
@@ -187,17 +167,7 @@ abbrev pub keeps : Request → ℕ
 keeps (asks.Keep v) = 1
 keeps _ = 0
 
--- a worker keeps how many numbers it kept; it is of one of the threads
-pub record Knows (w : WorkerState) (kept : ℕ) : Type 0 where
-  pub worker : IsRingWorker w
-  pub places : w.thread.config.shared ≡ 8 * w.thread.config.threads
-  pub low : w.thread.thread < w.thread.config.threads
-  pub kept_so : kept ≡ kept_by (operations_of w.thread.trace)
-  pub few : kept ≤ 2 ^ 60
-
--- a worker that has done nothing
-pub record IsNew (w : WorkerState) : Type 0 where
-  pub worker : IsRingWorker w
-  pub places : w.thread.config.shared ≡ 8 * w.thread.config.threads
-  pub low : w.thread.thread < w.thread.config.threads
-  pub none : operations_of w.thread.trace ≡ []
+-- a worker keeps how many numbers it kept
+pub record Keeps (c : Config) (t : ℕ) (ops : List Operation) (kept : ℕ) : Type 0 where
+  pub places : c.shared ≡ 8 * c.threads
+  pub kept_so : kept ≡ kept_by ops

@@ -8,7 +8,7 @@ use Rattle.shared_heap.specs.declared.rules.Moment.{Moment}
 use Rattle.shared_heap.specs.Workers.{CanOpen, HeapState, WorkerState}
 use Rattle.array_tables.specs.declared.tag_table.operation.Operation.{Operation}
 use Rattle.array_tables.specs.declared.tag_table.operation.Operation.TheVariants.{Write}
-use Rattle.array_tables.specs.tag_table.Tables.{Tag, Row, rows_of, command_at, decides, ends, answer, table_after, empty_table, tag_config, AreInTable, IsOperationInRange}
+use Rattle.array_tables.specs.tag_table.Tables.{Tag, Row, rows_of, command_at, decides, ends, answer, table_after, empty_table, tag_config, AreInTable, IsOperationInRange, pair_of}
 use Rattle.live_tables.specs.rows.Orders as orders
 use Rattle.live_tables.specs.rows.Rows as rows
 use Rattle.live_tables.specs.rows.Rows.{Rows}
@@ -36,6 +36,7 @@ tags = record {
   CanBeNext = λ places t ops op. IsOperationInRange places op;
   operations_of = λ t ks. operations_of ks;
   AreRead = λ t ops. Unit {0};
+  answer_by = λ op p. pair_of p.1 p.2;
 }
 
 -- A worker of a table: its worker of the heap, the operations that it did, and their answers. In
@@ -120,10 +121,6 @@ HasSeenAll w = workers.HasSeenAll tags w
 -- The worker has done one more operation, with this answer, after all that it had seen and learned.
 abbrev pub HasDone : TagWorkerState → Operation → Tag → TagWorkerState → Type 0
 HasDone old op tag new = workers.HasDone tags old op tag new
-
--- the worker drew a stamp with this number, and executed nothing
-abbrev pub HasDrawn : TagWorkerState → ℕ → TagWorkerState → Type 0
-HasDrawn old n new = workers.HasDrawn old n new
 
 -- the same worker of the same table
 abbrev pub IsSameWorker : TagWorkerState → TagWorkerState → Type 0

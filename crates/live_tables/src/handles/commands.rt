@@ -15,8 +15,7 @@ use never_heap::{Command, Reply};
 // The id of the next handle of a thread that has made so many.
 pub(crate) fn id_of(thread: u32, made: u64) -> u64
     requires { made ≤ 2 ^ 60 }
-    ensures id { result ≡ handles.id thread made }
-    ensures small { result < 2 ^ 62 }
+    ensures { result ≡ handles.id thread made }
 {
     u64::from(thread) * (1 << 20) + (made + 1)
 }
