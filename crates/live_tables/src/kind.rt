@@ -55,9 +55,8 @@ pub trait Table: Drop {
             × Keeps c t w.done own × (length (commands_of rows w.done) ≤ 2 ^ 60)
             × rows.CanBeNext c.shared t w.done (operation_of w request.now) }
         ensures { (w : RowWorkerState Self.Operation Self.Answer) (c : Config) (t : ℕ)
-            (ops : List Self.Operation) → Keeps c t ops own
-            → rows.CanBeNext c.shared t ops (operation_of w request.now)
-            → Keeps c t (ops ++ operation_of w request.now ∷ []) result };
+            → Keeps c t w.done own → rows.CanBeNext c.shared t w.done (operation_of w request.now)
+            → Keeps c t (w.done ++ operation_of w request.now ∷ []) result };
 
     /// The rows are lawful.
     fn is_lawful()

@@ -2,11 +2,12 @@
 //! commands of a shared heap, and all operations have one order.
 #![tactic(auto)]
 
+pub mod counters;
 pub mod handles;
 mod kind;
 mod laws;
 pub mod rings;
-mod rows;
+pub mod rows;
 mod table;
 pub mod tags;
 mod worker;

@@ -4,8 +4,9 @@ mod commands;
 mod faults;
 mod kind;
 mod request;
-mod ring_calls;
+mod calls;
 
+pub(crate) use commands::{keep_commands, number, recall_commands};
 pub use faults::{OpenFault, Refused};
 pub use kind::{LiveRings, RingNote, RingOperation, RingWorker, Rings};
 pub use request::Request;

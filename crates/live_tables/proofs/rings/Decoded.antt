@@ -13,7 +13,7 @@ use Rattle.live_tables.specs.rows.Lawful.{Lawful}
 use Rattle.live_tables.specs.rows.Rows.{answer_told}
 use Rattle.live_tables.specs.rings.Decoding.{operations_from, operations_of}
 use Rattle.live_tables.specs.rings.Live.{commands_of, rings}
-use Rattle.live_tables.proofs.rings.Bounds.{fits_there}
+use Rattle.live_tables.proofs.rings.Bounds.{fits_next, fits_there}
 use Rattle.live_tables.proofs.rings.OneMore.{own_more, low_more, next_low, next_own}
 
 -- what is read of the commands of operations that others follow
@@ -38,15 +38,22 @@ told_one (Keep i v) rows (a ∷ b ∷ c ∷ d ∷ []) more same = refl
 told_one (Recall i) rows (a ∷ b ∷ []) more same = refl
 told_one op rows rs more same = absurd (omega arith)
 
+-- the commands of operations on numbers in places, whoever may do them
+pub decoded : (ops : List Operation) → operations_of (commands_of ops) ≡ ops
+decoded ops =
+    ap operations_of (sym (append-nil (commands_of ops)))
+    ∙ (read_on 0 ops []).told ∙ append-nil ops
+
+pub begins : (ops : List Operation) (ks : List Command)
+    → (more : List Operation) × (operations_of (commands_of ops ++ ks) ≡ ops ++ more)
+begins ops ks = let r = read_on 0 ops ks in (operations_from r.next ks, r.told)
+
 abbrev pub law : Lawful rings
 law = record {
   whole = whole;
   told = told_one;
-  decoded = λ t ops read.
-      ap operations_of (sym (append-nil (commands_of ops)))
-      ∙ (read_on 0 ops []).told ∙ append-nil ops;
-  begins = λ t ops ks read.
-      (let r = read_on 0 ops ks in (operations_from r.next ks, r.told));
+  decoded = λ t ops read. decoded ops;
+  begins = λ t ops ks read. begins ops ks;
   none = λ n t. (tt, tt);
   more = λ n t ops op all one. (
     low_more n ops op all.0 (next_low n t ops op one),
@@ -61,5 +68,5 @@ law = record {
       (rings_owe n places blocks scripts count (λ t. (inside t).0))) rate h begun;
   wide = λ n places blocks. refl;
   fits = λ n places blocks t ops op few_threads few low short all next.
-      fits_there n places blocks few t ops op next;
+      fits_there n places blocks few op (fits_next places t ops op next);
 }

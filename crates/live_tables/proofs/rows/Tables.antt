@@ -100,8 +100,8 @@ module _ {Op Row Answer S : Type 0} (a : Rows Op Row Answer S) (law : Lawful a) 
       pub goes_on : (new : WorkerState) (three : Reply × Reply × Reply)
           → HasRun old (commands_of a (op ∷ [])) three new
           → HasRoomFor old.thread (commands_of a (op ∷ [])) → (more : Own)
-          → ((c : Config) (t : ℕ) (done : List Op) → Keeps c t done own
-          → a.CanBeNext c.shared t done op → Keeps c t (done ++ op ∷ []) more)
+          → ((c : Config) (t : ℕ) → Keeps c t ops own → a.CanBeNext c.shared t ops op
+          → Keeps c t (ops ++ op ∷ []) more)
           → IsTableWorker a Keeps new more
       goes_on new three run room more keeps = record {
         worker = still a law old new op three is.worker next run;
@@ -118,5 +118,5 @@ module _ {Op Row Answer S : Type 0} (a : Rows Op Row Answer S) (law : Lawful a) 
             (subst (λ (u : ℕ). Keeps new.thread.config u (ops ++ op ∷ []) more) (sym run.same.thread)
             (subst (λ (c : Config). Keeps c old.thread.thread (ops ++ op ∷ []) more)
             (sym run.same.config)
-            (keeps old.thread.config old.thread.thread ops is.keeps next)));
+            (keeps old.thread.config old.thread.thread is.keeps next)));
       }

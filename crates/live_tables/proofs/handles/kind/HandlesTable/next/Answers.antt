@@ -12,7 +12,7 @@ slots_next-slots-requires c =
     let e = c.requires in names_of _ e.2 _ _ e.0 c.args.request.now e.5
 
 pub returns : goal.returns
-returns c w k t ops is next =
+returns c w k t is next =
     keeps_on w c.args.request.now c.args.held
     (record { made = c.made_next-made.result; slots = c.slots_next-slots.result })
-    c.made_next-made.ensures c.slots_next-slots.ensures k t ops is
+    c.made_next-made.ensures c.slots_next-slots.ensures k t w.done is

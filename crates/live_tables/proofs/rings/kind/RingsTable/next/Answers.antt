@@ -7,5 +7,5 @@ kept_next-requires c =
     let e = c.requires in omega (arith, e.3.kept_so, kept_few 0 e.0.done, e.4)
 
 pub returns : goal.returns
-returns c w k t ops is next =
-    keeps_on w c.args.request.now c.args.kept c.kept_next.result c.kept_next.ensures k t ops is
+returns c w k t is next =
+    keeps_on w c.args.request.now c.args.kept c.kept_next.result c.kept_next.ensures k t w.done is
