@@ -3,5 +3,4 @@ pub mod Bounds
 pub mod Decoded
 pub mod Filled
 pub mod Doing
-pub mod Crews
 pub mod Opening

@@ -1,10 +1,10 @@
 //! Rings of numbers that several threads of a program share while they run.
 
+mod calls;
 mod commands;
 mod faults;
 mod kind;
 mod request;
-mod calls;
 
 pub(crate) use commands::{keep_commands, number, recall_commands};
 pub use faults::{OpenFault, Refused};

@@ -99,7 +99,10 @@ impl<K: Table> LiveTable<K> {
         ensures unchanged { result ≡ None → who.new ≡ who.old }
     {
         K::is_lawful();
-        if !self.rows.has_life(&who.worker, K::objects_in(&request), commands) {
+        if !self
+            .rows
+            .has_life(&who.worker, K::objects_in(&request), commands)
+        {
             return None;
         }
         let replies = self.rows.run(rt, &mut who.worker, commands);

@@ -3,7 +3,8 @@
 ghost use Rattle.std.specs.Prelude.{◌≡◌, ◌<◌, ◌∷◌, ◌++◌, [], length, IfErr, IfOk, OnErr, OnOk};
 ghost use Rattle.std.specs.Vec.{vec_capacity};
 ghost use Rattle.array_tables.specs.tag_table.Tables.{IsOperationInRange};
-ghost use Rattle.live_tables.specs.tags.Live.{CanDo, HasDone, IsOf, IsRefused, IsSameWorker, places_of};
+ghost use Rattle.live_tables.specs.tags.Live.{CanDo, HasDone, IsRefused};
+ghost use Rattle.live_tables.specs.rows.Workers.{IsOf, IsSameWorker, places_of};
 ghost use Rattle.plantrun_core.specs.Logs.{IsLog};
 ghost use Rattle.plantrun_core.specs.Refusals.{AreFitting, AreInRange, IsRefusedAfter};
 

@@ -1,9 +1,9 @@
 //! The thread that takes the readings of the input.
-#![tactic(auto, using(live_tables::proofs::tags::Crews::same_first, live_tables::proofs::tags::Crews::same_then, live_tables::proofs::tags::Crews::of_same))]
+#![tactic(auto, using(live_tables::proofs::rows::Crews::same_first, live_tables::proofs::rows::Crews::same_then, live_tables::proofs::rows::Crews::of_same))]
 
 ghost use Rattle.std.specs.Prelude.{◌≡◌, ◌≤◌, ◌<◌, ◌+◌, ◌∷◌, ◌++◌, ◌^◌, [], length, map, OnErr, OnOk};
 ghost use Rattle.std.specs.Vec.{vec_capacity};
-ghost use Rattle.live_tables.specs.tags.Live.{IsOf, IsSameWorker};
+ghost use Rattle.live_tables.specs.rows.Workers.{IsOf, IsSameWorker};
 ghost use Rattle.plantrun_core.specs.Logs.{operation_of};
 ghost use Rattle.plantrun_core.specs.Readings.{puts, room};
 ghost use Rattle.plantrun_core.specs.Refusals.{IsRefusedAfter};

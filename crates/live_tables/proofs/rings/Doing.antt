@@ -10,16 +10,16 @@ use Rattle.live_tables.specs.rows.Life.{MakeObjects}
 use Rattle.live_tables.specs.rows.Workers.{IsNext, row_worker}
 use Rattle.live_tables.specs.declared.rings.request.Request.{Request}
 use Rattle.live_tables.specs.declared.rings.request.Request.TheVariants as asks
-use Rattle.live_tables.specs.rings.Live.{IsInRange, Keeps, RingWorkerState, commands_of, keeps, kept_behind, kept_by, operation_of, rings}
+use Rattle.live_tables.specs.rings.Live.{IsInRange, Keeps, RingWorkerState, commands_of, keeping, kept_behind, kept_by, operation_of, rings}
 use Rattle.live_tables.proofs.rings.OneMore.{kept_more}
 
 -- a keep makes one object
 pub made_of : (w : RingWorkerState) (request : Request)
-    → MakeObjects Eight (keeps request) (commands_of (operation_of w request ∷ []))
+    → MakeObjects Eight (keeping request) (commands_of (operation_of w request ∷ []))
 made_of w (asks.Keep v) = record { objects = refl; units = λ rate. omega arith }
 made_of w (asks.Recall u k) = record { objects = refl; units = λ rate. omega arith }
 
-pub few_objects : (request : Request) → keeps request ≤ 2
+pub few_objects : (request : Request) → keeping request ≤ 2
 few_objects (asks.Keep v) = omega arith
 few_objects (asks.Recall u k) = omega arith
 
@@ -43,15 +43,15 @@ is_next old kept is (asks.Recall u k) range = omega (arith, is.keeps.places, ran
 
 -- one number more, where the request keeps one
 kept_of : (w : RingWorkerState) (request : Request) (n : ℕ)
-    → kept_behind n (operation_of w request ∷ []) ≡ n + keeps request
+    → kept_behind n (operation_of w request ∷ []) ≡ n + keeping request
 kept_of w (asks.Keep v) n = refl
 kept_of w (asks.Recall u k) n = omega arith
 
 pub keeps_on : (w : RingWorkerState) (request : Request) (kept next : ℕ)
-    → next ≡ kept + keeps request → (c : Config) (t : ℕ) (ops : List Operation)
+    → next ≡ kept + keeping request → (c : Config) (t : ℕ) (ops : List Operation)
     → Keeps c t ops kept → Keeps c t (ops ++ operation_of w request ∷ []) next
 keeps_on w request kept next counts c t ops is = record {
   places = is.places;
-  kept_so = counts ∙ ap (λ n. n + keeps request) is.kept_so
+  kept_so = counts ∙ ap (λ n. n + keeping request) is.kept_so
       ∙ sym (kept_more 0 ops (operation_of w request) ∙ kept_of w request (kept_by ops));
 }

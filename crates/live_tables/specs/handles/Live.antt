@@ -3,14 +3,13 @@ use Rattle.std.specs.Prelude.{ℕ, ◌+◌, ◌-◌, ◌*◌, ◌<◌, ◌≤◌
 use Rattle.block_store.specs.declared.Config.{Config}
 use Rattle.never_heap.specs.declared.Command.{Command}
 use Rattle.never_heap.specs.declared.Reply.{Reply}
-use Rattle.never_heap.specs.Histories.{HistoryItem}
-use Rattle.shared_heap.specs.Workers.{CanOpen, HeapState, WorkerState}
+use Rattle.shared_heap.specs.Workers.{CanOpen}
 use Rattle.array_tables.specs.handle_table.Handles.{Answer, Matched, Found, Deed, Make, See, Drop, Take, Evict, Slot, Row, answer, slots_after, empty_slots, rows_of, command_at, decides, ends, found_by, handle_config, is_yes, AreNumbered}
 use Rattle.live_tables.specs.rows.Orders as orders
 use Rattle.live_tables.specs.rows.Rows as rows
 use Rattle.live_tables.specs.rows.Rows.{Rows}
 use Rattle.live_tables.specs.rows.Workers as workers
-use Rattle.live_tables.specs.rows.Workers.{RowWorkerState}
+use Rattle.live_tables.specs.rows.Workers.{RowWorkerState, thread_of}
 use Rattle.live_tables.specs.declared.handles.faults.Refused.{Refused}
 use Rattle.live_tables.specs.declared.handles.faults.Refused.TheVariants.{OutOfRange, NotMade, NoLifeLeft}
 use Rattle.live_tables.specs.declared.handles.faults.OpenFault.{OpenFault}
@@ -58,10 +57,6 @@ handles = record {
 -- memory it has only its last command, how many handles it made, and the slot of each of its eight.
 abbrev pub HandleWorkerState : Type 0
 HandleWorkerState = RowWorkerState Deed Answer
-
--- the thread of a worker
-abbrev pub thread_of : HandleWorkerState → ℕ
-thread_of w = w.worker.thread.thread
 
 -- how many slots there are
 abbrev pub slots_of : HandleWorkerState → ℕ
@@ -130,29 +125,9 @@ IsRefused w u NoLifeLeft = IsInRange (slots_of w) u × IsMade w u × ¬ HasLife 
 
 -- ---- workers
 
--- a worker is of these slots
-abbrev pub IsOf : HeapState → HandleWorkerState → Type 0
-IsOf t w = workers.IsOf t w
-
--- these are all workers of these slots, in thread order
-abbrev pub AreInOrder : HeapState → List HandleWorkerState → Type 0
-AreInOrder t ws = workers.AreInOrder t ws
-
--- these are all workers of these slots, each once, in any order
-abbrev pub AreEachOnce : HeapState → List HandleWorkerState → Type 0
-AreEachOnce t ws = workers.AreEachOnce t ws
-
--- they have done nothing
-abbrev pub AreFresh : List HandleWorkerState → Type 0
-AreFresh ws = workers.AreFresh ws
-
 -- The worker has done one more deed, with this answer, after all that it had seen and learned.
 abbrev pub HasDone : HandleWorkerState → Deed → Answer → HandleWorkerState → Type 0
 HasDone old op a new = workers.HasDone handles old op a new
-
--- the same worker of the same slots
-abbrev pub IsSameWorker : HandleWorkerState → HandleWorkerState → Type 0
-IsSameWorker old new = workers.IsSameWorker old new
 
 -- ---- opening and closing
 

@@ -3,14 +3,13 @@ use Rattle.std.specs.Prelude.{ℕ, ◌+◌, ◌*◌, ◌<◌, ◌≤◌, ◌≡�
 use Rattle.block_store.specs.declared.Config.{Config}
 use Rattle.never_heap.specs.declared.Command.{Command}
 use Rattle.never_heap.specs.declared.Reply.{Reply}
-use Rattle.never_heap.specs.Histories.{HistoryItem}
-use Rattle.shared_heap.specs.Workers.{CanOpen, HeapState, WorkerState}
+use Rattle.shared_heap.specs.Workers.{CanOpen}
 use Rattle.array_tables.specs.number_rings.Rings.{Operation, Keep, Recall, Cell, Row, AreInCells, answer, cell_config, cells_after, command_at, decides, empty_cells, ends, number_of, ring_config, ring_place, rows_of}
 use Rattle.live_tables.specs.rows.Orders as orders
 use Rattle.live_tables.specs.rows.Rows as rows
 use Rattle.live_tables.specs.rows.Rows.{Rows}
 use Rattle.live_tables.specs.rows.Workers as workers
-use Rattle.live_tables.specs.rows.Workers.{RowWorkerState}
+use Rattle.live_tables.specs.rows.Workers.{RowWorkerState, thread_of}
 use Rattle.live_tables.specs.declared.rings.faults.Refused.{Refused}
 use Rattle.live_tables.specs.declared.rings.faults.Refused.TheVariants.{OutOfRange, NoLifeLeft}
 use Rattle.live_tables.specs.declared.rings.faults.OpenFault.{OpenFault}
@@ -71,14 +70,6 @@ rings = record {
 abbrev pub RingWorkerState : Type 0
 RingWorkerState = RowWorkerState Operation Cell
 
--- the thread of a worker
-abbrev pub thread_of : RingWorkerState → ℕ
-thread_of w = w.worker.thread.thread
-
--- how many places there are in all rings
-abbrev pub places_of : RingWorkerState → ℕ
-places_of w = w.worker.thread.config.shared
-
 -- the commands of operations
 abbrev pub commands_of : List Operation → List Command
 commands_of ops = rows.commands_of rings ops
@@ -118,29 +109,9 @@ IsRefused w u NoLifeLeft = IsInRange (threads_of w) u × ¬ HasLife w (operation
 
 -- ---- workers
 
--- a worker is of these rings
-abbrev pub IsOf : HeapState → RingWorkerState → Type 0
-IsOf t w = workers.IsOf t w
-
--- these are all workers of these rings, in thread order
-abbrev pub AreInOrder : HeapState → List RingWorkerState → Type 0
-AreInOrder t ws = workers.AreInOrder t ws
-
--- these are all workers of these rings, each once, in any order
-abbrev pub AreEachOnce : HeapState → List RingWorkerState → Type 0
-AreEachOnce t ws = workers.AreEachOnce t ws
-
--- they have done nothing
-abbrev pub AreFresh : List RingWorkerState → Type 0
-AreFresh ws = workers.AreFresh ws
-
 -- The worker has done one more operation, with this answer, after all that it had seen and learned.
 abbrev pub HasDone : RingWorkerState → Operation → Cell → RingWorkerState → Type 0
 HasDone old op a new = workers.HasDone rings old op a new
-
--- the same worker of the same rings
-abbrev pub IsSameWorker : RingWorkerState → RingWorkerState → Type 0
-IsSameWorker old new = workers.IsSameWorker old new
 
 -- ---- opening and closing
 
@@ -163,9 +134,9 @@ HaveOneOrder c ws cycles = orders.HaveOneOrder rings c ws cycles
 -- ---- within a worker
 
 -- how many numbers a request keeps
-abbrev pub keeps : Request → ℕ
-keeps (asks.Keep v) = 1
-keeps _ = 0
+abbrev pub keeping : Request → ℕ
+keeping (asks.Keep v) = 1
+keeping _ = 0
 
 -- a worker keeps how many numbers it kept
 pub record Keeps (c : Config) (t : ℕ) (ops : List Operation) (kept : ℕ) : Type 0 where

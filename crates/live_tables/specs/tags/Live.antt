@@ -2,10 +2,9 @@
 use Rattle.std.specs.Prelude.{ℕ, ◌≤◌, ◌≡◌, ◌*◌, List}
 use Rattle.block_store.specs.declared.Config.{Config}
 use Rattle.never_heap.specs.declared.Command.{Command}
-use Rattle.never_heap.specs.Histories.{HistoryItem}
 use Rattle.array_tables.specs.operations.Linearizations.{Call}
 use Rattle.shared_heap.specs.declared.rules.Moment.{Moment}
-use Rattle.shared_heap.specs.Workers.{CanOpen, HeapState, WorkerState}
+use Rattle.shared_heap.specs.Workers.{CanOpen}
 use Rattle.array_tables.specs.declared.tag_table.operation.Operation.{Operation}
 use Rattle.array_tables.specs.declared.tag_table.operation.Operation.TheVariants.{Write}
 use Rattle.array_tables.specs.tag_table.Tables.{Tag, Row, rows_of, command_at, decides, ends, answer, table_after, empty_table, tag_config, AreInTable, IsOperationInRange, pair_of}
@@ -13,7 +12,7 @@ use Rattle.live_tables.specs.rows.Orders as orders
 use Rattle.live_tables.specs.rows.Rows as rows
 use Rattle.live_tables.specs.rows.Rows.{Rows}
 use Rattle.live_tables.specs.rows.Workers as workers
-use Rattle.live_tables.specs.rows.Workers.{RowWorkerState}
+use Rattle.live_tables.specs.rows.Workers.{RowWorkerState, places_of}
 use Rattle.live_tables.specs.declared.tags.table.Refused.{Refused}
 use Rattle.live_tables.specs.declared.tags.table.Refused.TheVariants.{OutOfRange, NoLifeLeft}
 use Rattle.live_tables.specs.declared.tags.table.OpenFault.{OpenFault}
@@ -44,18 +43,6 @@ tags = record {
 abbrev pub TagWorkerState : Type 0
 TagWorkerState = RowWorkerState Operation Tag
 
--- its worker of the heap
-abbrev pub heap_worker : TagWorkerState → WorkerState
-heap_worker w = w.worker
-
--- the thread of a worker
-abbrev pub thread_of : TagWorkerState → ℕ
-thread_of w = w.worker.thread.thread
-
--- how many places its table has
-abbrev pub places_of : TagWorkerState → ℕ
-places_of w = w.worker.thread.config.shared
-
 -- the commands of operations
 abbrev pub commands_of : List Operation → List Command
 commands_of ops = rows.commands_of tags ops
@@ -78,33 +65,6 @@ abbrev pub opened_config : ℕ → ℕ → Config
 opened_config threads tags =
     tag_config threads tags (4 * (tag_config threads tags 0).live)
 
--- a worker is of this table
-abbrev pub IsOf : HeapState → TagWorkerState → Type 0
-IsOf t w = workers.IsOf t w
-
--- the same worker, which has learned a note of this history
-abbrev pub has_learned : TagWorkerState → List HistoryItem → TagWorkerState
-has_learned w seen = workers.has_learned w seen
-
--- these are all workers of this table, in thread order
-abbrev pub AreInOrder : HeapState → List TagWorkerState → Type 0
-AreInOrder t ws = workers.AreInOrder t ws
-
--- one of these is of thread t
-abbrev pub HasWorker : ℕ → List TagWorkerState → Type 0
-HasWorker t ws = workers.HasWorker t ws
-
--- these are all workers of this table, each once, in any order
-abbrev pub AreEachOnce : HeapState → List TagWorkerState → Type 0
-AreEachOnce t ws = workers.AreEachOnce t ws
-
--- it has done no operation
-abbrev pub IsFresh : TagWorkerState → Type 0
-IsFresh w = workers.IsFresh w
-
-abbrev pub AreFresh : List TagWorkerState → Type 0
-AreFresh ws = workers.AreFresh ws
-
 -- the worker's lifetime allows all commands of an operation
 abbrev pub HasLife : TagWorkerState → Operation → Type 0
 HasLife w op = workers.HasLife tags w op
@@ -122,10 +82,6 @@ HasSeenAll w = workers.HasSeenAll tags w
 abbrev pub HasDone : TagWorkerState → Operation → Tag → TagWorkerState → Type 0
 HasDone old op tag new = workers.HasDone tags old op tag new
 
--- the same worker of the same table
-abbrev pub IsSameWorker : TagWorkerState → TagWorkerState → Type 0
-IsSameWorker old new = workers.IsSameWorker old new
-
 -- the cause of each refusal of an operation
 abbrev pub IsRefused : TagWorkerState → Operation → Refused → Type 0
 IsRefused w op OutOfRange = ¬ IsOperationInRange (places_of w) op
@@ -141,11 +97,9 @@ abbrev pub IsOpenFault : ℕ → ℕ → OpenFault → Type 0
 IsOpenFault tags threads faults.OutOfRange = ¬ IsTableInRange tags threads
 IsOpenFault tags threads faults.NoMemory =
     IsTableInRange tags threads × CanOpen (opened_config threads tags)
-
--- This is the worker of thread t. It did the operations of the thread's script, and its answers are
--- those of the thread's calls in the order. The timeline has the invocations of its commands. What
--- it has seen is a prefix of the timeline and of the history.
-abbrev pub HasScript : List (List Operation) → List Moment → List HistoryItem
+    -- This is the worker of thread t. It did the operations of the thread's script, and its answers are
+    -- those of the thread's calls in the order. The timeline has the invocations of its commands. What
+    -- it has seen is a prefix of the timeline and of the history.
     → List (Call Operation Tag) → ℕ → TagWorkerState → Type 0
 HasScript scripts timeline history order t w =
     orders.HasScript scripts timeline history order t w

@@ -4,8 +4,8 @@ ghost use Rattle.std.specs.Prelude.{◌≡◌, ◌<◌, ◌∷◌, [], ◌↔◌
 ghost use Rattle.shared_heap.specs.Workers.{CanOpen};
 ghost use Rattle.array_tables.specs.handle_table.Handles.{Matched, Found};
 ghost use Rattle.live_tables.specs.declared.handles.request.Request.TheVariants as asks;
-ghost use Rattle.live_tables.specs.rows.Workers.{IsNext};
-ghost use Rattle.live_tables.specs.handles.Live.{AreInOrder, AreFresh, AreEachOnce, CanDo, HasDone, IsInRange, IsMade, IsOf, IsOpenFault, IsRefused, IsSameWorker, IsTableInRange, answer_by, commands_of, deed_of, handles, known_slot, opened_config, slots_of};
+ghost use Rattle.live_tables.specs.rows.Workers.{AreEachOnce, AreFresh, AreInOrder, IsNext, IsOf, IsSameWorker};
+ghost use Rattle.live_tables.specs.handles.Live.{CanDo, HasDone, IsInRange, IsMade, IsOpenFault, IsRefused, IsTableInRange, answer_by, commands_of, deed_of, handles, known_slot, opened_config, slots_of};
 
 use crate::handles::commands::{
     evict_commands, found, id_of, in_range, is_known, is_yes, make_commands, place,

@@ -2,7 +2,7 @@
 
 ghost use Rattle.std.specs.Prelude.{◌≡◌, ◌+◌, ◌<◌, ◌≤◌, ◌∷◌, [], ◌^◌, ◌↔◌, IsTrue};
 ghost use Rattle.array_tables.specs.number_rings.Rings.{Keep, Recall, number_of, ring_place};
-ghost use Rattle.live_tables.specs.rings.Live.{IsInRange, commands_of, keeps};
+ghost use Rattle.live_tables.specs.rings.Live.{IsInRange, commands_of, keeping};
 
 use crate::rings::request::Request;
 use block_store::Value;
@@ -61,7 +61,7 @@ pub(crate) fn in_range(request: &Request, threads: u32) -> bool
 
 // How many records the commands of a request make.
 pub(crate) fn objects_in(request: &Request) -> u64
-    ensures { result ≡ keeps request.now }
+    ensures { result ≡ keeping request.now }
 {
     match request {
         Request::Keep { .. } => 1,
@@ -72,7 +72,7 @@ pub(crate) fn objects_in(request: &Request) -> u64
 // How many numbers a worker has kept after a request, if it had kept so many before.
 pub(crate) fn kept_next(kept: u64, request: &Request) -> u64
     requires { kept ≤ 2 ^ 60 }
-    ensures { result ≡ kept + keeps request.now }
+    ensures { result ≡ kept + keeping request.now }
 {
     match request {
         Request::Keep { .. } => kept + 1,

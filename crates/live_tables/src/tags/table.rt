@@ -2,7 +2,8 @@
 
 ghost use Rattle.std.specs.Prelude.{◌≡◌, ◌∷◌, [], IfOk, IfErr, OnOk, OnErr, IfSome};
 ghost use Rattle.shared_heap.specs.Workers.{CanOpen};
-ghost use Rattle.live_tables.specs.tags.Live.{AreInOrder, AreFresh, AreEachOnce, CanDo, HasDone, IsOf, IsOpenFault, IsRefused, IsSameWorker, IsTableInRange, commands_of, opened_config};
+ghost use Rattle.live_tables.specs.tags.Live.{CanDo, HasDone, IsOpenFault, IsRefused, IsTableInRange, commands_of, opened_config};
+ghost use Rattle.live_tables.specs.rows.Workers.{AreInOrder, AreFresh, AreEachOnce, IsOf, IsSameWorker};
 
 use crate::table::{LiveTable, opened};
 use crate::tags::commands::{clear_commands, in_range, pair, read_commands, write_commands};

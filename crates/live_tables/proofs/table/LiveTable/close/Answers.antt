@@ -28,7 +28,9 @@ returns g c =
     (subst (λ xs. AreEachOnce c.args.self xs) (sym e.2) c.requires) in
     let kept : HaveOneOrder g.K.Table.rows own.config (map (row_worker g.K.Table.rows) ws) c.close.result =
     order_kept g.K.Table.rows c.is_lawful.ensures own.config ws c.close.result c.self.invariant.0 c.self.invariant.1.plan
-    (λ j d low. (all_at (IsRowWorker g.K.Table.rows) ws e.1 j d low,
-    same_config g.K.Table.rows own ws here j d low)) e.3 in
+    (λ j d low. (
+      all_at (IsRowWorker g.K.Table.rows) ws e.1 j d low,
+      same_config g.K.Table.rows own ws here j d low,
+    )) e.3 in
     subst (λ (t : HeapState). HaveOneOrder g.K.Table.rows t.config c.args.who.items c.close.result) c.self.view_is
     (subst (λ xs. HaveOneOrder g.K.Table.rows own.config xs c.close.result) e.2 kept)

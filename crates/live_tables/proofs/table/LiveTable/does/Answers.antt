@@ -35,7 +35,7 @@ run-replies-requires-clause-bounds g c =
     let old : WorkerState = c.who.inside.worker in
     let w = row_worker g.K.Table.rows old in
     let is : c.args.commands.now
-        ≡ commands_of g.K.Table.rows (g.K.Table.operation_of w c.args.request ∷ []) =
+    ≡ commands_of g.K.Table.rows (g.K.Table.operation_of w c.args.request ∷ []) =
     subst (λ v. c.args.commands.now ≡ commands_of g.K.Table.rows (g.K.Table.operation_of v c.args.request ∷ []))
     (sym c.who.view_is) c.requires.commands in
     let next : IsNext g.K.Table.rows w (g.K.Table.operation_of w c.args.request) =
@@ -55,8 +55,7 @@ next-own-requires g c =
     let w = row_worker g.K.Table.rows old in
     let next : IsNext g.K.Table.rows w (g.K.Table.operation_of w c.args.request) =
     subst (λ v. IsNext g.K.Table.rows v (g.K.Table.operation_of v c.args.request)) (sym c.who.view_is)
-    c.requires.next in
-    (
+    c.requires.next in (
       w,
       old.thread.config,
       old.thread.thread,

@@ -1,6 +1,7 @@
 use Rattle.std.proofs.Common.{◌≡◌, ◌∙◌, ap}
 use Rattle.array_tables.specs.handle_table.Handles.{id}
-use Rattle.live_tables.specs.handles.Live.{HandleWorkerState, thread_of}
+use Rattle.live_tables.specs.handles.Live.{HandleWorkerState}
+use Rattle.live_tables.specs.rows.Workers.{thread_of}
 use Rattle.live_tables.specs.handles.Makes.{made_by}
 use Rattle.live_tables.proofs.handles.slots.LiveHandles.make.Goals as goal
 
