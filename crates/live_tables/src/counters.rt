@@ -4,7 +4,7 @@
 ghost use Rattle.std.specs.Prelude.{◌≡◌, ◌≤◌, ◌<◌, ◌+◌, ◌∷◌, ◌^◌, [], None, IfSome};
 ghost use Rattle.array_tables.specs.number_rings.Rings.{Keep, Recall, number_of};
 ghost use Rattle.shared_heap.specs.Workers.{CanOpen};
-ghost use Rattle.live_tables.specs.declared.counters.Request.TheVariants as asks;
+ghost use Rattle.live_tables.specs.declared.counters.CounterRequest.TheVariants as asks;
 ghost use Rattle.live_tables.specs.rows.Rows.{commands_of};
 ghost use Rattle.live_tables.specs.rows.Workers.{AreEachOnce, AreFresh, AreInOrder, HasDone, HasLife, IsNext, IsOf, IsSameWorker};
 ghost use Rattle.live_tables.specs.counters.Counters.{added, counters, objects_of, opened_config, operation_of, threads_of, total_by, total_next};
@@ -30,7 +30,7 @@ pub type CounterWorker = TableWorker<Counters>;
 
 /// A request of a worker.
 #[derive(Clone, Copy, Debug, PartialEq, Eq)]
-pub enum Request {
+pub enum CounterRequest {
     /// Adds to the worker's own counter.
     Add { amount: u64 },
     /// Shows what a thread's counter holds.
@@ -46,7 +46,7 @@ impl Table for Counters {
 
     type Answer = Option<u64>;
 
-    type Request = Request;
+    type Request = CounterRequest;
 
     type Own = u64;
 
@@ -66,11 +66,11 @@ impl Table for Counters {
         0
     }
 
-    fn objects_in(request: &Request) -> u64 {
+    fn objects_in(request: &CounterRequest) -> u64 {
         objects_in(request)
     }
 
-    fn next(total: u64, request: &Request) -> u64 {
+    fn next(total: u64, request: &CounterRequest) -> u64 {
         next_total(total, request)
     }
 
@@ -78,23 +78,23 @@ impl Table for Counters {
 }
 
 // How many objects the commands of a request make.
-fn objects_in(request: &Request) -> u64
+fn objects_in(request: &CounterRequest) -> u64
     ensures { result ≡ objects_of request.now }
 {
     match request {
-        Request::Add { .. } => 1,
-        Request::Count { .. } => 0,
+        CounterRequest::Add { .. } => 1,
+        CounterRequest::Count { .. } => 0,
     }
 }
 
 // What a counter holds after a request.
-fn next_total(total: u64, request: &Request) -> u64
+fn next_total(total: u64, request: &CounterRequest) -> u64
     requires { total + added request.now < 2 ^ 62 }
     ensures { result ≡ total_next request.now total }
 {
     match *request {
-        Request::Add { amount } => total + amount,
-        Request::Count { .. } => total,
+        CounterRequest::Add { amount } => total + amount,
+        CounterRequest::Count { .. } => total,
     }
 }
 
@@ -160,7 +160,7 @@ impl LiveTable<Counters> {
     {
         let before = who.own;
         let commands = keep_commands(u64::from(who.thread()), before + amount);
-        self.does(rt, who, Request::Add { amount }, &commands)?;
+        self.does(rt, who, CounterRequest::Add { amount }, &commands)?;
         Some(before)
     }
 
@@ -180,7 +180,7 @@ impl LiveTable<Counters> {
         ensures unchanged { result ≡ None → who.new ≡ who.old }
     {
         let commands = recall_commands(u64::from(thread));
-        let (_, _, last) = self.does(rt, who, Request::Count { thread }, &commands)?;
+        let (_, _, last) = self.does(rt, who, CounterRequest::Count { thread }, &commands)?;
         Some(number(last))
     }
 }

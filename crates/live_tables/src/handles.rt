@@ -8,4 +8,4 @@ mod slots;
 
 pub use faults::{OpenFault, Refused};
 pub use kind::{HandleAnswer, HandleDeed, HandleNote, HandleWorker, Handles, Held, LiveHandles};
-pub use request::Request;
+pub use request::HandleRequest;

@@ -9,4 +9,4 @@ mod request;
 pub(crate) use commands::{keep_commands, number, recall_commands};
 pub use faults::{OpenFault, Refused};
 pub use kind::{LiveRings, RingNote, RingOperation, RingWorker, Rings};
-pub use request::Request;
+pub use request::RingRequest;

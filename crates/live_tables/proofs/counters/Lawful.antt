@@ -7,8 +7,8 @@ use Rattle.array_tables.proofs.operations.LinearizedRuns.{linearized, linearized
 use Rattle.array_tables.specs.number_rings.Rings.{Operation, Keep, Recall, AreInCells, cell_config, rows_of}
 use Rattle.array_tables.proofs.number_rings.RingTable.{rings_owe, whole}
 use Rattle.array_tables.proofs.number_rings.RingTable as table
-use Rattle.live_tables.specs.declared.counters.Request.{Request}
-use Rattle.live_tables.specs.declared.counters.Request.TheVariants.{Add, Count}
+use Rattle.live_tables.specs.declared.counters.CounterRequest.{CounterRequest}
+use Rattle.live_tables.specs.declared.counters.CounterRequest.TheVariants.{Add, Count}
 use Rattle.live_tables.specs.counters.Counters.{AreOwn, CanBeNext, added, CounterWorkerState, Keeps, counters, objects_of, operation_of, total_after, total_by, total_next}
 use Rattle.live_tables.specs.rows.Lawful.{Lawful}
 use Rattle.live_tables.specs.rows.Life.{MakeObjects}
@@ -64,12 +64,12 @@ law = record {
 -- ---- a request
 
 -- an add makes one object
-pub made_of : (w : CounterWorkerState) (request : Request)
+pub made_of : (w : CounterWorkerState) (request : CounterRequest)
     → MakeObjects Eight (objects_of request) (commands_of counters (operation_of w request ∷ []))
 made_of w (Add n) = record { objects = refl; units = λ rate. omega arith }
 made_of w (Count u) = record { objects = refl; units = λ rate. omega arith }
 
-pub few_objects : (request : Request) → objects_of request ≤ 2
+pub few_objects : (request : CounterRequest) → objects_of request ≤ 2
 few_objects (Add n) = omega arith
 few_objects (Count u) = omega arith
 
@@ -80,13 +80,13 @@ total_more n (Keep i v ∷ ops) op = total_more v ops op
 total_more n (Recall i ∷ ops) op = total_more n ops op
 
 -- what is added fits in a field
-pub fits_on : (w : CounterWorkerState) (request : Request) (c : Config) (t total : ℕ)
+pub fits_on : (w : CounterWorkerState) (request : CounterRequest) (c : Config) (t total : ℕ)
     → Keeps c t w.done total → CanBeNext c.shared t w.done (operation_of w request)
     → total + added request < 2 ^ 62
 fits_on w (Add n) c t total is next = omega (arith, is.total_so, next.3)
 fits_on w (Count u) c t total is next = omega (arith, is.small)
 
-pub keeps_on : (w : CounterWorkerState) (request : Request) (c : Config) (t total : ℕ)
+pub keeps_on : (w : CounterWorkerState) (request : CounterRequest) (c : Config) (t total : ℕ)
     → Keeps c t w.done total → CanBeNext c.shared t w.done (operation_of w request)
     → Keeps c t (w.done ++ operation_of w request ∷ []) (total_next request total)
 keeps_on w (Add n) c t total is next = record {

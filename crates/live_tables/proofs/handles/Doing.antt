@@ -7,8 +7,8 @@ use Rattle.array_tables.specs.handle_table.Handles.{Deed, Make, See, Drop, Take,
 use Rattle.live_tables.specs.rows.Kept.{IsTableWorker}
 use Rattle.live_tables.specs.rows.Workers.{IsNext, row_worker}
 use Rattle.live_tables.specs.declared.handles.kind.Held.{Held}
-use Rattle.live_tables.specs.declared.handles.request.Request.{Request}
-use Rattle.live_tables.specs.declared.handles.request.Request.TheVariants as asks
+use Rattle.live_tables.specs.declared.handles.request.HandleRequest.{HandleRequest}
+use Rattle.live_tables.specs.declared.handles.request.HandleRequest.TheVariants as asks
 use Rattle.live_tables.specs.handles.Kept.{Keeps, NamesHandle, makes, slot_next}
 use Rattle.live_tables.specs.handles.Live.{CanFollow, HandleWorkerState, IsInRange, IsMade, deed_of, handles, is_known, known_slot, place_in, slots_of}
 use Rattle.live_tables.specs.handles.Makes.{last_by, made_behind, made_by, slot_by, slots_behind}
@@ -34,7 +34,7 @@ module _ (old : WorkerState) (held : Held) (is : IsTableWorker handles Keeps old
       (k.0, subst (λ (o : Option ℕ). place_in o < slots_of w) (sym m.1) k.1)
 
   -- what is in range can come next
-  pub is_next : (request : Request) → IsInRange (slots_of w) request → IsMade w request
+  pub is_next : (request : HandleRequest) → IsInRange (slots_of w) request → IsMade w request
       → IsNext handles w (deed_of w request)
   is_next (asks.Make h i x) range can = (refl, refl, range.0, range.1, range.2)
   is_next (asks.See h) range can = let k = known h can in (refl, omega (arith, k.0), range, k.1)
@@ -42,7 +42,7 @@ module _ (old : WorkerState) (held : Held) (is : IsTableWorker handles Keeps old
   is_next (asks.Take i) range can = range
   is_next (asks.Evict i) range can = range
 
-pub names_of : (slots t n : ℕ) (last : ℕ → ℕ) (w : HandleWorkerState) (request : Request)
+pub names_of : (slots t n : ℕ) (last : ℕ → ℕ) (w : HandleWorkerState) (request : HandleRequest)
     → CanFollow slots t n last (deed_of w request) → NamesHandle request
 names_of slots t n last w (asks.Make h i x) can = can.2
 names_of slots t n last w (asks.See h) can = tt
@@ -52,7 +52,7 @@ names_of slots t n last w (asks.Evict i) can = tt
 
 module _ (w : HandleWorkerState) where
   -- one make more, where the request is a make
-  made_of : (request : Request) (n : ℕ)
+  made_of : (request : HandleRequest) (n : ℕ)
       → made_behind n (deed_of w request ∷ []) ≡ n + makes request
   made_of (asks.Make h i x) n = omega arith
   made_of (asks.See h) n = omega arith
@@ -60,7 +60,7 @@ module _ (w : HandleWorkerState) where
   made_of (asks.Take i) n = omega arith
   made_of (asks.Evict i) n = omega arith
 
-  slots_of_next : (request : Request) (slot : ℕ → Option ℕ)
+  slots_of_next : (request : HandleRequest) (slot : ℕ → Option ℕ)
       → slots_behind slot (deed_of w request ∷ []) ≡ slot_next request slot
   slots_of_next (asks.Make h i x) slot = refl
   slots_of_next (asks.See h) slot = refl
@@ -68,7 +68,7 @@ module _ (w : HandleWorkerState) where
   slots_of_next (asks.Take i) slot = refl
   slots_of_next (asks.Evict i) slot = refl
 
-  slot_next_at : (request : Request) (f g : ℕ → Option ℕ) (h : ℕ) → f h ≡ g h
+  slot_next_at : (request : HandleRequest) (f g : ℕ → Option ℕ) (h : ℕ) → f h ≡ g h
       → slot_next request f h ≡ slot_next request g h
   slot_next_at (asks.Make k i x) f g h e = ap (λ o. cond (k == h) (Some i) o) e
   slot_next_at (asks.See k) f g h e = e
@@ -76,7 +76,7 @@ module _ (w : HandleWorkerState) where
   slot_next_at (asks.Take i) f g h e = e
   slot_next_at (asks.Evict i) f g h e = e
 
-  pub keeps_on : (request : Request) (held next : Held) → next.made ≡ held.made + makes request
+  pub keeps_on : (request : HandleRequest) (held next : Held) → next.made ≡ held.made + makes request
       → ((h : ℕ) → h < 8 → slice_index_or next.slots h None
       ≡ slot_next request (λ g. slice_index_or held.slots g None) h)
       → (c : Config) (t : ℕ) (ops : List Deed) → Keeps c t ops held

@@ -8,18 +8,18 @@ use Rattle.array_tables.specs.number_rings.Rings.{Operation, Keep, Recall}
 use Rattle.live_tables.specs.rows.Kept.{IsTableWorker}
 use Rattle.live_tables.specs.rows.Life.{MakeObjects}
 use Rattle.live_tables.specs.rows.Workers.{IsNext, row_worker}
-use Rattle.live_tables.specs.declared.rings.request.Request.{Request}
-use Rattle.live_tables.specs.declared.rings.request.Request.TheVariants as asks
+use Rattle.live_tables.specs.declared.rings.request.RingRequest.{RingRequest}
+use Rattle.live_tables.specs.declared.rings.request.RingRequest.TheVariants as asks
 use Rattle.live_tables.specs.rings.Live.{IsInRange, Keeps, RingWorkerState, commands_of, keeping, kept_behind, kept_by, operation_of, rings}
 use Rattle.live_tables.proofs.rings.OneMore.{kept_more}
 
 -- a keep makes one object
-pub made_of : (w : RingWorkerState) (request : Request)
+pub made_of : (w : RingWorkerState) (request : RingRequest)
     → MakeObjects Eight (keeping request) (commands_of (operation_of w request ∷ []))
 made_of w (asks.Keep v) = record { objects = refl; units = λ rate. omega arith }
 made_of w (asks.Recall u k) = record { objects = refl; units = λ rate. omega arith }
 
-pub few_objects : (request : Request) → keeping request ≤ 2
+pub few_objects : (request : RingRequest) → keeping request ≤ 2
 few_objects (asks.Keep v) = omega arith
 few_objects (asks.Recall u k) = omega arith
 
@@ -31,7 +31,7 @@ kept_few n (Recall i ∷ ops) = omega (arith, kept_few n ops)
 
 -- what is in range can come next
 pub is_next : (old : WorkerState) (kept : ℕ) → IsTableWorker rings Keeps old kept
-    → (request : Request) → IsInRange old.thread.config.threads request
+    → (request : RingRequest) → IsInRange old.thread.config.threads request
     → IsNext rings (row_worker rings old) (operation_of (row_worker rings old) request)
 is_next old kept is (asks.Keep v) range =
     let lower : 0 < 8 = omega arith in (
@@ -42,12 +42,12 @@ is_next old kept is (asks.Keep v) range =
 is_next old kept is (asks.Recall u k) range = omega (arith, is.keeps.places, range.0, range.1)
 
 -- one number more, where the request keeps one
-kept_of : (w : RingWorkerState) (request : Request) (n : ℕ)
+kept_of : (w : RingWorkerState) (request : RingRequest) (n : ℕ)
     → kept_behind n (operation_of w request ∷ []) ≡ n + keeping request
 kept_of w (asks.Keep v) n = refl
 kept_of w (asks.Recall u k) n = omega arith
 
-pub keeps_on : (w : RingWorkerState) (request : Request) (kept next : ℕ)
+pub keeps_on : (w : RingWorkerState) (request : RingRequest) (kept next : ℕ)
     → next ≡ kept + keeping request → (c : Config) (t : ℕ) (ops : List Operation)
     → Keeps c t ops kept → Keeps c t (ops ++ operation_of w request ∷ []) next
 keeps_on w request kept next counts c t ops is = record {

@@ -4,8 +4,8 @@ use Rattle.array_trees.specs.Trees.{array_blocks}
 use Rattle.block_store.specs.declared.Config.{Config}
 use Rattle.block_store.specs.declared.Width.TheVariants.{Eight}
 use Rattle.array_tables.specs.number_rings.Rings.{Operation, Keep, Recall, Cell, Row, AreInCells, cell_config}
-use Rattle.live_tables.specs.declared.counters.Request.{Request}
-use Rattle.live_tables.specs.declared.counters.Request.TheVariants.{Add, Count}
+use Rattle.live_tables.specs.declared.counters.CounterRequest.{CounterRequest}
+use Rattle.live_tables.specs.declared.counters.CounterRequest.TheVariants.{Add, Count}
 use Rattle.live_tables.specs.rings.Live.{rings}
 use Rattle.live_tables.specs.rows.Rows.{Rows}
 use Rattle.live_tables.specs.rows.Workers.{RowWorkerState, thread_of}
@@ -45,20 +45,20 @@ abbrev pub threads_of : CounterWorkerState → ℕ
 threads_of w = w.worker.thread.config.threads
 
 -- the operation that a worker is asked for
-abbrev pub operation_of : CounterWorkerState → Request → Operation
+abbrev pub operation_of : CounterWorkerState → CounterRequest → Operation
 operation_of w (Add n) = Keep (thread_of w) (total_by w.done + n)
 operation_of w (Count u) = Recall u
 
 -- how many objects a request makes, what it adds, and what the counter holds then
-abbrev pub objects_of : Request → ℕ
+abbrev pub objects_of : CounterRequest → ℕ
 objects_of (Add n) = 1
 objects_of (Count u) = 0
 
-abbrev pub added : Request → ℕ
+abbrev pub added : CounterRequest → ℕ
 added (Add n) = n
 added (Count u) = 0
 
-abbrev pub total_next : Request → ℕ → ℕ
+abbrev pub total_next : CounterRequest → ℕ → ℕ
 total_next (Add n) total = total + n
 total_next (Count u) total = total
 

@@ -14,8 +14,8 @@ use Rattle.live_tables.specs.declared.handles.faults.Refused.{Refused}
 use Rattle.live_tables.specs.declared.handles.faults.Refused.TheVariants.{OutOfRange, NotMade, NoLifeLeft}
 use Rattle.live_tables.specs.declared.handles.faults.OpenFault.{OpenFault}
 use Rattle.live_tables.specs.declared.handles.faults.OpenFault.TheVariants as faults
-use Rattle.live_tables.specs.declared.handles.request.Request.{Request}
-use Rattle.live_tables.specs.declared.handles.request.Request.TheVariants as asks
+use Rattle.live_tables.specs.declared.handles.request.HandleRequest.{HandleRequest}
+use Rattle.live_tables.specs.declared.handles.request.HandleRequest.TheVariants as asks
 use Rattle.live_tables.specs.handles.Decoding.{deeds_of}
 use Rattle.live_tables.specs.handles.Makes.{last_by, made_by, slot_by}
 
@@ -86,7 +86,7 @@ place_in None = 0
 place_in (Some i) = i
 
 -- the deed: the next make of the worker, or one on the last make of h, at its slot
-abbrev pub deed_of : HandleWorkerState → Request → Deed
+abbrev pub deed_of : HandleWorkerState → HandleRequest → Deed
 deed_of w (asks.Make h i x) = Make (thread_of w) (made_by w.done) h i x
 deed_of w (asks.See h) =
     See (thread_of w) (last_by w.done h - 1) h (place_in (known_slot w h))
@@ -96,7 +96,7 @@ deed_of w (asks.Take i) = Take i
 deed_of w (asks.Evict i) = Evict i
 
 -- its ranges
-abbrev pub IsInRange : ℕ → Request → Type 0
+abbrev pub IsInRange : ℕ → HandleRequest → Type 0
 IsInRange slots (asks.Make h i x) = (h < 8) × (i < slots) × (x < 2 ^ 62)
 IsInRange slots (asks.See h) = h < 8
 IsInRange slots (asks.Release h) = h < 8
@@ -104,7 +104,7 @@ IsInRange slots (asks.Take i) = i < slots
 IsInRange slots (asks.Evict i) = i < slots
 
 -- the worker has made the handle that is named
-abbrev pub IsMade : HandleWorkerState → Request → Type 0
+abbrev pub IsMade : HandleWorkerState → HandleRequest → Type 0
 IsMade w (asks.See h) = IsTrue (is_known (known_slot w h))
 IsMade w (asks.Release h) = IsTrue (is_known (known_slot w h))
 IsMade w _ = Unit {0}
@@ -114,11 +114,11 @@ abbrev pub HasLife : HandleWorkerState → Deed → Type 0
 HasLife w op = workers.HasLife handles w op
 
 -- it can do what it is asked
-abbrev pub CanDo : HandleWorkerState → Request → Type 0
+abbrev pub CanDo : HandleWorkerState → HandleRequest → Type 0
 CanDo w u = IsInRange (slots_of w) u × IsMade w u × HasLife w (deed_of w u)
 
 -- the cause of each refusal
-abbrev pub IsRefused : HandleWorkerState → Request → Refused → Type 0
+abbrev pub IsRefused : HandleWorkerState → HandleRequest → Refused → Type 0
 IsRefused w u OutOfRange = ¬ IsInRange (slots_of w) u
 IsRefused w u NotMade = IsInRange (slots_of w) u × ¬ IsMade w u
 IsRefused w u NoLifeLeft = IsInRange (slots_of w) u × IsMade w u × ¬ HasLife w (deed_of w u)

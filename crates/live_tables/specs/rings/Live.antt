@@ -14,8 +14,8 @@ use Rattle.live_tables.specs.declared.rings.faults.Refused.{Refused}
 use Rattle.live_tables.specs.declared.rings.faults.Refused.TheVariants.{OutOfRange, NoLifeLeft}
 use Rattle.live_tables.specs.declared.rings.faults.OpenFault.{OpenFault}
 use Rattle.live_tables.specs.declared.rings.faults.OpenFault.TheVariants as faults
-use Rattle.live_tables.specs.declared.rings.request.Request.{Request}
-use Rattle.live_tables.specs.declared.rings.request.Request.TheVariants as asks
+use Rattle.live_tables.specs.declared.rings.request.RingRequest.{RingRequest}
+use Rattle.live_tables.specs.declared.rings.request.RingRequest.TheVariants as asks
 use Rattle.live_tables.specs.rings.Decoding.{operations_of}
 
 -- how many numbers were kept, behind n others
@@ -81,12 +81,12 @@ AreOfEight c = c.shared ≡ 8 * c.threads
 -- ---- what a worker is asked to do
 
 -- the operation: a keep at the next place of the worker's own ring, or a recall of any place
-abbrev pub operation_of : RingWorkerState → Request → Operation
+abbrev pub operation_of : RingWorkerState → RingRequest → Operation
 operation_of w (asks.Keep v) = Keep (ring_place (thread_of w) (kept_by w.done)) v
 operation_of w (asks.Recall u k) = Recall (8 * u + k)
 
 -- its ranges: a number fits in a field, and a place is one of eight of a thread's ring
-abbrev pub IsInRange : ℕ → Request → Type 0
+abbrev pub IsInRange : ℕ → RingRequest → Type 0
 IsInRange threads (asks.Keep v) = v < 2 ^ 62
 IsInRange threads (asks.Recall u k) = (u < threads) × (k < 8)
 
@@ -99,11 +99,11 @@ abbrev pub HasLife : RingWorkerState → Operation → Type 0
 HasLife w op = workers.HasLife rings w op
 
 -- it can do what it is asked
-abbrev pub CanDo : RingWorkerState → Request → Type 0
+abbrev pub CanDo : RingWorkerState → RingRequest → Type 0
 CanDo w u = IsInRange (threads_of w) u × HasLife w (operation_of w u)
 
 -- the cause of each refusal
-abbrev pub IsRefused : RingWorkerState → Request → Refused → Type 0
+abbrev pub IsRefused : RingWorkerState → RingRequest → Refused → Type 0
 IsRefused w u OutOfRange = ¬ IsInRange (threads_of w) u
 IsRefused w u NoLifeLeft = IsInRange (threads_of w) u × ¬ HasLife w (operation_of w u)
 
@@ -134,7 +134,7 @@ HaveOneOrder c ws cycles = orders.HaveOneOrder rings c ws cycles
 -- ---- within a worker
 
 -- how many numbers a request keeps
-abbrev pub keeping : Request → ℕ
+abbrev pub keeping : RingRequest → ℕ
 keeping (asks.Keep v) = 1
 keeping _ = 0
 

@@ -2,6 +2,7 @@
 use Rattle.std.specs.Prelude.{ℕ, ◌≤◌, ◌≡◌, ◌*◌, List}
 use Rattle.block_store.specs.declared.Config.{Config}
 use Rattle.never_heap.specs.declared.Command.{Command}
+use Rattle.never_heap.specs.Histories.{HistoryItem}
 use Rattle.array_tables.specs.operations.Linearizations.{Call}
 use Rattle.shared_heap.specs.declared.rules.Moment.{Moment}
 use Rattle.shared_heap.specs.Workers.{CanOpen}
@@ -97,9 +98,11 @@ abbrev pub IsOpenFault : ℕ → ℕ → OpenFault → Type 0
 IsOpenFault tags threads faults.OutOfRange = ¬ IsTableInRange tags threads
 IsOpenFault tags threads faults.NoMemory =
     IsTableInRange tags threads × CanOpen (opened_config threads tags)
-    -- This is the worker of thread t. It did the operations of the thread's script, and its answers are
-    -- those of the thread's calls in the order. The timeline has the invocations of its commands. What
-    -- it has seen is a prefix of the timeline and of the history.
+
+-- This is the worker of thread t. It did the operations of the thread's script, and its answers are
+-- those of the thread's calls in the order. The timeline has the invocations of its commands. What
+-- it has seen is a prefix of the timeline and of the history.
+abbrev pub HasScript : List (List Operation) → List Moment → List HistoryItem
     → List (Call Operation Tag) → ℕ → TagWorkerState → Type 0
 HasScript scripts timeline history order t w =
     orders.HasScript scripts timeline history order t w

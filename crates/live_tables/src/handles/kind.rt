@@ -1,7 +1,7 @@
 //! Handles in slots as a kind of tables.
 
 use crate::handles::commands::{made_next, objects_in, slots_next};
-use crate::handles::request::Request;
+use crate::handles::request::HandleRequest;
 use crate::kind::Table;
 use crate::table::{LiveTable, TableNote};
 use crate::worker::TableWorker;
@@ -71,7 +71,7 @@ impl Table for Handles {
 
     type Answer = HandleAnswer;
 
-    type Request = Request;
+    type Request = HandleRequest;
 
     type Own = Held;
 
@@ -94,11 +94,11 @@ impl Table for Handles {
         }
     }
 
-    fn objects_in(request: &Request) -> u64 {
+    fn objects_in(request: &HandleRequest) -> u64 {
         objects_in(request)
     }
 
-    fn next(held: Held, request: &Request) -> Held {
+    fn next(held: Held, request: &HandleRequest) -> Held {
         let made = made_next(held.made, request);
         let slots = slots_next(held.slots, request);
         Held { made, slots }

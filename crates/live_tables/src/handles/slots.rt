@@ -3,7 +3,7 @@
 ghost use Rattle.std.specs.Prelude.{◌≡◌, ◌<◌, ◌∷◌, [], ◌↔◌, IsTrue, IfOk, IfErr, OnOk, OnErr, IfSome};
 ghost use Rattle.shared_heap.specs.Workers.{CanOpen};
 ghost use Rattle.array_tables.specs.handle_table.Handles.{Matched, Found};
-ghost use Rattle.live_tables.specs.declared.handles.request.Request.TheVariants as asks;
+ghost use Rattle.live_tables.specs.declared.handles.request.HandleRequest.TheVariants as asks;
 ghost use Rattle.live_tables.specs.rows.Workers.{AreEachOnce, AreFresh, AreInOrder, IsNext, IsOf, IsSameWorker};
 ghost use Rattle.live_tables.specs.handles.Live.{CanDo, HasDone, IsInRange, IsMade, IsOpenFault, IsRefused, IsTableInRange, answer_by, commands_of, deed_of, handles, known_slot, opened_config, slots_of};
 
@@ -13,7 +13,7 @@ use crate::handles::commands::{
 };
 use crate::handles::faults::{OpenFault, Refused};
 use crate::handles::kind::{HandleWorker, Handles, LiveHandles};
-use crate::handles::request::Request;
+use crate::handles::request::HandleRequest;
 use crate::table::{LiveTable, opened};
 use crate::worker::TableWorker;
 use array_trees::blocks_of_array;
@@ -33,18 +33,20 @@ impl TableWorker<Handles> {
 }
 
 // Whether the worker has made the handle that a request names.
-fn is_made(who: &HandleWorker, request: &Request) -> bool
+fn is_made(who: &HandleWorker, request: &HandleRequest) -> bool
     requires { IsInRange (slots_of who.now) request.now }
     ensures { IsTrue result ↔ IsMade who.now request.now }
 {
     match *request {
-        Request::See { handle } | Request::Release { handle } => is_known(who.slot_of(handle)),
+        HandleRequest::See { handle } | HandleRequest::Release { handle } => is_known(who.slot_of(
+            handle,
+        )),
         _ => true,
     }
 }
 
 // Checks the range of a request, and that the worker has made its handle.
-fn checked(who: &HandleWorker, request: &Request) -> Result<(), Refused>
+fn checked(who: &HandleWorker, request: &HandleRequest) -> Result<(), Refused>
     ensures can { OnOk result
         (IsInRange (slots_of who.now) request.now × IsMade who.now request.now) }
     ensures next { OnOk result (IsNext handles who.now (deed_of who.now request.now)) }
@@ -65,7 +67,7 @@ fn done<R: Wait>(
     rt: &R,
     table: &LiveHandles,
     who: &mut HandleWorker,
-    request: Request,
+    request: HandleRequest,
     commands: &[Command],
 ) -> Result<(Reply, Reply, Reply), Refused>
     requires own { IsOf table.now who.old }
@@ -177,7 +179,7 @@ impl LiveTable<Handles> {
         ensures refused { IfErr result (IsRefused who.old (asks.Make handle slot number)) }
         ensures unchanged { OnErr result (who.new ≡ who.old) }
     {
-        let request = Request::Make {
+        let request = HandleRequest::Make {
             handle,
             slot,
             number,
@@ -205,7 +207,7 @@ impl LiveTable<Handles> {
         ensures refused { IfErr result (IsRefused who.old (asks.See handle)) }
         ensures unchanged { OnErr result (who.new ≡ who.old) }
     {
-        let request = Request::See { handle };
+        let request = HandleRequest::See { handle };
         checked(who, &request)?;
         let slot = place(who.slot_of(handle));
         let commands = see_commands(handle, slot);
@@ -233,7 +235,7 @@ impl LiveTable<Handles> {
         ensures refused { IfErr result (IsRefused who.old (asks.Release handle)) }
         ensures unchanged { OnErr result (who.new ≡ who.old) }
     {
-        let request = Request::Release { handle };
+        let request = HandleRequest::Release { handle };
         checked(who, &request)?;
         let slot = place(who.slot_of(handle));
         let commands = release_commands(handle, slot);
@@ -260,7 +262,7 @@ impl LiveTable<Handles> {
         ensures refused { IfErr result (IsRefused who.old (asks.Take slot)) }
         ensures unchanged { OnErr result (who.new ≡ who.old) }
     {
-        let request = Request::Take { slot };
+        let request = HandleRequest::Take { slot };
         checked(who, &request)?;
         let commands = take_commands(slot);
         let (id, _, number) = done(rt, self, who, request, &commands)?;
@@ -286,7 +288,7 @@ impl LiveTable<Handles> {
         ensures refused { IfErr result (IsRefused who.old (asks.Evict slot)) }
         ensures unchanged { OnErr result (who.new ≡ who.old) }
     {
-        let request = Request::Evict { slot };
+        let request = HandleRequest::Evict { slot };
         checked(who, &request)?;
         let commands = evict_commands(slot);
         let (id, _, number) = done(rt, self, who, request, &commands)?;

@@ -3,14 +3,14 @@
 ghost use Rattle.std.specs.Prelude.{◌≡◌, ◌∷◌, [], None, IfOk, IfErr, OnOk, OnErr, IfSome};
 ghost use Rattle.shared_heap.specs.Workers.{CanOpen};
 ghost use Rattle.array_tables.specs.number_rings.Rings.{ring_config};
-ghost use Rattle.live_tables.specs.declared.rings.request.Request.TheVariants as asks;
+ghost use Rattle.live_tables.specs.declared.rings.request.RingRequest.TheVariants as asks;
 ghost use Rattle.live_tables.specs.rows.Workers.{AreEachOnce, AreFresh, AreInOrder, IsNext, IsOf, IsSameWorker};
 ghost use Rattle.live_tables.specs.rings.Live.{AreRingsInRange, CanDo, HasDone, IsInRange, IsOpenFault, IsRefused, answer_by, commands_of, kept_by, operation_of, rings, threads_of};
 
 use crate::rings::commands::{in_range, keep_commands, next_place, number, recall_commands};
 use crate::rings::faults::{OpenFault, Refused};
 use crate::rings::kind::{LiveRings, RingWorker, Rings};
-use crate::rings::request::Request;
+use crate::rings::request::RingRequest;
 use crate::table::{LiveTable, opened};
 use crate::worker::TableWorker;
 use array_tables::number_rings::config_of_rings;
@@ -28,7 +28,7 @@ impl TableWorker<Rings> {
 }
 
 // Checks the range of a request.
-fn checked(who: &RingWorker, request: &Request) -> Result<(), Refused>
+fn checked(who: &RingWorker, request: &RingRequest) -> Result<(), Refused>
     ensures can { OnOk result (IsInRange (threads_of who.now) request.now) }
     ensures next { OnOk result (IsNext rings who.now (operation_of who.now request.now)) }
     ensures refused { IfErr result (IsRefused who.now request.now) }
@@ -45,7 +45,7 @@ fn done<R: Wait>(
     rt: &R,
     table: &LiveRings,
     who: &mut RingWorker,
-    request: Request,
+    request: RingRequest,
     commands: &[Command],
 ) -> Result<(Reply, Reply, Reply), Refused>
     requires own { IsOf table.now who.old }
@@ -125,7 +125,7 @@ impl LiveTable<Rings> {
         ensures refused { IfErr result (IsRefused who.old (asks.Keep number)) }
         ensures unchanged { OnErr result (who.new ≡ who.old) }
     {
-        let request = Request::Keep { number };
+        let request = RingRequest::Keep { number };
         checked(who, &request)?;
         let commands = keep_commands(next_place(who.thread(), who.own), number);
         done(rt, self, who, request, &commands)?;
@@ -153,7 +153,7 @@ impl LiveTable<Rings> {
         ensures refused { IfErr result (IsRefused who.old (asks.Recall thread place)) }
         ensures unchanged { OnErr result (who.new ≡ who.old) }
     {
-        let request = Request::Recall { thread, place };
+        let request = RingRequest::Recall { thread, place };
         checked(who, &request)?;
         let commands = recall_commands(u64::from(thread) * 8 + u64::from(place));
         let (_, _, last) = done(rt, self, who, request, &commands)?;

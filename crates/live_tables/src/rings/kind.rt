@@ -2,7 +2,7 @@
 
 use crate::kind::Table;
 use crate::rings::commands::{kept_next, objects_in};
-use crate::rings::request::Request;
+use crate::rings::request::RingRequest;
 use crate::table::{LiveTable, TableNote};
 use crate::worker::TableWorker;
 use std::marker::Model;
@@ -45,7 +45,7 @@ impl Table for Rings {
 
     type Answer = Option<u64>;
 
-    type Request = Request;
+    type Request = RingRequest;
 
     type Own = u64;
 
@@ -65,11 +65,11 @@ impl Table for Rings {
         0
     }
 
-    fn objects_in(request: &Request) -> u64 {
+    fn objects_in(request: &RingRequest) -> u64 {
         objects_in(request)
     }
 
-    fn next(kept: u64, request: &Request) -> u64 {
+    fn next(kept: u64, request: &RingRequest) -> u64 {
         kept_next(kept, request)
     }
 
