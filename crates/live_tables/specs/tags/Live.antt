@@ -48,19 +48,6 @@ TagWorkerState = RowWorkerState Operation Tag
 abbrev pub commands_of : List Operation → List Command
 commands_of ops = rows.commands_of tags ops
 
--- the heap of a table, of any number of blocks
-abbrev pub IsTagHeap : Config → Type 0
-IsTagHeap c = rows.IsRowHeap tags c
-
--- a worker of the heap has executed the commands of operations on places of the table, and no
--- others
-abbrev pub IsTagWorker : WorkerState → Type 0
-IsTagWorker w = workers.IsRowWorker tags w
-
--- the value of a worker in contracts
-abbrev pub tag_worker : WorkerState → TagWorkerState
-tag_worker w = workers.row_worker tags w
-
 -- the heap of a table as it is opened
 abbrev pub opened_config : ℕ → ℕ → Config
 opened_config threads tags =
@@ -73,11 +60,6 @@ HasLife w op = workers.HasLife tags w op
 -- it can do the operation
 abbrev pub CanDo : TagWorkerState → Operation → Type 0
 CanDo w op = IsOperationInRange (places_of w) op × HasLife w op
-
--- A worker's entries are its part of what it has seen, and their commands are those of its
--- operations.
-abbrev pub HasSeenAll : TagWorkerState → Type 0
-HasSeenAll w = workers.HasSeenAll tags w
 
 -- The worker has done one more operation, with this answer, after all that it had seen and learned.
 abbrev pub HasDone : TagWorkerState → Operation → Tag → TagWorkerState → Type 0

@@ -1,7 +1,7 @@
 use Rattle.std.proofs.Common.{ℕ, ◌∙◌, ◌∷◌, [], ap}
 use Rattle.array_tables.specs.handle_table.Handles.{Drop}
 use Rattle.live_tables.specs.handles.Live.{commands_of, place_in}
-use Rattle.live_tables.proofs.handles.slots.LiveHandles.release.Goals as goal
+use Rattle.live_tables.proofs.handles.slots.LiveTable+Handles.release.Goals as goal
 
 -- the commands of a release do not name the make that it is about
 pub done-requires-clause-commands : goal.done-requires-clause-commands
