@@ -2,15 +2,16 @@
 //! and reads those of all. This is the shortest kind of tables; the README says what is in it.
 
 ghost use Rattle.std.specs.Prelude.{◌≡◌, ◌≤◌, ◌<◌, ◌+◌, ◌∷◌, ◌^◌, [], None, IfSome};
-ghost use Rattle.array_tables.specs.number_rings.Rings.{Keep, Recall, number_of};
+ghost use Rattle.array_tables.specs.number_rings.Rings.{Recall};
 ghost use Rattle.shared_heap.specs.Workers.{CanOpen};
-ghost use Rattle.live_tables.specs.declared.counters.CounterRequest.TheVariants as asks;
-ghost use Rattle.live_tables.specs.rows.Rows.{commands_of};
-ghost use Rattle.live_tables.specs.rows.Workers.{AreEachOnce, AreFresh, AreInOrder, HasDone, HasLife, IsNext, IsOf, IsSameWorker};
-ghost use Rattle.live_tables.specs.counters.Counters.{added, counters, objects_of, opened_config, operation_of, threads_of, total_by, total_next};
+ghost use Rattle.live_tables.specs.counters.Counters as counted;
+ghost use Rattle.live_tables.specs.rows.Workers.{AreEachOnce, AreFresh, AreInOrder, HasDone, HasLife, IsOf, IsSameWorker};
+ghost use Rattle.live_tables.specs.counters.Counters.{addition, counters, opened_config, threads_of, total_by};
 
 use crate::kind::Table;
-use crate::rings::{RingOperation, keep_commands, number, recall_commands};
+use crate::rings::{
+    RingOperation, RingRequest, keep_commands, number, objects_in, recall_commands,
+};
 use crate::table::{LiveTable, opened};
 use crate::worker::TableWorker;
 use array_trees::blocks_of_array;
@@ -28,15 +29,6 @@ pub type LiveCounters = LiveTable<Counters>;
 /// One thread of counters. In memory it has its last command, and what its counter holds.
 pub type CounterWorker = TableWorker<Counters>;
 
-/// A request of a worker.
-#[derive(Clone, Copy, Debug, PartialEq, Eq)]
-pub enum CounterRequest {
-    /// Adds to the worker's own counter.
-    Add { amount: u64 },
-    /// Shows what a thread's counter holds.
-    Count { thread: u32 },
-}
-
 impl Table for Counters {
     ghost use Rattle.std.specs.Prelude.{List};
     ghost use Rattle.array_tables.specs.number_rings.Rings.{Cell, Row};
@@ -46,7 +38,7 @@ impl Table for Counters {
 
     type Answer = Option<u64>;
 
-    type Request = CounterRequest;
+    type Request = RingRequest;
 
     type Own = u64;
 
@@ -66,35 +58,24 @@ impl Table for Counters {
         0
     }
 
-    fn objects_in(request: &CounterRequest) -> u64 {
+    fn objects_in(request: &RingRequest) -> u64 {
         objects_in(request)
     }
 
-    fn next(total: u64, request: &CounterRequest) -> u64 {
-        next_total(total, request)
+    fn next(total: u64, request: &RingRequest) -> u64 {
+        total_next(total, request)
     }
 
     fn is_lawful() {}
 }
 
-// How many objects the commands of a request make.
-fn objects_in(request: &CounterRequest) -> u64
-    ensures { result ≡ objects_of request.now }
-{
-    match request {
-        CounterRequest::Add { .. } => 1,
-        CounterRequest::Count { .. } => 0,
-    }
-}
-
 // What a counter holds after a request.
-fn next_total(total: u64, request: &CounterRequest) -> u64
-    requires { total + added request.now < 2 ^ 62 }
-    ensures { result ≡ total_next request.now total }
+fn total_next(total: u64, request: &RingRequest) -> u64
+    ensures { result ≡ counted.total_next total request.now }
 {
     match *request {
-        CounterRequest::Add { amount } => total + amount,
-        CounterRequest::Count { .. } => total,
+        RingRequest::Keep { number } => number,
+        RingRequest::Recall { .. } => total,
     }
 }
 
@@ -153,14 +134,17 @@ impl LiveTable<Counters> {
         ensures same { IsSameWorker who.old who.new }
         ensures before { IfSome result (λ total. total ≡ total_by who.old.done) }
         ensures did { IfSome result (λ total. HasDone counters who.old
-            (operation_of who.old (asks.Add amount)) None who.new) }
+            (addition who.old amount) None who.new) }
         ensures refused { result ≡ None
-            → ¬ HasLife counters who.old (operation_of who.old (asks.Add amount)) }
+            → ¬ HasLife counters who.old (addition who.old amount) }
         ensures unchanged { result ≡ None → who.new ≡ who.old }
     {
         let before = who.own;
         let commands = keep_commands(u64::from(who.thread()), before + amount);
-        self.does(rt, who, CounterRequest::Add { amount }, &commands)?;
+        let request = RingRequest::Keep {
+            number: before + amount,
+        };
+        self.does(rt, who, request, &commands)?;
         Some(before)
     }
 
@@ -180,7 +164,8 @@ impl LiveTable<Counters> {
         ensures unchanged { result ≡ None → who.new ≡ who.old }
     {
         let commands = recall_commands(u64::from(thread));
-        let (_, _, last) = self.does(rt, who, CounterRequest::Count { thread }, &commands)?;
+        let request = RingRequest::Recall { thread, place: 0 };
+        let (_, _, last) = self.does(rt, who, request, &commands)?;
         Some(number(last))
     }
 }

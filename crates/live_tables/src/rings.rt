@@ -6,7 +6,7 @@ mod faults;
 mod kind;
 mod request;
 
-pub(crate) use commands::{keep_commands, number, recall_commands};
+pub(crate) use commands::{keep_commands, number, objects_in, recall_commands};
 pub use faults::{OpenFault, Refused};
 pub use kind::{LiveRings, RingNote, RingOperation, RingWorker, Rings};
 pub use request::RingRequest;

@@ -3,7 +3,8 @@ use Rattle.block_store.specs.declared.Width.TheVariants.{Eight}
 use Rattle.live_tables.specs.counters.Counters.{counters, operation_of}
 use Rattle.live_tables.specs.rows.Life.{MakeObjects}
 use Rattle.live_tables.specs.rows.Rows.{commands_of}
-use Rattle.live_tables.proofs.counters.Lawful.{few_objects, made_of}
+use Rattle.live_tables.proofs.counters.Lawful.{made_of}
+use Rattle.live_tables.proofs.rings.Doing.{few_objects}
 use Rattle.live_tables.proofs.counters.CountersTable.objects_in.Goals as goal
 
 pub returns-clause-few : goal.returns-clause-few
