@@ -5,8 +5,8 @@ ghost use Rattle.std.specs.Prelude.{◌≡◌, ◌≤◌, ◌<◌, ◌+◌, ◌�
 ghost use Rattle.array_tables.specs.number_rings.Rings.{Recall};
 ghost use Rattle.shared_heap.specs.Workers.{CanOpen};
 ghost use Rattle.live_tables.specs.counters.Counters as counted;
-ghost use Rattle.live_tables.specs.rows.Workers.{AreEachOnce, AreFresh, AreInOrder, HasDone, HasLife, IsOf, IsSameWorker};
-ghost use Rattle.live_tables.specs.counters.Counters.{addition, counters, opened_config, threads_of, total_by};
+ghost use Rattle.live_tables.specs.rows.Workers.{AreEachOnce, AreFresh, AreInOrder, HasDone, HasLife, IsOf, IsSameWorker, threads_of};
+ghost use Rattle.live_tables.specs.counters.Counters.{addition, counters, opened_config, total_by};
 
 use crate::kind::Table;
 use crate::rings::{

@@ -1,7 +1,7 @@
 //! A worker: the access of one thread to a table.
 
 ghost use Rattle.std.specs.Prelude.{◌≡◌};
-ghost use Rattle.live_tables.specs.rows.Workers.{thread_of};
+ghost use Rattle.live_tables.specs.rows.Workers.{thread_of, threads_of};
 
 use crate::kind::Table;
 use crate::rows::RowThread;
@@ -36,6 +36,13 @@ impl<K: Table> TableWorker<K> {
         ensures { result ≡ thread_of self.now }
     {
         self.worker.thread()
+    }
+
+    /// How many threads its table has.
+    pub fn threads(&self) -> u32
+        ensures { result ≡ threads_of self.now }
+    {
+        self.worker.config().threads
     }
 }
 

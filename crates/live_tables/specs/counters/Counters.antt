@@ -40,9 +40,6 @@ counters = record rings {
 abbrev pub CounterWorkerState : Type 0
 CounterWorkerState = RowWorkerState Operation Cell
 
-abbrev pub threads_of : CounterWorkerState → ℕ
-threads_of w = w.worker.thread.config.threads
-
 -- what a worker does that adds so much to its own counter
 abbrev pub addition : CounterWorkerState → ℕ → Operation
 addition w n = Keep (thread_of w) (total_by w.done + n)

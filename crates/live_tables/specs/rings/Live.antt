@@ -9,7 +9,7 @@ use Rattle.live_tables.specs.rows.Orders as orders
 use Rattle.live_tables.specs.rows.Rows as rows
 use Rattle.live_tables.specs.rows.Rows.{Rows}
 use Rattle.live_tables.specs.rows.Workers as workers
-use Rattle.live_tables.specs.rows.Workers.{RowWorkerState, thread_of}
+use Rattle.live_tables.specs.rows.Workers.{RowWorkerState, thread_of, threads_of}
 use Rattle.live_tables.specs.declared.rings.faults.Refused.{Refused}
 use Rattle.live_tables.specs.declared.rings.faults.Refused.TheVariants.{OutOfRange, NoLifeLeft}
 use Rattle.live_tables.specs.declared.rings.faults.OpenFault.{OpenFault}
@@ -89,10 +89,6 @@ operation_of w (asks.Recall u k) = Recall (8 * u + k)
 abbrev pub IsInRange : ℕ → RingRequest → Type 0
 IsInRange threads (asks.Keep v) = v < 2 ^ 62
 IsInRange threads (asks.Recall u k) = (u < threads) × (k < 8)
-
--- how many threads there are
-abbrev pub threads_of : RingWorkerState → ℕ
-threads_of w = w.worker.thread.config.threads
 
 -- the worker's lifetime allows all commands of an operation
 abbrev pub HasLife : RingWorkerState → Operation → Type 0

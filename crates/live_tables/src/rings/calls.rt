@@ -4,8 +4,8 @@ ghost use Rattle.std.specs.Prelude.{◌≡◌, ◌∷◌, [], None, IfOk, IfErr,
 ghost use Rattle.shared_heap.specs.Workers.{CanOpen};
 ghost use Rattle.array_tables.specs.number_rings.Rings.{ring_config};
 ghost use Rattle.live_tables.specs.declared.rings.request.RingRequest.TheVariants as asks;
-ghost use Rattle.live_tables.specs.rows.Workers.{AreEachOnce, AreFresh, AreInOrder, IsNext, IsOf, IsSameWorker};
-ghost use Rattle.live_tables.specs.rings.Live.{AreRingsInRange, CanDo, HasDone, IsInRange, IsOpenFault, IsRefused, answer_by, commands_of, kept_by, operation_of, rings, threads_of};
+ghost use Rattle.live_tables.specs.rows.Workers.{AreEachOnce, AreFresh, AreInOrder, IsNext, IsOf, IsSameWorker, threads_of};
+ghost use Rattle.live_tables.specs.rings.Live.{AreRingsInRange, CanDo, HasDone, IsInRange, IsOpenFault, IsRefused, answer_by, commands_of, kept_by, operation_of, rings};
 
 use crate::rings::commands::{in_range, keep_commands, next_place, number, recall_commands};
 use crate::rings::faults::{OpenFault, Refused};

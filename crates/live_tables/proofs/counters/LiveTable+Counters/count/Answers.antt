@@ -1,7 +1,7 @@
 use Rattle.std.proofs.Common.{◌<◌, arith, subst, sym}
 use Rattle.array_tables.specs.number_rings.Rings.{Recall}
-use Rattle.live_tables.specs.counters.Counters.{CounterWorkerState, counters, threads_of}
-use Rattle.live_tables.specs.rows.Workers.{IsNext, row_worker}
+use Rattle.live_tables.specs.counters.Counters.{CounterWorkerState, counters}
+use Rattle.live_tables.specs.rows.Workers.{IsNext, row_worker, threads_of}
 use Rattle.live_tables.proofs.counters.LiveTable+Counters.count.Goals as goal
 
 pub does-requires-clause-next : goal.does-requires-clause-next
