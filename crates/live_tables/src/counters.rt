@@ -163,6 +163,7 @@ impl LiveTable<Counters> {
         ensures refused { result ≡ None → ¬ HasLife counters who.old (Recall thread) }
         ensures unchanged { result ≡ None → who.new ≡ who.old }
     {
+        let _ = &who.own; // what holds of each worker is used
         let commands = recall_commands(u64::from(thread));
         let request = RingRequest::Recall { thread, place: 0 };
         let (_, _, last) = self.does(rt, who, request, &commands)?;

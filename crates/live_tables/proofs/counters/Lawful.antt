@@ -18,23 +18,23 @@ use Rattle.live_tables.proofs.rings.Bounds.{Fits, fits_there}
 use Rattle.live_tables.proofs.rings.Decoded.{begins, decoded, told_one}
 use Rattle.live_tables.proofs.rings.OneMore.{low_more}
 
-own_more : (t : ℕ) (ops : List Operation) (op : Operation) → AreOwn t ops → AreOwn t (op ∷ [])
+pub own_more : (t : ℕ) (ops : List Operation) (op : Operation) → AreOwn t ops → AreOwn t (op ∷ [])
     → AreOwn t (ops ++ op ∷ [])
 own_more t [] op all one = one
 own_more t (Keep i v ∷ ops) op all one = (all.0, own_more t ops op all.1 one)
 own_more t (Recall i ∷ ops) op all one = own_more t ops op all one
 
-next_own : (places t : ℕ) (ops : List Operation) (op : Operation) → CanBeNext places t ops op
+pub next_own : (places t : ℕ) (ops : List Operation) (op : Operation) → CanBeNext places t ops op
     → AreOwn t (op ∷ [])
 next_own places t ops (Keep i v) one = (one.0, tt)
 next_own places t ops (Recall i) one = tt
 
-next_low : (places t : ℕ) (ops : List Operation) (op : Operation) → CanBeNext places t ops op
+pub next_low : (places t : ℕ) (ops : List Operation) (op : Operation) → CanBeNext places t ops op
     → AreInCells places (op ∷ [])
 next_low places t ops (Keep i v) one = (one.1, tt)
 next_low places t ops (Recall i) one = (one, tt)
 
-next_fits : (places t : ℕ) (ops : List Operation) (op : Operation) → CanBeNext places t ops op
+pub next_fits : (places t : ℕ) (ops : List Operation) (op : Operation) → CanBeNext places t ops op
     → Fits places op
 next_fits places t ops (Keep i v) one = (one.1, one.2)
 next_fits places t ops (Recall i) one = one
