@@ -85,24 +85,26 @@ at rest, and one is then asked and alone has turns, its command ends within that
 At `close` every operation was answered as on a plain table, in one order that keeps each worker's
 and real time; an operation comes after all that each worker had done whose view its own had seen or
 learned.""",
-            ["live_tags::LiveTags::open", "live_tags::LiveTags::write",
-             "live_tags::LiveTags::clear", "live_tags::LiveTags::read",
-             "live_tags::LiveTags::note", "live_tags::LiveTags::learn",
-             "live_tags::LiveTags::stamp", "live_tags::LiveTags::close", "live_tags::laws"]),
+            ["live_tables::tags::LiveTable::open", "live_tables::tags::LiveTable::write",
+             "live_tables::tags::LiveTable::clear", "live_tables::tags::LiveTable::read",
+             "live_tables::LiveTable::note", "live_tables::LiveTable::learn",
+             "live_tables::LiveTable::stamp", "live_tables::LiveTable::close",
+             "live_tables::laws"]),
     Promise("live_handles", "Handles in slots", """
 The same of requests, on a plain list of slots.""",
-            ["live_handles::LiveHandles::open", "live_handles::LiveHandles::make",
-             "live_handles::LiveHandles::see", "live_handles::LiveHandles::release",
-             "live_handles::LiveHandles::take", "live_handles::LiveHandles::evict",
-             "live_handles::LiveHandles::note", "live_handles::LiveHandles::learn",
-             "live_handles::LiveHandles::close", "live_handles::laws"]),
+            ["live_tables::handles::LiveTable::open", "live_tables::handles::LiveTable::make",
+             "live_tables::handles::LiveTable::see", "live_tables::handles::LiveTable::release",
+             "live_tables::handles::LiveTable::take", "live_tables::handles::LiveTable::evict",
+             "live_tables::LiveTable::note", "live_tables::LiveTable::learn",
+             "live_tables::LiveTable::stamp", "live_tables::LiveTable::close",
+             "live_tables::laws"]),
     Promise("live_rings", "Rings of numbers", """
 The same of keeps and recalls, on a plain array of places; each keep is at the next place of its
 thread's ring.""",
-            ["live_rings::LiveRings::open", "live_rings::LiveRings::keep",
-             "live_rings::LiveRings::recall", "live_rings::LiveRings::note",
-             "live_rings::LiveRings::learn", "live_rings::LiveRings::close",
-             "live_rings::laws"]),
+            ["live_tables::rings::LiveTable::open", "live_tables::rings::LiveTable::keep",
+             "live_tables::rings::LiveTable::recall", "live_tables::LiveTable::note",
+             "live_tables::LiveTable::learn", "live_tables::LiveTable::stamp",
+             "live_tables::LiveTable::close", "live_tables::laws"]),
     Promise("from_c", "Calls from C", """
 Each command is answered as by `ControlHeap::ask`, with a number for each status and reply; one
 whose status is not 0 changes neither heap nor reply. What C owes is in the type of the handle:

@@ -28,9 +28,9 @@ pub enum Stop {
     /// The heap of the job was not opened.
     OpenShared(shared_heap::OpenFault),
     /// The table of tags was not opened.
-    OpenTable(live_tags::OpenFault),
+    OpenTable(live_tables::tags::OpenFault),
     /// The table refused an operation.
-    TableRefused(live_tags::Refused),
+    TableRefused(live_tables::tags::Refused),
     /// An example failed.
     Example,
     /// A reading on the heap is not what was stored.
@@ -72,7 +72,7 @@ impl Stop {
             Stop::NoJob(fault) => job_status(fault),
             Stop::NoMemory
             | Stop::OpenShared(shared_heap::OpenFault::NoMemory)
-            | Stop::OpenTable(live_tags::OpenFault::NoMemory)
+            | Stop::OpenTable(live_tables::tags::OpenFault::NoMemory)
             | Stop::Open(OpenFault::NoMemory)
             | Stop::NotSaved(NotSaved::NoMemory)
             | Stop::NotRenewed(RenewFault::NoMemory)

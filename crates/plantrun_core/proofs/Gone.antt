@@ -8,10 +8,11 @@ use Rattle.array_tables.specs.operations.Linearizations.{Call, calls_of}
 use Rattle.shared_heap.specs.Workers.{HeapState}
 use Rattle.array_tables.specs.tag_table.Tables.{Tag, empty_table, IsOperationInRange}
 use Rattle.array_tables.specs.declared.tag_table.operation.Operation.{Operation}
-use Rattle.live_tags.specs.Live.{HasScript, HasLife, IsRefused, IsSameWorker, TagWorkerState, places_of, thread_of}
-use Rattle.live_tags.specs.declared.table.Refused.{Refused}
-use Rattle.live_tags.specs.declared.table.Refused.TheVariants.{OutOfRange, NoLifeLeft}
-use Rattle.live_tags.proofs.Crews.{of_same}
+use Rattle.live_tables.specs.tags.Live.{HasScript, HasLife, IsRefused, TagWorkerState}
+use Rattle.live_tables.specs.rows.Workers.{IsSameWorker, places_of, thread_of}
+use Rattle.live_tables.specs.declared.tags.table.Refused.{Refused}
+use Rattle.live_tables.specs.declared.tags.table.Refused.TheVariants.{OutOfRange, NoLifeLeft}
+use Rattle.live_tables.proofs.rows.Crews.{of_same}
 use Rattle.plantrun_core.specs.declared.calls.Done.{Done}
 use Rattle.plantrun_core.specs.declared.calls.Logs.{Logs}
 use Rattle.plantrun_core.specs.declared.crew.Crew.{Crew}

@@ -7,7 +7,8 @@ use Rattle.shared_heap.specs.Workers.{HeapState}
 use Rattle.block_store.specs.declared.Config.{Config}
 use Rattle.std.proofs.lemmas.List.{map-append}
 use Rattle.array_tables.specs.tag_table.Tables.{IsOperationInRange, Tag}
-use Rattle.live_tags.specs.Live.{CanDo, HasDone, IsOf, IsSameWorker, TagWorkerState, opened_config, places_of}
+use Rattle.live_tables.specs.tags.Live.{CanDo, HasDone, TagWorkerState, opened_config}
+use Rattle.live_tables.specs.rows.Workers.{IsOf, IsSameWorker, places_of}
 use Rattle.plantrun_core.specs.declared.calls.Done.{Done}
 use Rattle.plantrun_core.specs.Logs.{IsLog, answer_of, operation_of}
 use Rattle.plantrun_core.specs.Refusals.{AreInRange, all_in_range, in_range}

@@ -5,7 +5,8 @@ use Rattle.std.specs.Vec.{vec_capacity}
 use Rattle.shared_heap.specs.Workers.{HeapState}
 use Rattle.array_tables.specs.tag_table.Tables.{IsOperationInRange}
 use Rattle.array_tables.specs.declared.tag_table.operation.Operation.{Operation}
-use Rattle.live_tags.specs.Live.{TagWorkerState, HasLife, HaveOneTable, IsOf, opened_config, places_of, thread_of}
+use Rattle.live_tables.specs.tags.Live.{TagWorkerState, HasLife, HaveOneTable, opened_config}
+use Rattle.live_tables.specs.rows.Workers.{IsOf, places_of, thread_of}
 use Rattle.plantrun_core.specs.declared.calls.Logs.{Logs}
 use Rattle.plantrun_core.specs.declared.crew.Crew.{Crew}
 use Rattle.plantrun_core.specs.declared.crew.Ends.{Ends}

@@ -3,7 +3,7 @@ use Rattle.std.specs.Prelude.{ℕ, ◌≡◌, List, map}
 use Rattle.array_tables.specs.operations.Linearizations.{Call, calls_of, AreAnswered}
 use Rattle.array_tables.specs.declared.tag_table.operation.Operation.{Operation}
 use Rattle.array_tables.specs.tag_table.Tables.{Tag, answer, table_after, empty_table}
-use Rattle.live_tags.specs.Live.{TagWorkerState}
+use Rattle.live_tables.specs.tags.Live.{TagWorkerState}
 use Rattle.plantrun_core.specs.declared.calls.Done.{Done}
 use Rattle.plantrun_core.specs.declared.calls.Logs.{Logs}
 use Rattle.plantrun_core.specs.declared.calls.Step.{Step}

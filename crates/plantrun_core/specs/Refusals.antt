@@ -4,8 +4,8 @@ use Rattle.std.specs.List.{AllByRecursion}
 use Rattle.array_tables.specs.tag_table.Tables.{Tag, IsOperationInRange}
 use Rattle.array_tables.specs.declared.tag_table.operation.Operation.{Operation}
 use Rattle.array_tables.specs.declared.tag_table.operation.Operation.TheVariants.{Write, Clear, Read}
-use Rattle.live_tags.specs.Live.{TagWorkerState, IsRefused}
-use Rattle.live_tags.specs.declared.table.Refused.{Refused}
+use Rattle.live_tables.specs.tags.Live.{TagWorkerState, IsRefused}
+use Rattle.live_tables.specs.declared.tags.table.Refused.{Refused}
 use Rattle.plantrun_core.specs.declared.calls.Done.{Done}
 
 -- the numbers of a tag fit into a place of the table

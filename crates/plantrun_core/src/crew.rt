@@ -1,9 +1,10 @@
 //! The table with its four workers: how it is opened, used and closed.
-#![tactic(auto, using(live_tags::proofs::Crews::same_first, live_tags::proofs::Crews::same_then, live_tags::proofs::Crews::of_same))]
+#![tactic(auto, using(live_tables::proofs::rows::Crews::same_first, live_tables::proofs::rows::Crews::same_then, live_tables::proofs::rows::Crews::of_same))]
 
 ghost use Rattle.std.specs.Prelude.{ℕ, List, Option, ◌≡◌, ◌+◌, ◌≤◌, ◌∷◌, [], length, false, IfSome};
 ghost use Rattle.std.specs.Vec.{vec_capacity};
-ghost use Rattle.live_tags.specs.Live.{AreFresh, AreInOrder, HaveOneTable, IsFresh, IsOf, IsSameWorker, opened_config};
+ghost use Rattle.live_tables.specs.tags.Live.{HaveOneTable, opened_config};
+ghost use Rattle.live_tables.specs.rows.Workers.{AreFresh, AreInOrder, IsFresh, IsOf, IsSameWorker};
 ghost use Rattle.plantrun_core.specs.Crews as ends;
 ghost use Rattle.plantrun_core.specs.Crews.{AreAtWork, AreOfTable, AreTheirs, HasLogs, HaveEnded, HaveGone, IsCrew, IsGone, IsNew, IsPlantOf, IsWorker};
 ghost use Rattle.plantrun_core.specs.Readings.{room};
@@ -20,7 +21,7 @@ use crate::roles::Role;
 use crate::stops::Stop;
 use crate::telling::Figures;
 use crate::work::{Work, rereads, works};
-use live_tags::{LiveTags, TagWorker};
+use live_tables::tags::{LiveTags, TagWorker};
 use std::alloc::Global;
 use std::sync::Wait;
 use std::sync::atomic::AtomicU64;

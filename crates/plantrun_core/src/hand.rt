@@ -3,7 +3,8 @@
 ghost use Rattle.std.specs.Prelude.{◌≡◌, ◌<◌, ◌∷◌, ◌++◌, [], length, IfErr, IfOk, OnErr, OnOk};
 ghost use Rattle.std.specs.Vec.{vec_capacity};
 ghost use Rattle.array_tables.specs.tag_table.Tables.{IsOperationInRange};
-ghost use Rattle.live_tags.specs.Live.{CanDo, HasDone, IsOf, IsRefused, IsSameWorker, places_of};
+ghost use Rattle.live_tables.specs.tags.Live.{CanDo, HasDone, IsRefused};
+ghost use Rattle.live_tables.specs.rows.Workers.{IsOf, IsSameWorker, places_of};
 ghost use Rattle.plantrun_core.specs.Logs.{IsLog};
 ghost use Rattle.plantrun_core.specs.Refusals.{AreFitting, AreInRange, IsRefusedAfter};
 
@@ -11,7 +12,7 @@ use crate::calls::Done;
 use crate::clock::nanoseconds;
 use crate::telling::Figures;
 use array_tables::tag_table::Operation;
-use live_tags::{LiveTags, Refused, TagWorker};
+use live_tables::tags::{LiveTags, Refused, TagWorker};
 use std::sync::Wait;
 use std::time::Clock;
 

@@ -1,9 +1,9 @@
 //! The thread that takes the readings of the input.
-#![tactic(auto, using(live_tags::proofs::Crews::same_first, live_tags::proofs::Crews::same_then, live_tags::proofs::Crews::of_same))]
+#![tactic(auto, using(live_tables::proofs::rows::Crews::same_first, live_tables::proofs::rows::Crews::same_then, live_tables::proofs::rows::Crews::of_same))]
 
 ghost use Rattle.std.specs.Prelude.{◌≡◌, ◌≤◌, ◌<◌, ◌+◌, ◌∷◌, ◌++◌, ◌^◌, [], length, map, OnErr, OnOk};
 ghost use Rattle.std.specs.Vec.{vec_capacity};
-ghost use Rattle.live_tags.specs.Live.{IsOf, IsSameWorker};
+ghost use Rattle.live_tables.specs.rows.Workers.{IsOf, IsSameWorker};
 ghost use Rattle.plantrun_core.specs.Logs.{operation_of};
 ghost use Rattle.plantrun_core.specs.Readings.{puts, room};
 ghost use Rattle.plantrun_core.specs.Refusals.{IsRefusedAfter};
@@ -15,7 +15,7 @@ use crate::places::INPUTS;
 use crate::readings::{Reading, next_reading};
 use crate::stops::Stop;
 use array_tables::tag_table::Operation;
-use live_tags::LiveTags;
+use live_tables::tags::LiveTags;
 use std::sync::Wait;
 use std::sync::atomic::{AtomicU64, Ordering};
 use std::time::Clock;

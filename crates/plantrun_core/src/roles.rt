@@ -1,9 +1,9 @@
 //! What each thread does.
-#![tactic(auto, using(live_tags::proofs::Crews::same_first, live_tags::proofs::Crews::same_then, live_tags::proofs::Crews::of_same))]
+#![tactic(auto, using(live_tables::proofs::rows::Crews::same_first, live_tables::proofs::rows::Crews::same_then, live_tables::proofs::rows::Crews::of_same))]
 
 ghost use Rattle.std.specs.Prelude.{◌≡◌, ◌≤◌, ◌<◌, ◌+◌, length, IfOk, OnErr};
 ghost use Rattle.std.specs.Vec.{vec_capacity};
-ghost use Rattle.live_tags.specs.Live.{IsOf, IsSameWorker};
+ghost use Rattle.live_tables.specs.rows.Workers.{IsOf, IsSameWorker};
 ghost use Rattle.plantrun_core.specs.Roles.{HasControlled, HasKept, HasScanned, HasScannedTo, HasRecorded, HasTicked, HasWatched, IsFine};
 ghost use Rattle.plantrun_core.specs.Refusals.{IsRefusedAfter};
 ghost use Rattle.plantrun_core.specs.Works.{at_scan, most_at};
@@ -13,7 +13,7 @@ use crate::hand::{Hand, Spent};
 use crate::law::{Loop, value_of};
 use crate::places::{ACKNOWLEDGED, ALARMS, FIRST_KEPT, LISTED, OUTPUT, RING, SET_POINT};
 use array_tables::tag_table::Operation;
-use live_tags::LiveTags;
+use live_tables::tags::LiveTags;
 use std::sync::Wait;
 use std::time::Clock;
 

@@ -1,10 +1,10 @@
 //! A thread that works at ticks.
-#![tactic(auto, using(live_tags::proofs::Crews::same_first, live_tags::proofs::Crews::same_then, live_tags::proofs::Crews::of_same))]
+#![tactic(auto, using(live_tables::proofs::rows::Crews::same_first, live_tables::proofs::rows::Crews::same_then, live_tables::proofs::rows::Crews::of_same))]
 
 ghost use Rattle.std.specs.Prelude.{◌≡◌, ◌≤◌, ◌<◌, ◌+◌, true, false, IsNone, IsFalse};
 ghost use Rattle.std.specs.Vec.{vec_capacity};
 ghost use Rattle.plantrun_core.specs.declared.roles.Role.TheVariants.{History};
-ghost use Rattle.live_tags.specs.Live.{IsOf, IsSameWorker};
+ghost use Rattle.live_tables.specs.rows.Workers.{IsOf, IsSameWorker};
 ghost use Rattle.plantrun_core.specs.Refusals.{IsRefusedAfter};
 ghost use Rattle.plantrun_core.specs.Works.{HasGone, HasKeptAll, IsAtWork, first_of, most_in};
 
@@ -13,7 +13,7 @@ use crate::hand::Hand;
 use crate::places::{FIRST_KEPT, RING};
 use crate::roles::Role;
 use array_tables::tag_table::Operation;
-use live_tags::LiveTags;
+use live_tables::tags::LiveTags;
 use std::sync::Wait;
 use std::sync::atomic::{AtomicU64, Ordering};
 use std::time::Clock;

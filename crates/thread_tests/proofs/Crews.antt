@@ -8,8 +8,9 @@ use Rattle.never_heap.specs.declared.Command.{Command}
 use Rattle.shared_heap.specs.declared.rules.Span.{Span}
 use Rattle.shared_heap.specs.Spans.{AreWithin, IsInTime}
 use Rattle.shared_heap.proofs.Stamps.{drawn_same}
-use Rattle.live_tags.specs.Live.{HasDrawn, IsOf, TagWorkerState}
-use Rattle.live_tags.proofs.Crews.{of_same}
+use Rattle.live_tables.specs.tags.Live.{TagWorkerState}
+use Rattle.live_tables.specs.rows.Workers.{HasDrawn, IsOf}
+use Rattle.live_tables.proofs.rows.Crews.{of_same}
 use Rattle.shared_heap.specs.Workers.{AreEachOnce, AreInOrder, AreSome, HasWorker, HeapState, IsSame, IsWorkerOf, WorkerState}
 
 -- the two workers of a heap, one by one

@@ -1,11 +1,11 @@
 //! Threads that draw their requests: what they were answered has one order on plain slots, which
 //! keeps real time. Each thread takes a stamp of the test's own clock before and after each request.
 
-ghost use Rattle.live_handles.specs.Live.{AreInOrder, IsOf};
+ghost use Rattle.live_tables.specs.rows.Workers.{AreInOrder, IsOf};
 
 use crate::slim::handles::{Answer, Request, Seat, Shown, open};
 use block_store::OutOfMemory;
-use live_handles::{HandleWorker, LiveHandles};
+use live_tables::handles::{HandleWorker, LiveHandles};
 use rand_core::utils::NextWord;
 use rand_pcg::Lcg64Xsh32;
 use std::alloc::Global;

@@ -1,12 +1,12 @@
 //! Threads that share one table: no pair is torn, and none is lost or returned twice.
 
 ghost use Rattle.std.specs.Prelude.{IfOk};
-ghost use Rattle.live_tags.specs.Live.{AreInOrder, IsOf, IsSameWorker};
+ghost use Rattle.live_tables.specs.rows.Workers.{AreInOrder, IsOf, IsSameWorker};
 
 use crate::slim::tags::Request::{Clear, Note, Read, Stamp, Write};
 use crate::slim::tags::{Answer, Request, Seat, Tag, clear, close, fault_of, open, read, write};
 use block_store::OutOfMemory;
-use live_tags::{LiveTags, OpenFault, Refused, TagWorker};
+use live_tables::tags::{LiveTags, OpenFault, Refused, TagWorker};
 use std::alloc::Global;
 use std::process::Abort;
 use std::sync::Wait;
@@ -89,7 +89,7 @@ fn does<R: Wait>(rt: &R, table: &LiveTags, who: &mut TagWorker, sums: &Sums, tas
     }
 }
 
-#[tactic(auto, using(live_tags::proofs::Crews::same_first, live_tags::proofs::Crews::same_then, live_tags::proofs::Crews::of_same))]
+#[tactic(auto, using(live_tables::proofs::rows::Crews::same_first, live_tables::proofs::rows::Crews::same_then, live_tables::proofs::rows::Crews::of_same))]
 fn uses<R: Wait>(rt: &R, table: &LiveTags, who: &mut TagWorker, sums: &Sums, round: u32)
     requires { IsOf table.now who.old }
     ensures { IsSameWorker who.old who.new }
@@ -102,7 +102,7 @@ fn uses<R: Wait>(rt: &R, table: &LiveTags, who: &mut TagWorker, sums: &Sums, rou
 }
 
 // Does a task in so many rounds.
-#[tactic(auto, using(live_tags::proofs::Crews::same_first, live_tags::proofs::Crews::same_then, live_tags::proofs::Crews::of_same))]
+#[tactic(auto, using(live_tables::proofs::rows::Crews::same_first, live_tables::proofs::rows::Crews::same_then, live_tables::proofs::rows::Crews::of_same))]
 fn repeats<R: Wait>(
     rt: &R,
     table: &LiveTags,
@@ -120,7 +120,7 @@ fn repeats<R: Wait>(
 }
 
 // Lets each worker do a task in a thread of its own.
-#[tactic(auto, using(live_tags::proofs::Crews::of_same))]
+#[tactic(auto, using(live_tables::proofs::rows::Crews::of_same))]
 fn all_do<R: Threads + Wait + Sync>(
     rt: &R,
     table: &LiveTags,

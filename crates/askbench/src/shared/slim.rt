@@ -3,13 +3,13 @@
 
 ghost use Rattle.std.specs.Prelude.{◌≡◌, IfOk};
 ghost use Rattle.shared_heap.specs.Workers as heaps;
-ghost use Rattle.live_tags.specs.Live.{AreEachOnce, IsOf};
+ghost use Rattle.live_tables.specs.rows.Workers.{AreEachOnce, IsOf};
 
 use crate::slim::{print_ranks, push, written};
 use crate::stop::Stop;
 use crate::times::Ranks;
 use block_store::Config;
-use live_tags::{LiveTags, TagWorker};
+use live_tables::tags::{LiveTags, TagWorker};
 use never_heap::Command;
 use shared_heap::{SharedHeap, Worker};
 use std::alloc::Global;
@@ -67,7 +67,7 @@ fn place_of(round: u64) -> u32 {
 
 /// Writes the place of a round.
 #[inline(always)]
-#[tactic(auto, using(live_tags::proofs::Crews::of_same))]
+#[tactic(auto, using(live_tables::proofs::rows::Crews::of_same))]
 pub fn write_tag<R: Wait>(
     rt: &R,
     table: &LiveTags,
@@ -85,7 +85,7 @@ pub fn write_tag<R: Wait>(
 
 /// Reads the place of a round.
 #[inline(always)]
-#[tactic(auto, using(live_tags::proofs::Crews::of_same))]
+#[tactic(auto, using(live_tables::proofs::rows::Crews::of_same))]
 pub fn read_tag<R: Wait>(
     rt: &R,
     table: &LiveTags,

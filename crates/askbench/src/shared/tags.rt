@@ -1,13 +1,13 @@
 //! Times writes and reads of a table of tags that threads use beside each other. `bench/live_tags`
 //! runs it.
 
-ghost use Rattle.live_tags.specs.Live.{IsOf};
+ghost use Rattle.live_tables.specs.rows.Workers.{IsOf};
 
 use crate::shared::slim::{nanoseconds, open_tags, read_tag, room, tell, write_tag};
 use crate::slim::push;
 use crate::stop::Stop;
 use crate::task::Rounds;
-use live_tags::{LiveTags, TagWorker};
+use live_tables::tags::{LiveTags, TagWorker};
 use std::alloc::Global;
 use std::sync::Wait;
 use std::thread;

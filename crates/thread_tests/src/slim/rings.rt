@@ -1,10 +1,10 @@
-//! Calls of `live_rings`.
-#![tactic(auto, using(live_rings::proofs::Crews::of_same))]
+//! Calls of `live_tables`.
+#![tactic(auto, using(live_tables::proofs::rows::Crews::of_same))]
 
 ghost use Rattle.std.specs.Prelude.{IfOk};
-ghost use Rattle.live_rings.specs.Live.{AreEachOnce, AreInOrder, IsOf, IsSameWorker};
+ghost use Rattle.live_tables.specs.rows.Workers.{AreEachOnce, AreInOrder, IsOf, IsSameWorker};
 
-use live_rings::{LiveRings, OpenFault, Refused, RingWorker};
+use live_tables::rings::{LiveRings, OpenFault, Refused, RingWorker};
 use std::alloc::Global;
 use std::marker::Model;
 use std::sync::Wait;
@@ -61,7 +61,8 @@ pub struct Seat<'t> {
 }
 
 impl<'t> Model for Seat<'t> {
-    ghost use Rattle.live_rings.specs.Live.{IsOf, RingWorkerState};
+    ghost use Rattle.live_tables.specs.rings.Live.{RingWorkerState};
+    ghost use Rattle.live_tables.specs.rows.Workers.{IsOf};
 
     ghost Value = { RingWorkerState };
 

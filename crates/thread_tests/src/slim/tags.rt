@@ -1,10 +1,10 @@
-//! Calls of `live_tags`.
-#![tactic(auto, using(live_tags::proofs::Crews::of_same))]
+//! Calls of `live_tables`.
+#![tactic(auto, using(live_tables::proofs::rows::Crews::of_same))]
 
 ghost use Rattle.std.specs.Prelude.{IfOk};
-ghost use Rattle.live_tags.specs.Live.{AreEachOnce, AreInOrder, IsOf, IsSameWorker};
+ghost use Rattle.live_tables.specs.rows.Workers.{AreEachOnce, AreInOrder, IsOf, IsSameWorker};
 
-use live_tags::{LiveTags, OpenFault, Refused, TagWorker};
+use live_tables::tags::{LiveTags, OpenFault, Refused, TagWorker};
 use std::alloc::Global;
 use std::marker::Model;
 use std::sync::Wait;
@@ -76,7 +76,8 @@ pub struct Seat<'t> {
 }
 
 impl<'t> Model for Seat<'t> {
-    ghost use Rattle.live_tags.specs.Live.{IsOf, TagWorkerState};
+    ghost use Rattle.live_tables.specs.tags.Live.{TagWorkerState};
+    ghost use Rattle.live_tables.specs.rows.Workers.{IsOf};
 
     ghost Value = { TagWorkerState };
 

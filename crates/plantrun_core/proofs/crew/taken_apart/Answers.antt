@@ -1,6 +1,6 @@
 use Rattle.std.proofs.Common.{◌≡◌, ap, ◌∙◌}
 use Rattle.block_store.specs.declared.Config.{Config}
-use Rattle.live_tags.specs.Live.{places_of}
+use Rattle.live_tables.specs.rows.Workers.{places_of}
 use Rattle.plantrun_core.proofs.crew.taken_apart.Goals as goal
 
 pub returns-clause-plant : goal.returns-clause-plant

@@ -1,6 +1,0 @@
-pub mod Makes
-pub mod Decoded
-pub mod Filled
-pub mod Doing
-pub mod Crews
-pub mod Opening

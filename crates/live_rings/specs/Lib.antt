@@ -1,4 +1,0 @@
-pub mod Decoding
-pub mod Live
-pub mod SoFar
-pub mod Texts

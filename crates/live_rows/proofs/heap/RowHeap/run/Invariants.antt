@@ -1,6 +1,0 @@
-use Rattle.live_rows.proofs.Asked.{IsAt}
-use Rattle.live_rows.proofs.heap.RowHeap.run.Given as goal
-
-abbrev pub invariant-loop-command : goal.invariant-loop-command
-invariant-loop-command g l =
-    IsAt l.fn.who l.commands l.command-index (l.first, l.before, l.last) l.who

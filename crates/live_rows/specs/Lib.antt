@@ -1,7 +1,0 @@
-pub mod Rows
-pub mod Life
-pub mod Workers
-pub mod Behind
-pub mod RealTime
-pub mod Orders
-pub mod SoFar

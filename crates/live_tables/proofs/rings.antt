@@ -1,0 +1,5 @@
+pub mod Bounds
+pub mod Decoded
+pub mod Doing
+pub mod Opening
+pub mod OneMore

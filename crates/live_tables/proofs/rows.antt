@@ -1,0 +1,14 @@
+pub mod Lawful
+pub mod AnswersOfOperations
+pub mod Rooms
+pub mod Lives
+pub mod Asked
+pub mod Doing
+pub mod Crews
+pub mod Opening
+pub mod Tables
+pub mod Cuts
+pub mod RealTime
+pub mod Closing
+pub mod SoFar
+pub mod Within

@@ -1,0 +1,5 @@
+pub mod rows
+pub mod tags
+pub mod handles
+pub mod rings
+pub mod counters

@@ -1,0 +1,5 @@
+pub mod Makes
+pub mod Decoding
+pub mod Live
+pub mod Kept
+pub mod Texts

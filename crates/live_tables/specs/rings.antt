@@ -1,0 +1,3 @@
+pub mod Decoding
+pub mod Live
+pub mod Texts

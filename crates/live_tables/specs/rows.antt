@@ -1,0 +1,9 @@
+pub mod Rows
+pub mod Lawful
+pub mod Life
+pub mod Workers
+pub mod Behind
+pub mod RealTime
+pub mod Kept
+pub mod Orders
+pub mod SoFar

@@ -1,5 +1,0 @@
-use Rattle.live_tags.proofs.Opening.{can_open}
-use Rattle.live_tags.proofs.table.can_be_opened.Goals as goal
-
-pub returns : goal.returns
-returns c = can_open c.args.tags c.args.threads c.requires
