@@ -11,3 +11,4 @@ pub mod RealTime
 pub mod Closing
 pub mod SoFar
 pub mod Within
+pub mod Stamped

@@ -5,3 +5,4 @@ pub mod Behind
 pub mod RealTime
 pub mod Orders
 pub mod SoFar
+pub mod Stamped

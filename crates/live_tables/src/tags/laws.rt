@@ -11,9 +11,10 @@ ghost use Rattle.shared_heap.specs.Shared.{IsStartOf, SharedKept};
 ghost use Rattle.array_tables.specs.declared.tag_table.operation.Operation.{Operation};
 ghost use Rattle.array_tables.specs.tag_table.Tables.{Tag};
 ghost use Rattle.live_tables.specs.rows.Orders.{OperationsAreInOrder, OperationsComeAfter, OperationsComeAfterStamps};
+ghost use Rattle.live_tables.specs.rows.Stamped.{StampsKeepOrder};
 ghost use Rattle.live_tables.specs.rows.SoFar.{SeenComesBeforeLater, WorkAllAlong};
 ghost use Rattle.live_tables.specs.tags.Behind.{StandsBehind};
-ghost use Rattle.live_tables.specs.tags.Live.{HasDone, HasSeenAll, HaveOneTable, IsTagHeap, TagWorkerState, tags, thread_of};
+ghost use Rattle.live_tables.specs.tags.Live.{FewLeaveLife, HasDone, HasSeenAll, HaveOneTable, IsTagHeap, TagWorkerState, tags, thread_of};
 ghost use Rattle.live_tables.specs.tags.SoFar.{AllSeats, Execute, FitsOneTable, IsBetween, IsWorking};
 
 /// In the order of a closed table, an operation comes after all operations that a worker `a` had
@@ -43,6 +44,18 @@ pub fn operations_keep_real_time()
 /// no greater. Or 2^64 stamps were drawn (`shared_heap::stamps_are_in_order`).
 pub fn operations_come_after_stamps()
     ensures { OperationsComeAfterStamps tags }
+{}
+
+/// Stamps as data: a worker that logs a stamp after each of its operations knows which operations
+/// of others come later. In the order of a closed table, what a thread had done at a stamp comes
+/// before all that another began after a stamp that is no less. Or 2^64 stamps were drawn.
+pub fn stamps_keep_order()
+    ensures { StampsKeepOrder tags }
+{}
+
+/// A worker that has done at most 2^24 operations has life left for another.
+pub fn few_operations_leave_life()
+    ensures { FewLeaveLife }
 {}
 
 /// Suppose that the rule of the heap's table holds, as it does between any two steps of any
