@@ -12,7 +12,7 @@ mod reading;
 mod runnable;
 mod script;
 mod script_runs;
-mod scripts;
+pub mod scripts;
 
 pub use header::{Header, header_of};
 pub use jobs::{all_answers, planned, traces};

@@ -9,7 +9,7 @@ mod mutator;
 mod port;
 mod rules;
 mod telling;
-mod threaded_runs;
+pub mod threaded_runs;
 
 pub use board::AtomBoard;
 pub use closed::Closed;

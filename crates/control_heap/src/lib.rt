@@ -6,7 +6,7 @@ mod control;
 mod counted;
 mod faults;
 mod gauges;
-mod graph_view;
+pub mod graph_view;
 mod laws;
 pub mod outcomes;
 mod readings;

@@ -7,7 +7,7 @@ ghost use Rattle.block_store.specs.declared.Config.{Config};
 ghost use Rattle.array_trees.specs.InitialHeaps.{opening_blocks};
 ghost use Rattle.rate_plan.specs.Rates.{IsRate, IsAdmitted, IsRefusal, plan_fault_text};
 
-mod solo_bound;
+pub mod solo_bound;
 
 use array_trees::blocks_of_array;
 use block_store::Config;

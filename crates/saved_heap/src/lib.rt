@@ -2,7 +2,7 @@
 #![tactic(auto)]
 
 mod faults;
-mod heap_pictures;
+pub mod heap_pictures;
 mod needs;
 mod recorded_heap;
 mod renewal;
