@@ -5,23 +5,23 @@ from audit import audit
 from closure import Belief
 from files import TOP, antt_file, fail, is_own
 from names import resolve_own
-from rust import call_definition, rust_items
+from rust import call_definition, module_of, rust_items
 
 
 def start_of(word):
     """The definition and the parts that a word names. With a clause that a call promises go those
     that it requires."""
-    got = re.match(r"(\w+)::(?:(\w+)::)?(\w+)(?:\.(\w+))?$", word)
+    got = re.match(r"(\w+)::(?:([a-z]\w*)::)?(?:([A-Z]\w*)::)?(\w+)(?:\.(\w+))?$", word)
     if not got or not is_own(got[1]):
         fail(f"no clause: {word}")
-    crate, owner, name, inner = got.groups()
+    crate, module, owner, name, inner = got.groups()
     path = TOP / "crates" / crate / "specs" / f"{name}.antt"
-    if path.exists() and inner and not owner:
+    if path.exists() and inner and not module and not owner:
         found = resolve_own(antt_file(path), inner)
         if not found:
             fail(f"{path}: no {inner}")
         return found[0], [part for part in found[0].parts if part]
-    it = call_definition(crate, name, owner)
+    it = call_definition(crate, name, owner, module)
     if inner and inner not in it.parts:
         fail(f"{name} has no clause {inner}")
     wanted = [part for part in it.parts if part and (inner in (None, part) or is_required(part))]
@@ -29,14 +29,16 @@ def start_of(word):
 
 
 def words_for(word):
-    """The calls that a word names. `CRATE::laws` names the public functions of src/laws.rt, and
-    `CRATE::exports` those that C calls."""
-    crate, _, rest = word.partition("::")
+    """The calls that a word names. `CRATE::laws` names the public functions of src/laws.rt,
+    `CRATE::MODULE::laws` those of that module's, and `CRATE::exports` those that C calls."""
+    where, _, rest = word.rpartition("::")
+    crate, _, module = where.partition("::")
     if rest not in ("laws", "exports") or not is_own(crate):
         return [word]
-    found = [f"{crate}::{name}" for (form, name), places in rust_items(crate).items()
-             if form == "fn" and any(is_one_of(rest, *place) for place in places)]
-    return found or fail(f"{crate} has no {rest}")
+    found = [f"{where}::{name}" for (form, name), places in rust_items(crate).items()
+             if form == "fn" and any(is_one_of(rest, *place) for place in places
+                                     if not module or module in module_of(place[0]))]
+    return found or fail(f"{where} has no {rest}")
 
 
 def is_one_of(group, file, n):

@@ -84,24 +84,26 @@ a lone thread.""",
 At `close` every operation was answered as on a plain table, in one order that keeps each worker's
 and real time; an operation comes after all that each worker had done whose view its own had seen or
 learned.""",
-            ["live_tables::tags::LiveTags::open", "live_tables::tags::LiveTags::write",
-             "live_tables::tags::LiveTags::clear", "live_tables::tags::LiveTags::read",
-             "live_tables::tags::LiveTags::note", "live_tables::tags::LiveTags::learn",
-             "live_tables::tags::LiveTags::stamp", "live_tables::tags::LiveTags::close", "live_tables::tags::laws"]),
+            ["live_tables::tags::LiveTable::open", "live_tables::tags::LiveTable::write",
+             "live_tables::tags::LiveTable::clear", "live_tables::tags::LiveTable::read",
+             "live_tables::LiveTable::note", "live_tables::LiveTable::learn",
+             "live_tables::LiveTable::stamp", "live_tables::LiveTable::close",
+             "live_tables::laws"]),
     Promise("live_handles", "Handles in slots", """
 The same of requests, on a plain list of slots.""",
-            ["live_tables::handles::LiveHandles::open", "live_tables::handles::LiveHandles::make",
-             "live_tables::handles::LiveHandles::see", "live_tables::handles::LiveHandles::release",
-             "live_tables::handles::LiveHandles::take", "live_tables::handles::LiveHandles::evict",
-             "live_tables::handles::LiveHandles::note", "live_tables::handles::LiveHandles::learn",
-             "live_tables::handles::LiveHandles::close", "live_tables::handles::laws"]),
+            ["live_tables::handles::LiveTable::open", "live_tables::handles::LiveTable::make",
+             "live_tables::handles::LiveTable::see", "live_tables::handles::LiveTable::release",
+             "live_tables::handles::LiveTable::take", "live_tables::handles::LiveTable::evict",
+             "live_tables::LiveTable::note", "live_tables::LiveTable::learn",
+             "live_tables::LiveTable::stamp", "live_tables::LiveTable::close",
+             "live_tables::laws"]),
     Promise("live_rings", "Rings of numbers", """
 The same of keeps and recalls, on a plain array of places; each keep is at the next place of its
 thread's ring.""",
-            ["live_tables::rings::LiveRings::open", "live_tables::rings::LiveRings::keep",
-             "live_tables::rings::LiveRings::recall", "live_tables::rings::LiveRings::note",
-             "live_tables::rings::LiveRings::learn", "live_tables::rings::LiveRings::close",
-             "live_tables::rings::laws"]),
+            ["live_tables::rings::LiveTable::open", "live_tables::rings::LiveTable::keep",
+             "live_tables::rings::LiveTable::recall", "live_tables::LiveTable::note",
+             "live_tables::LiveTable::learn", "live_tables::LiveTable::stamp",
+             "live_tables::LiveTable::close", "live_tables::laws"]),
     Promise("from_c", "Calls from C", """
 Each command is answered as by `ControlHeap::ask`, with a number for each status and reply; one
 whose status is not 0 changes neither heap nor reply. What C owes is in the type of the handle:

@@ -280,10 +280,11 @@ def impl_item(file, start):
 
 
 @lru_cache(maxsize=None)
-def call_definition(crate, name, owner=None):
+def call_definition(crate, name, owner=None, module=None):
     """A public call or a law: its signature, and each clause as a part."""
     found = [(f, n) for f, n in rust_items(crate).get(("fn", name), [])
-             if f.text[n].lstrip().startswith("pub ")]
+             if f.text[n].lstrip().startswith("pub ")
+             and (not module or module in module_of(f))]
     found = [(f, n, *around(f, n)) for f, n in found]
     own = [one for one in found if one[3] == (owner or "")]
     found = own if owner or own else found

@@ -1,6 +1,6 @@
 pub mod Makes
+pub mod Bounds
 pub mod Decoded
 pub mod Filled
 pub mod Doing
-pub mod Crews
 pub mod Opening

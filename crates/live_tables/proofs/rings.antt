@@ -1,5 +1,5 @@
+pub mod Bounds
 pub mod Decoded
 pub mod Doing
-pub mod Crews
 pub mod Opening
 pub mod OneMore

@@ -6,6 +6,7 @@ pub mod Asked
 pub mod Doing
 pub mod Crews
 pub mod Opening
+pub mod Tables
 pub mod Cuts
 pub mod RealTime
 pub mod Closing

@@ -2,5 +2,4 @@ pub mod Makes
 pub mod Decoding
 pub mod Live
 pub mod Kept
-pub mod SoFar
 pub mod Texts

@@ -1,4 +1,3 @@
 pub mod Decoding
 pub mod Live
-pub mod SoFar
 pub mod Texts

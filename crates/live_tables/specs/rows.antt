@@ -1,8 +1,10 @@
 pub mod Rows
+pub mod Lawful
 pub mod Life
 pub mod Workers
 pub mod Behind
 pub mod RealTime
+pub mod Kept
 pub mod Orders
 pub mod SoFar
 pub mod Stamped

@@ -4,7 +4,8 @@ use Rattle.std.specs.Prelude.{remove}
 use Rattle.block_store.specs.declared.Config.{Config}
 use Rattle.shared_heap.specs.Workers.{HeapState}
 use Rattle.plantrun_core.specs.Crews.{IsWorker}
-use Rattle.live_tables.specs.tags.Live.{AreEachOnce, AreInOrder, AreFresh, HasWorker, IsFresh, IsOf, TagWorkerState, opened_config}
+use Rattle.live_tables.specs.tags.Live.{TagWorkerState, opened_config}
+use Rattle.live_tables.specs.rows.Workers.{AreEachOnce, AreInOrder, AreFresh, HasWorker, IsFresh, IsOf}
 
 -- four workers, by their threads, are all workers of a table with four
 pub four_each : (t : HeapState) (a b c d : TagWorkerState) → t.config.threads ≡ 4

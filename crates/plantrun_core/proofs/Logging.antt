@@ -10,9 +10,10 @@ use Rattle.shared_heap.specs.Shared.{IsStartOf}
 use Rattle.shared_heap.specs.Workers.{CanOpen, HeapState}
 use Rattle.shared_heap.proofs.Views.{starts_on}
 use Rattle.live_tables.specs.rows.Stamped.{IsStampAfter}
-use Rattle.live_tables.specs.tags.Live.{HasDrawn, HasLife, HasSeenAll, IsFresh, IsOf, IsSameWorker, TagWorkerState, opened_config, places_of, tags, thread_of}
+use Rattle.live_tables.specs.tags.Live.{HasLife, TagWorkerState, opened_config, tags}
+use Rattle.live_tables.specs.rows.Workers.{HasSeenAll, HasDrawn, IsFresh, IsOf, IsSameWorker, places_of, thread_of}
 use Rattle.live_tables.proofs.rows.Stamped.{stamp_after, stamp_later}
-use Rattle.live_tables.proofs.tags.Crews.{of_same}
+use Rattle.live_tables.proofs.rows.Crews.{of_same}
 use Rattle.live_tables.proofs.tags.FewOperations.{few_leave_life}
 use Rattle.live_tables.proofs.tags.Opening.{can_open}
 use Rattle.plantrun_core.specs.declared.calls.Done.{Done}
@@ -38,7 +39,7 @@ has_life t w log op is log_is few =
 
 -- a worker that has drawn its first stamp has an empty log
 pub first_log : (old new : TagWorkerState) (n : ℕ) → IsFresh old → HasDrawn old n new
-    → HasSeenAll new → IsLog new []
+    → HasSeenAll tags new → IsLog new []
 first_log old new n fresh drew all = record {
   operations = drew.done ∙ fresh.done;
   answers = drew.answers ∙ fresh.answers;

@@ -10,7 +10,8 @@ use Rattle.shared_heap.specs.declared.rules.Moment.{Moment}
 use Rattle.shared_heap.specs.Shared.{stamps_in}
 use Rattle.live_tables.specs.rows.RealTime as tables
 use Rattle.live_tables.specs.rows.Stamped.{IsStampAfter}
-use Rattle.live_tables.specs.tags.Live.{HasScript, TagWorkerState, opened_config, tags, thread_of}
+use Rattle.live_tables.specs.tags.Live.{HasScript, TagWorkerState, opened_config, tags}
+use Rattle.live_tables.specs.rows.Workers.{thread_of}
 use Rattle.live_tables.proofs.rows.Stamped.{stamp_later, stamps_keep_order}
 use Rattle.plantrun_core.specs.declared.calls.Done.{Done}
 use Rattle.plantrun_core.specs.declared.calls.Logs.{Logs}
@@ -188,15 +189,15 @@ module _ (a b c d : TagWorkerState) (l : Logs) (cycles : ℕ)
       (stamp_there t t_low earlier rest x is) (stamp_there u u_low before after y so) low) [
         | inr many ↦ inr many
         | inl cut ↦ inl (record {
-            first = cut.first;
-            later = cut.later;
-            split = cut.split;
-            more = cut.more;
-            many = cut.many
-                ∙ ap (λ (ops : List Operation). ops ++ cut.more) (first_ops t t_low earlier rest x is);
-            rest = cut.rest;
-            few = sym (first_ops u u_low before after y so) ∙ cut.few;
-          })
+          first = cut.first;
+          later = cut.later;
+          split = cut.split;
+          more = cut.more;
+          many = cut.many
+              ∙ ap (λ (ops : List Operation). ops ++ cut.more) (first_ops t t_low earlier rest x is);
+          rest = cut.rest;
+          few = sym (first_ops u u_low before after y so) ∙ cut.few;
+        })
       ]
 
   pub has_plant : HasPlant l cycles

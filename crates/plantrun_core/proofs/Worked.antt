@@ -4,8 +4,8 @@ use Rattle.std.proofs.Math.Numerals.{add-one}
 use Rattle.std.proofs.lemmas.Bool.{cases_eq}
 use Rattle.std.specs.Result.{is_err}
 use Rattle.std.specs.Vec.{vec_capacity}
-use Rattle.live_tables.specs.tags.Live.{IsSameWorker}
-use Rattle.live_tables.proofs.tags.Crews.{same_first, same_then}
+use Rattle.live_tables.specs.rows.Workers.{IsSameWorker}
+use Rattle.live_tables.proofs.rows.Crews.{same_first, same_then}
 use Rattle.array_tables.specs.tag_table.Tables.{Tag}
 use Rattle.array_tables.specs.declared.tag_table.operation.Operation.{Operation}
 use Rattle.array_tables.specs.declared.tag_table.operation.Operation.TheVariants.{Read}

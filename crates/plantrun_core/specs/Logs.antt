@@ -6,7 +6,8 @@ use Rattle.array_tables.specs.tag_table.Tables.{Tag}
 use Rattle.shared_heap.specs.declared.rules.Moment.{Moment}
 use Rattle.shared_heap.specs.Workers.{HasSeenIts, HeapState}
 use Rattle.live_tables.specs.rows.Stamped.{IsStampAfter}
-use Rattle.live_tables.specs.tags.Live.{HasDone, HasDrawn, HasSeenAll, IsOf, TagWorkerState, opened_config, tags, thread_of}
+use Rattle.live_tables.specs.tags.Live.{HasDone, TagWorkerState, opened_config, tags}
+use Rattle.live_tables.specs.rows.Workers.{HasSeenAll, HasDrawn, IsOf, thread_of}
 use Rattle.plantrun_core.specs.declared.calls.Done.{Done}
 use Rattle.plantrun_core.specs.declared.calls.Step.{Step}
 
@@ -39,7 +40,7 @@ pub record IsLog (w : TagWorkerState) (log : List Done) : Type 0 where
   pub answers : w.answers ≡ map answer_of log
   pub stamped : AllStamped w.worker.timeline (thread_of w) [] log
   pub sound : HasSeenIts w.worker
-  pub seen : HasSeenAll w
+  pub seen : HasSeenAll tags w
 
 -- ---- within a thread
 
@@ -52,7 +53,7 @@ pub record HasAsked (old : TagWorkerState) (d : Done) (new : TagWorkerState) : T
   pub between : TagWorkerState
   pub did : HasDone old d.operation d.answer between
   pub drew : HasDrawn between d.stamp new
-  pub seen : HasSeenAll new
+  pub seen : HasSeenAll tags new
 
 -- a log that has one operation more, with this answer
 abbrev pub HasLogged : Operation → Tag → List Done → List Done → Type 0

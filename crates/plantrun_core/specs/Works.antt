@@ -3,7 +3,7 @@ use Rattle.std.specs.Prelude.{ℕ, ◌+◌, ◌*◌, ◌/◌, ◌%◌, ◌<◌, 
 use Rattle.std.specs.List.{AllByRecursion}
 use Rattle.std.specs.Vec.{vec_capacity}
 use Rattle.trace_text.specs.Faults.{Rose}
-use Rattle.live_tables.specs.tags.Live.{IsSameWorker}
+use Rattle.live_tables.specs.rows.Workers.{IsSameWorker}
 use Rattle.plantrun_core.specs.declared.calls.Done.{Done}
 use Rattle.plantrun_core.specs.declared.hand.Hand.{Hand}
 use Rattle.plantrun_core.specs.declared.readings.Reading.{Reading}

@@ -3,7 +3,7 @@
 
 ghost use Rattle.std.specs.Prelude.{◌≡◌, IfOk};
 ghost use Rattle.shared_heap.specs.Workers as heaps;
-ghost use Rattle.live_tables.specs.tags.Live.{AreEachOnce, IsOf};
+ghost use Rattle.live_tables.specs.rows.Workers.{AreEachOnce, IsOf};
 
 use crate::stop::Stop;
 use block_store::Config;
@@ -65,7 +65,7 @@ fn place_of(round: u64) -> u32 {
 
 /// Writes the place of a round.
 #[inline(always)]
-#[tactic(auto, using(live_tables::proofs::tags::Crews::of_same))]
+#[tactic(auto, using(live_tables::proofs::rows::Crews::of_same))]
 pub fn write_tag<R: Wait>(
     rt: &R,
     table: &LiveTags,
@@ -83,7 +83,7 @@ pub fn write_tag<R: Wait>(
 
 /// Reads the place of a round.
 #[inline(always)]
-#[tactic(auto, using(live_tables::proofs::tags::Crews::of_same))]
+#[tactic(auto, using(live_tables::proofs::rows::Crews::of_same))]
 pub fn read_tag<R: Wait>(
     rt: &R,
     table: &LiveTags,

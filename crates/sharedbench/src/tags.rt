@@ -1,7 +1,7 @@
 //! Times writes and reads of a table of tags that threads use beside each other. `bench/live_tags`
 //! runs it.
 
-ghost use Rattle.live_tables.specs.tags.Live.{IsOf};
+ghost use Rattle.live_tables.specs.rows.Workers.{IsOf};
 
 use crate::slim::{nanoseconds, open_tags, push, read_tag, room, tell, write_tag};
 use crate::stop::Stop;

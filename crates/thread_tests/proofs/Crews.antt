@@ -3,8 +3,9 @@ use Rattle.std.proofs.Common.{◌≡◌, ℕ, zero, suc, ◌<◌, arith, subst, 
 use Rattle.std.proofs.lemmas.Bool.{cases_eq}
 use Rattle.std.specs.List.{SwappedAt}
 use Rattle.shared_heap.proofs.Stamps.{drawn_same}
-use Rattle.live_tables.specs.tags.Live.{HasDrawn, IsOf, TagWorkerState}
-use Rattle.live_tables.proofs.tags.Crews.{of_same}
+use Rattle.live_tables.specs.tags.Live.{TagWorkerState}
+use Rattle.live_tables.specs.rows.Workers.{HasDrawn, IsOf}
+use Rattle.live_tables.proofs.rows.Crews.{of_same}
 use Rattle.shared_heap.specs.Workers.{AreEachOnce, AreInOrder, AreSome, HasWorker, HeapState, IsSame, IsWorkerOf, WorkerState}
 
 -- the two workers of a heap, one by one

@@ -1,7 +1,7 @@
 //! Threads that share slots: each handle that fills a slot leaves it once.
 
 ghost use Rattle.std.specs.Prelude.{IfOk};
-ghost use Rattle.live_tables.specs.handles.Live.{AreInOrder, IsOf, IsSameWorker};
+ghost use Rattle.live_tables.specs.rows.Workers.{AreInOrder, IsOf, IsSameWorker};
 
 use crate::slim::handles::{Seat, Shown, close, evict, fault_of, make, open, release, see, take};
 use block_store::OutOfMemory;
@@ -101,7 +101,7 @@ fn does<R: Wait>(
     }
 }
 
-#[tactic(auto, using(live_tables::proofs::handles::Crews::same_first, live_tables::proofs::handles::Crews::same_then, live_tables::proofs::handles::Crews::of_same))]
+#[tactic(auto, using(live_tables::proofs::rows::Crews::same_first, live_tables::proofs::rows::Crews::same_then, live_tables::proofs::rows::Crews::of_same))]
 fn uses<R: Wait>(rt: &R, table: &LiveHandles, who: &mut HandleWorker, sums: &Sums, round: u32)
     requires { IsOf table.now who.old }
     ensures { IsSameWorker who.old who.new }
@@ -118,7 +118,7 @@ fn uses<R: Wait>(rt: &R, table: &LiveHandles, who: &mut HandleWorker, sums: &Sum
 }
 
 // Does a task in so many rounds.
-#[tactic(auto, using(live_tables::proofs::handles::Crews::same_first, live_tables::proofs::handles::Crews::same_then, live_tables::proofs::handles::Crews::of_same))]
+#[tactic(auto, using(live_tables::proofs::rows::Crews::same_first, live_tables::proofs::rows::Crews::same_then, live_tables::proofs::rows::Crews::of_same))]
 fn repeats<R: Wait>(
     rt: &R,
     table: &LiveHandles,
@@ -136,7 +136,7 @@ fn repeats<R: Wait>(
 }
 
 // Lets each worker do a task in a thread of its own.
-#[tactic(auto, using(live_tables::proofs::handles::Crews::of_same))]
+#[tactic(auto, using(live_tables::proofs::rows::Crews::of_same))]
 fn all_do<R: Threads + Wait + Sync>(
     rt: &R,
     table: &LiveHandles,

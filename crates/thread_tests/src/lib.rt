@@ -3,6 +3,8 @@
 #![tactic(auto)]
 
 #[cfg(test)]
+mod counters;
+#[cfg(test)]
 mod handles;
 #[cfg(test)]
 mod heap;

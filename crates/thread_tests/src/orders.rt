@@ -1,7 +1,7 @@
 //! Threads that draw their requests: what they were answered has one order on plain slots, which
 //! keeps real time. Each thread takes a stamp of the test's own clock before and after each request.
 
-ghost use Rattle.live_tables.specs.handles.Live.{AreInOrder, IsOf};
+ghost use Rattle.live_tables.specs.rows.Workers.{AreInOrder, IsOf};
 
 use crate::slim::handles::{Seat, Shown, open};
 use block_store::OutOfMemory;

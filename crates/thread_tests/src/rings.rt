@@ -1,7 +1,7 @@
 //! Threads that share rings: each recalls its own last numbers, and those of others in their order.
 
 ghost use Rattle.std.specs.Prelude.{IfOk};
-ghost use Rattle.live_tables.specs.rings.Live.{AreInOrder, IsOf, IsSameWorker};
+ghost use Rattle.live_tables.specs.rows.Workers.{AreInOrder, IsOf, IsSameWorker};
 
 use crate::slim::rings::{Seat, close, fault_of, keep, open, recall};
 use block_store::OutOfMemory;
@@ -71,7 +71,7 @@ fn is_at(number: u64, thread: u32, place: u32) -> bool {
 }
 
 // Keeps a number, and recalls its own newest and oldest.
-#[tactic(auto, using(live_tables::proofs::rings::Crews::same_first, live_tables::proofs::rings::Crews::same_then, live_tables::proofs::rings::Crews::of_same))]
+#[tactic(auto, using(live_tables::proofs::rows::Crews::same_first, live_tables::proofs::rows::Crews::same_then, live_tables::proofs::rows::Crews::of_same))]
 fn uses_own<R: Wait>(rt: &R, rings: &LiveRings, who: &mut RingWorker, counts: &Counts, round: u32)
     requires { IsOf rings.now who.old }
     ensures own { IsOf rings.now who.new }
@@ -88,7 +88,7 @@ fn uses_own<R: Wait>(rt: &R, rings: &LiveRings, who: &mut RingWorker, counts: &C
 }
 
 // Recalls a place of another's ring twice.
-#[tactic(auto, using(live_tables::proofs::rings::Crews::same_first, live_tables::proofs::rings::Crews::same_then, live_tables::proofs::rings::Crews::of_same))]
+#[tactic(auto, using(live_tables::proofs::rows::Crews::same_first, live_tables::proofs::rows::Crews::same_then, live_tables::proofs::rows::Crews::of_same))]
 fn uses_others<R: Wait>(
     rt: &R,
     rings: &LiveRings,
@@ -108,7 +108,7 @@ fn uses_others<R: Wait>(
     }
 }
 
-#[tactic(auto, using(live_tables::proofs::rings::Crews::same_first, live_tables::proofs::rings::Crews::same_then, live_tables::proofs::rings::Crews::of_same))]
+#[tactic(auto, using(live_tables::proofs::rows::Crews::same_first, live_tables::proofs::rows::Crews::same_then, live_tables::proofs::rows::Crews::of_same))]
 fn uses<R: Wait>(rt: &R, rings: &LiveRings, who: &mut RingWorker, counts: &Counts)
     requires { IsOf rings.now who.old }
     ensures { IsSameWorker who.old who.new }
@@ -120,7 +120,7 @@ fn uses<R: Wait>(rt: &R, rings: &LiveRings, who: &mut RingWorker, counts: &Count
 }
 
 // Lets each worker use the rings in a thread of its own.
-#[tactic(auto, using(live_tables::proofs::rings::Crews::of_same))]
+#[tactic(auto, using(live_tables::proofs::rows::Crews::of_same))]
 fn all_use<R: Threads + Wait + Sync>(
     rt: &R,
     rings: &LiveRings,

@@ -1,7 +1,7 @@
 //! Threads that share one table: no pair is torn, and none is lost or returned twice.
 
 ghost use Rattle.std.specs.Prelude.{IfOk};
-ghost use Rattle.live_tables.specs.tags.Live.{AreInOrder, IsOf, IsSameWorker};
+ghost use Rattle.live_tables.specs.rows.Workers.{AreInOrder, IsOf, IsSameWorker};
 
 use crate::slim::tags::{Seat, Tag, clear, close, fault_of, open, read, write};
 use block_store::OutOfMemory;
@@ -87,7 +87,7 @@ fn does<R: Wait>(rt: &R, table: &LiveTags, who: &mut TagWorker, sums: &Sums, tas
     }
 }
 
-#[tactic(auto, using(live_tables::proofs::tags::Crews::same_first, live_tables::proofs::tags::Crews::same_then, live_tables::proofs::tags::Crews::of_same))]
+#[tactic(auto, using(live_tables::proofs::rows::Crews::same_first, live_tables::proofs::rows::Crews::same_then, live_tables::proofs::rows::Crews::of_same))]
 fn uses<R: Wait>(rt: &R, table: &LiveTags, who: &mut TagWorker, sums: &Sums, round: u32)
     requires { IsOf table.now who.old }
     ensures { IsSameWorker who.old who.new }
@@ -100,7 +100,7 @@ fn uses<R: Wait>(rt: &R, table: &LiveTags, who: &mut TagWorker, sums: &Sums, rou
 }
 
 // Does a task in so many rounds.
-#[tactic(auto, using(live_tables::proofs::tags::Crews::same_first, live_tables::proofs::tags::Crews::same_then, live_tables::proofs::tags::Crews::of_same))]
+#[tactic(auto, using(live_tables::proofs::rows::Crews::same_first, live_tables::proofs::rows::Crews::same_then, live_tables::proofs::rows::Crews::of_same))]
 fn repeats<R: Wait>(
     rt: &R,
     table: &LiveTags,
@@ -118,7 +118,7 @@ fn repeats<R: Wait>(
 }
 
 // Lets each worker do a task in a thread of its own.
-#[tactic(auto, using(live_tables::proofs::tags::Crews::of_same))]
+#[tactic(auto, using(live_tables::proofs::rows::Crews::of_same))]
 fn all_do<R: Threads + Wait + Sync>(
     rt: &R,
     table: &LiveTags,

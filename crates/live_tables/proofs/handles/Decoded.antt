@@ -3,17 +3,17 @@ use Rattle.std.proofs.Common.{◌≡◌, ℕ, ◌-◌, false, true, cond, ne_eqb
 use Rattle.std.proofs.lemmas.List.{append-nil}
 use Rattle.never_heap.specs.declared.Command.{Command}
 use Rattle.never_heap.specs.declared.Reply.{Reply}
-use Rattle.never_heap.specs.declared.Reply.TheVariants as answers
 use Rattle.array_tables.specs.operations.Linearizations.{answers_told}
 use Rattle.array_tables.proofs.operations.Applied.{applied}
 use Rattle.array_tables.proofs.operations.LinearizedRuns.{linearized, linearized_so_far}
 use Rattle.array_tables.specs.handle_table.Handles.{Answer, Matched, Found, Deed, Make, See, Drop, Take, Evict, Row, AreNumbered, ends, found_by, handle_config, id, is_yes, register_of_h, rows_of}
 use Rattle.array_tables.proofs.handle_table.SlotApplication.{slots_owe, whole}
 use Rattle.array_tables.proofs.handle_table.SlotTable.{kept}
-use Rattle.live_tables.specs.rows.Life.{last_three}
-use Rattle.live_tables.proofs.rows.Lawful.{Lawful}
+use Rattle.live_tables.specs.rows.Lawful.{Lawful}
+use Rattle.live_tables.specs.rows.Rows.{answer_told}
 use Rattle.live_tables.specs.handles.Decoding.{Reading, deeds_from, deeds_of, fetched_next, h_of, made_next, nothing_read, set_next}
 use Rattle.live_tables.specs.handles.Live.{commands_of, handles}
+use Rattle.live_tables.proofs.handles.Bounds.{fits_there}
 use Rattle.live_tables.proofs.handles.Makes.{numbered_more}
 
 -- what is read of the commands of deeds that others follow
@@ -72,20 +72,10 @@ decoded slots t ops all =
     ∙ (read_on slots t nothing_read ops [] all).told
     ∙ append-nil ops
 
--- a deed's answer is told by its last replies
-abbrev pub answer_told : Deed → List Reply → Answer
-answer_told (Make t j h i x) rs = Matched (is_yes (last_three answers.Null answers.Null answers.Null rs).2)
-answer_told (See t j h i) rs = Matched (is_yes (last_three answers.Null answers.Null answers.Null rs).2)
-answer_told (Drop t j h i) rs = Matched (is_yes (last_three answers.Null answers.Null answers.Null rs).2)
-answer_told (Take i) rs =
-    let p = last_three answers.Null answers.Null answers.Null rs in Found (found_by p.0 p.2)
-answer_told (Evict i) rs =
-    let p = last_three answers.Null answers.Null answers.Null rs in Found (found_by p.0 p.2)
-
 pub told_one : (op : Deed) (rows : List Row) (rs more : List Reply)
     → length rs ≡ length (rows_of op)
     → answers_told ends [] (rows_of op ++ rows) (rs ++ more)
-    ≡ answer_told op rs ∷ answers_told ends [] rows more
+    ≡ answer_told handles op rs ∷ answers_told ends [] rows more
 told_one (Take i) rows (a ∷ b ∷ c ∷ d ∷ []) more same = refl
 told_one (Evict i) rows (a ∷ b ∷ c ∷ d ∷ e ∷ []) more same = refl
 told_one (See t j h i) rows (a ∷ b ∷ []) more same = refl
@@ -96,7 +86,6 @@ told_one op rows rs more same = absurd (omega arith)
 abbrev pub law : Lawful handles
 law = record {
   whole = whole;
-  answer_by = answer_told;
   told = told_one;
   decoded = λ t ops read. decoded read.0 t ops read.1;
   begins = λ t ops ks read. (let r = read_on read.0 t nothing_read ops ks read.1 in
@@ -110,4 +99,7 @@ law = record {
   so_far = λ n slots blocks rate scripts h count inside begun.
       linearized_so_far (applied (kept slots) (handle_config n slots blocks) rows_of scripts
       (slots_owe n slots blocks scripts count inside)) rate h begun;
+  wide = λ n slots blocks. refl;
+  fits = λ n slots blocks t ops op few_threads few low short all next.
+      fits_there n slots blocks few t few_threads low ops short op next;
 }

@@ -5,10 +5,10 @@ use Rattle.std.proofs.lemmas.Grind.{get_or-set_at}
 use Rattle.std.proofs.lemmas.List.{get_or-set_other}
 use Rattle.block_store.specs.declared.Width.TheVariants.{Eight}
 use Rattle.live_tables.specs.rows.Life.{MakeObjects}
-use Rattle.live_tables.specs.declared.handles.request.Request.{Request}
-use Rattle.live_tables.specs.declared.handles.request.Request.TheVariants as asks
-use Rattle.live_tables.specs.handles.Kept.{NamesHandle, objects_by}
-use Rattle.live_tables.specs.handles.Live.{HandleWorkerState, IsInRange, commands_of, deed_of}
+use Rattle.live_tables.specs.declared.handles.request.HandleRequest.{HandleRequest}
+use Rattle.live_tables.specs.declared.handles.request.HandleRequest.TheVariants as asks
+use Rattle.live_tables.specs.handles.Kept.{objects_by}
+use Rattle.live_tables.specs.handles.Live.{HandleWorkerState, commands_of, deed_of}
 use Rattle.live_tables.specs.handles.Makes.{slot_after}
 
 pub set_there : (slots : List (Option ℕ)) (h i g : ℕ) → h < length slots
@@ -20,7 +20,7 @@ set_there slots h i g low = elim (cases_eq g h) [
       ∙ sym (ap (λ b. cond b (Some i) (get_or slots g None)) (ne_eqb h g (λ e. ne (sym e))))
 ]
 
-pub made_of : (w : HandleWorkerState) (request : Request)
+pub made_of : (w : HandleWorkerState) (request : HandleRequest)
     → MakeObjects Eight (objects_by request) (commands_of (deed_of w request ∷ []))
 made_of w (asks.Make h i x) = record { objects = refl; units = λ rate. omega arith }
 made_of w (asks.See h) = record { objects = refl; units = λ rate. omega arith }
@@ -28,16 +28,9 @@ made_of w (asks.Release h) = record { objects = refl; units = λ rate. omega ari
 made_of w (asks.Take i) = record { objects = refl; units = λ rate. omega arith }
 made_of w (asks.Evict i) = record { objects = refl; units = λ rate. omega arith }
 
-pub few_objects : (request : Request) → objects_by request ≤ 2
+pub few_objects : (request : HandleRequest) → objects_by request ≤ 2
 few_objects (asks.Make h i x) = omega arith
 few_objects (asks.See h) = omega arith
 few_objects (asks.Release h) = omega arith
 few_objects (asks.Take i) = omega arith
 few_objects (asks.Evict i) = omega arith
-
-pub names_of : (slots : ℕ) (request : Request) → IsInRange slots request → NamesHandle request
-names_of slots (asks.Make h i x) range = range.0
-names_of slots (asks.See h) range = tt
-names_of slots (asks.Release h) range = tt
-names_of slots (asks.Take i) range = tt
-names_of slots (asks.Evict i) range = tt

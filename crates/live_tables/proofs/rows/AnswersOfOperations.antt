@@ -4,8 +4,8 @@ use Rattle.std.specs.Prelude.{flat_map}
 use Rattle.std.proofs.lemmas.List.{append_assoc, append-nil, length-append, length-take, length-drop, map-append, take-append-drop}
 use Rattle.never_heap.specs.declared.Reply.{Reply}
 use Rattle.array_tables.specs.operations.Linearizations.{answers_told, seen_next, told_next}
-use Rattle.live_tables.specs.rows.Rows.{Rows, answers_of, commands_of}
-use Rattle.live_tables.proofs.rows.Lawful.{Lawful}
+use Rattle.live_tables.specs.rows.Rows.{Rows, answer_told, answers_of, commands_of}
+use Rattle.live_tables.specs.rows.Lawful.{Lawful}
 
 module _ {Op Row Answer S : Type 0} (a : Rows Op Row Answer S) where
   pub rows_more : (xs ys : List Op)
@@ -58,7 +58,7 @@ module _ {Op Row Answer S : Type 0} (a : Rows Op Row Answer S) where
     told_first : (op : Op) (ops : List Op) (rows : List Row) (rs more : List Reply)
         → length rs ≡ length (flat_map a.rows_of (op ∷ ops))
         → answers_told a.ends [] (flat_map a.rows_of (op ∷ ops) ++ rows) (rs ++ more)
-        ≡ law.answer_by op (take (length (a.rows_of op)) rs)
+        ≡ answer_told a op (take (length (a.rows_of op)) rs)
         ∷ answers_told a.ends [] (flat_map a.rows_of ops ++ rows)
         (drop (length (a.rows_of op)) rs ++ more)
     told_first op ops rows rs more same =
@@ -77,14 +77,14 @@ module _ {Op Row Answer S : Type 0} (a : Rows Op Row Answer S) where
     one_more : (op : Op) (ops : List Op) (rs : List Reply)
         → length rs ≡ length (flat_map a.rows_of (op ∷ ops))
         → answers_of a (op ∷ ops) rs
-        ≡ law.answer_by op (take (length (a.rows_of op)) rs)
+        ≡ answer_told a op (take (length (a.rows_of op)) rs)
         ∷ answers_of a ops (drop (length (a.rows_of op)) rs)
     one_more op ops rs same =
         let back : List Reply = drop (length (a.rows_of op)) rs in
         (λ i. answers_told a.ends [] (sym (append-nil (flat_map a.rows_of (op ∷ ops))) i)
         (sym (append-nil rs) i))
         ∙ told_first op ops [] rs [] same
-        ∙ (λ i. law.answer_by op (take (length (a.rows_of op)) rs)
+        ∙ (λ i. answer_told a op (take (length (a.rows_of op)) rs)
         ∷ answers_told a.ends [] (append-nil (flat_map a.rows_of ops) i) (append-nil back i))
 
     pub told_more : (ops : List Op) (rows : List Row) (rs more : List Reply)
@@ -97,7 +97,7 @@ module _ {Op Row Answer S : Type 0} (a : Rows Op Row Answer S) where
         let front : List Reply = take (length (a.rows_of op)) rs in
         let back : List Reply = drop (length (a.rows_of op)) rs in
         told_first op ops rows rs more same
-        ∙ ap (λ l. law.answer_by op front ∷ l)
+        ∙ ap (λ l. answer_told a op front ∷ l)
         (told_more ops rows back more (back_long op ops rs same))
         ∙ ap (λ l. l ++ answers_told a.ends [] rows more) (sym (one_more op ops rs same))
 
@@ -114,7 +114,7 @@ module _ {Op Row Answer S : Type 0} (a : Rows Op Row Answer S) where
     pub answers_more : (ops : List Op) (op : Op) (rs more : List Reply)
         → length rs ≡ length (flat_map a.rows_of ops) → length more ≡ length (a.rows_of op)
         → answers_of a (ops ++ op ∷ []) (rs ++ more)
-        ≡ answers_of a ops rs ++ law.answer_by op more ∷ []
+        ≡ answers_of a ops rs ++ answer_told a op more ∷ []
     answers_more ops op rs more same long =
         ap (λ rows. answers_told a.ends [] rows (rs ++ more)) (rows_more ops (op ∷ []))
         ∙ told_more ops (flat_map a.rows_of (op ∷ [])) rs more same

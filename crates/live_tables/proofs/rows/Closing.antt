@@ -28,7 +28,7 @@ use Rattle.live_tables.specs.rows.Orders.{HasScript, HaveOneOrder, OperationsAre
 use Rattle.live_tables.specs.rows.Rows.{Rows, IsRowHeap, answers_of, commands_in, commands_of, replies}
 use Rattle.live_tables.specs.rows.Workers.{IsRowWorker, RowWorkerState, heap_worker, row_worker, thread_of}
 use Rattle.live_tables.proofs.rows.Cuts.{stands}
-use Rattle.live_tables.proofs.rows.Lawful.{Lawful}
+use Rattle.live_tables.specs.rows.Lawful.{Lawful}
 use Rattle.live_tables.proofs.rows.RealTime.{keeps_real_time}
 
 -- the scripts of some threads, by their parts

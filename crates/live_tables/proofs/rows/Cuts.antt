@@ -13,7 +13,7 @@ use Rattle.array_tables.specs.operations.Linearizations.{Call, calls_of, rows_le
 use Rattle.shared_heap.specs.Shared.{IsStartOf}
 use Rattle.live_tables.specs.rows.Behind.{StandsBehind, operations_in}
 use Rattle.live_tables.specs.rows.Rows.{Rows, commands_in, commands_of}
-use Rattle.live_tables.proofs.rows.Lawful.{Lawful}
+use Rattle.live_tables.specs.rows.Lawful.{Lawful}
 use Rattle.live_tables.proofs.rows.AnswersOfOperations.{rows_more}
 
 -- ---- lists

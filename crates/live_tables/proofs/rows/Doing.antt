@@ -9,9 +9,9 @@ use Rattle.heap_system.specs.Locals.{LocalState}
 use Rattle.shared_heap.specs.Stamps as stamps
 use Rattle.shared_heap.specs.Workers.{HasSeenIts, WorkerState}
 use Rattle.live_tables.specs.rows.Life.{HasBegun, HasRun}
-use Rattle.live_tables.specs.rows.Rows.{Rows, IsRowHeap, answers_of, commands_of, replies}
+use Rattle.live_tables.specs.rows.Rows.{Rows, IsRowHeap, answer_told, answers_of, commands_of, replies}
 use Rattle.live_tables.specs.rows.Workers.{HasDone, HasDrawn, HasSeenAll, IsNext, IsRowWorker, row_worker}
-use Rattle.live_tables.proofs.rows.Lawful.{Lawful}
+use Rattle.live_tables.specs.rows.Lawful.{Lawful}
 use Rattle.live_tables.proofs.rows.AnswersOfOperations.{answers_more, commands_more}
 
 -- a worker that drew a stamp
@@ -108,7 +108,7 @@ module _ {Op Row Answer S : Type 0} (a : Rows Op Row Answer S) (law : Lawful a)
 
   answers_are : answers_of a (a.operations_of new.thread.thread new.thread.trace)
       (replies new.thread.log)
-      ≡ answers_of a ops (replies old.thread.log) ++ law.answer_by op (replies run.entries) ∷ []
+      ≡ answers_of a ops (replies old.thread.log) ++ answer_told a op (replies run.entries) ∷ []
   answers_are =
       (λ i. answers_of a (ops_are i) (replies (run.told i)))
       ∙ ap (answers_of a (ops ++ op ∷ []))
@@ -116,13 +116,13 @@ module _ {Op Row Answer S : Type 0} (a : Rows Op Row Answer S) (law : Lawful a)
       ∙ answers_more a law ops op (replies old.thread.log) (replies run.entries) rows_long
       replies_long
 
-  pub was_done : (answer : Answer) → answer ≡ law.answer_by op (replies run.entries)
-      → HasSeenIts old → HasBegun old new
-      → HasDone a (row_worker a old) op answer (row_worker a new)
-  was_done answer same sound begun = record {
+  pub was_done : HasSeenIts old → HasBegun old new
+      → HasDone a (row_worker a old) op (a.answer_by op three) (row_worker a new)
+  was_done sound begun = record {
     done = ops_are;
     answers = answers_are
-        ∙ ap (λ x. answers_of a ops (replies old.thread.log) ++ x ∷ []) (sym same);
+        ∙ ap (λ x. answers_of a ops (replies old.thread.log) ++ x ∷ [])
+        (sym (ap (a.answer_by op) run.last));
     start = begun.start;
     before = begun.before;
     noted = begun.noted;

@@ -8,7 +8,7 @@ use Rattle.shared_heap.specs.Workers.{HeapState, IsFresh, WorkerState}
 use Rattle.atom_board.proofs.Crews.{get_or_map}
 use Rattle.live_tables.specs.rows.Rows.{Rows, IsRowHeap, answers_of, commands_of, replies}
 use Rattle.live_tables.specs.rows.Workers.{AreFresh, AreInOrder, IsRowWorker, RowWorkerState, row_worker}
-use Rattle.live_tables.proofs.rows.Lawful.{Lawful}
+use Rattle.live_tables.specs.rows.Lawful.{Lawful}
 
 module _ {Op Row Answer S : Type 0} (a : Rows Op Row Answer S) (law : Lawful a) where
   abbrev of : WorkerState → RowWorkerState Op Answer
@@ -20,7 +20,7 @@ module _ {Op Row Answer S : Type 0} (a : Rows Op Row Answer S) (law : Lawful a) 
   none_read : (t : ℕ) → a.operations_of t [] ≡ []
   none_read t = law.decoded t [] (law.read 0 t [] (law.none 0 t))
 
-  none_done : (w : WorkerState) → w.thread.trace ≡ []
+  pub none_done : (w : WorkerState) → w.thread.trace ≡ []
       → a.operations_of w.thread.thread w.thread.trace ≡ []
   none_done w e = ap (a.operations_of w.thread.thread) e ∙ none_read w.thread.thread
 

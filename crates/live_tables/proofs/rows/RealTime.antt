@@ -14,7 +14,7 @@ use Rattle.live_tables.specs.rows.Behind.{operations_in}
 use Rattle.live_tables.specs.rows.RealTime.{ComeBefore, KeepsRealTime}
 use Rattle.live_tables.specs.rows.Rows.{Rows, commands_of}
 use Rattle.live_tables.specs.rows.SoFar.{SeenComesBeforeLater}
-use Rattle.live_tables.proofs.rows.Lawful.{Lawful}
+use Rattle.live_tables.specs.rows.Lawful.{Lawful}
 use Rattle.live_tables.proofs.rows.AnswersOfOperations.{rows_more}
 use Rattle.live_tables.proofs.rows.Cuts.{IsSplit, decided_so_far, ops_behind, ops_of, ops_of_calls, pair_of_call, split_behind, split_map, whole_ops}
 

@@ -38,7 +38,7 @@ use Rattle.live_tables.specs.rows.Rows.{Rows, IsRowHeap, answers_of, commands_in
 use Rattle.live_tables.specs.rows.Workers.{IsRowWorker, row_worker}
 use Rattle.live_tables.specs.rows.SoFar.{AllThreads, AllSeats, IsAt, IsBetween, IsWithin, IsWorking, Execute, HasCalls, HaveInvoked, AllHaveCalls, FitsOneOrder}
 use Rattle.live_tables.proofs.rows.Cuts.{begins_so, decided_so_far, ops_of, ops_of_calls}
-use Rattle.live_tables.proofs.rows.Lawful.{Lawful}
+use Rattle.live_tables.specs.rows.Lawful.{Lawful}
 use Rattle.live_tables.proofs.rows.RealTime.{keeps_real_time}
 use Rattle.live_tables.proofs.rows.AnswersOfOperations.{as_many_answers, commands_more, rows_more, told_within}
 

@@ -1,5 +1,5 @@
 -- The commands of operations tell the operations, and their replies the answers.
-use Rattle.std.proofs.Common.{◌≡◌, ℕ, Bool, true, false, refl, arith, ap, List, [], ◌∷◌, ◌++◌, length}
+use Rattle.std.proofs.Common.{◌≡◌, ℕ, Bool, true, false, refl, arith, ap, ◌∙◌, List, [], ◌∷◌, ◌++◌, length}
 use Rattle.never_heap.specs.declared.Command.{Command}
 use Rattle.never_heap.specs.declared.Reply.{Reply}
 use Rattle.never_heap.specs.declared.Reply.TheVariants as answers
@@ -10,7 +10,9 @@ use Rattle.array_tables.specs.tag_table.Tables.{Row, rows_of, ends, pair_of, tag
 use Rattle.array_tables.proofs.tag_table.TableApplication.{tables_are_kept, tables_so_far}
 use Rattle.array_tables.proofs.tag_table.TagRows.{whole}
 use Rattle.live_tables.specs.rows.Life.{last_three}
-use Rattle.live_tables.proofs.rows.Lawful.{Lawful}
+use Rattle.live_tables.specs.rows.Lawful.{Lawful}
+use Rattle.live_tables.specs.rows.Rows.{answer_told}
+use Rattle.live_tables.proofs.tags.Doing.{fits_there}
 use Rattle.live_tables.specs.tags.Decoding.{operations_from}
 use Rattle.live_tables.specs.tags.Live.{commands_of, tags}
 
@@ -49,17 +51,17 @@ inside_more n [] (Clear i) all one = (one, tt)
 inside_more n [] (Read i) all one = (one, tt)
 inside_more n (x ∷ ops) op all one = (all.0, inside_more n ops op all.1 one)
 
-pub told_one : (op : Operation) (rows : List Row) (rs more : List Reply)
+told_by_tag : (op : Operation) (rows : List Row) (rs more : List Reply)
     → length rs ≡ length (rows_of op)
     → answers_told ends [] (rows_of op ++ rows) (rs ++ more)
     ≡ tag_told op rs ∷ answers_told ends [] rows more
-told_one (Read i) rows (a ∷ b ∷ c ∷ []) more same = refl
-told_one (Clear i) rows (a ∷ b ∷ c ∷ d ∷ []) more same = refl
-told_one (Write i v q) rows (a ∷ b ∷ c ∷ d ∷ e ∷ f ∷ g ∷ h ∷ []) more same = refl
-told_one op rows rs more same = absurd (omega arith)
+told_by_tag (Read i) rows (a ∷ b ∷ c ∷ []) more same = refl
+told_by_tag (Clear i) rows (a ∷ b ∷ c ∷ d ∷ []) more same = refl
+told_by_tag (Write i v q) rows (a ∷ b ∷ c ∷ d ∷ e ∷ f ∷ g ∷ h ∷ []) more same = refl
+told_by_tag op rows rs more same = absurd (omega arith)
 
 -- an operation's answer is the pair of its last two replies
-pub told_by_two : (op : Operation) (rs : List Reply) → length rs ≡ length (rows_of op)
+told_by_two : (op : Operation) (rs : List Reply) → length rs ≡ length (rows_of op)
     → tag_told op rs
     ≡ pair_of (last_three answers.Null answers.Null answers.Null rs).1
     (last_three answers.Null answers.Null answers.Null rs).2
@@ -68,10 +70,17 @@ told_by_two (Clear i) (a ∷ b ∷ c ∷ d ∷ []) same = refl
 told_by_two (Write i v q) (a ∷ b ∷ c ∷ d ∷ e ∷ f ∷ g ∷ h ∷ []) same = refl
 told_by_two op rs same = absurd (omega arith)
 
+pub told_one : (op : Operation) (rows : List Row) (rs more : List Reply)
+    → length rs ≡ length (rows_of op)
+    → answers_told ends [] (rows_of op ++ rows) (rs ++ more)
+    ≡ answer_told tags op rs ∷ answers_told ends [] rows more
+told_one op rows rs more same =
+    told_by_tag op rows rs more same
+    ∙ ap (λ x. x ∷ answers_told ends [] rows more) (told_by_two op rs same)
+
 abbrev pub law : Lawful tags
 law = record {
   whole = whole;
-  answer_by = tag_told;
   told = told_one;
   decoded = λ t ops read. decoded_from ops false 0 0;
   begins = λ t ops ks read. (let r = read_on ops false 0 0 ks in
@@ -83,4 +92,7 @@ law = record {
       (let all = tables_are_kept n places blocks rate scripts h count inside run in
       (all.0, all.1, all.3));
   so_far = tables_so_far;
+  wide = λ n places blocks. refl;
+  fits = λ n places blocks t ops op few_threads few low short all next.
+      fits_there n places blocks few op next;
 }

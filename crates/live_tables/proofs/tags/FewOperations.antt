@@ -14,7 +14,8 @@ use Rattle.heap_system.specs.Locals.{works}
 use Rattle.shared_heap.specs.Workers.{CanOpen, HasSeenIts}
 use Rattle.array_tables.specs.declared.tag_table.operation.Operation.{Operation}
 use Rattle.array_tables.specs.declared.tag_table.operation.Operation.TheVariants.{Write, Clear, Read}
-use Rattle.live_tables.specs.tags.Live.{FewLeaveLife, HasSeenAll, IsTagHeap, TagWorkerState, commands_of, thread_of}
+use Rattle.live_tables.specs.rows.Workers.{thread_of}
+use Rattle.live_tables.specs.tags.Live.{FewLeaveLife, commands_of}
 use Rattle.live_tables.proofs.rows.Rooms.{AllRight, right_part}
 
 -- what so many operations need at most

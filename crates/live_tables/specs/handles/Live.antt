@@ -3,20 +3,19 @@ use Rattle.std.specs.Prelude.{ℕ, ◌+◌, ◌-◌, ◌*◌, ◌<◌, ◌≤◌
 use Rattle.block_store.specs.declared.Config.{Config}
 use Rattle.never_heap.specs.declared.Command.{Command}
 use Rattle.never_heap.specs.declared.Reply.{Reply}
-use Rattle.never_heap.specs.Histories.{HistoryItem}
-use Rattle.shared_heap.specs.Workers.{CanOpen, HeapState, WorkerState}
+use Rattle.shared_heap.specs.Workers.{CanOpen}
 use Rattle.array_tables.specs.handle_table.Handles.{Answer, Matched, Found, Deed, Make, See, Drop, Take, Evict, Slot, Row, answer, slots_after, empty_slots, rows_of, command_at, decides, ends, found_by, handle_config, is_yes, AreNumbered}
 use Rattle.live_tables.specs.rows.Orders as orders
 use Rattle.live_tables.specs.rows.Rows as rows
 use Rattle.live_tables.specs.rows.Rows.{Rows}
 use Rattle.live_tables.specs.rows.Workers as workers
-use Rattle.live_tables.specs.rows.Workers.{RowWorkerState}
+use Rattle.live_tables.specs.rows.Workers.{RowWorkerState, thread_of}
 use Rattle.live_tables.specs.declared.handles.faults.Refused.{Refused}
 use Rattle.live_tables.specs.declared.handles.faults.Refused.TheVariants.{OutOfRange, NotMade, NoLifeLeft}
 use Rattle.live_tables.specs.declared.handles.faults.OpenFault.{OpenFault}
 use Rattle.live_tables.specs.declared.handles.faults.OpenFault.TheVariants as faults
-use Rattle.live_tables.specs.declared.handles.request.Request.{Request}
-use Rattle.live_tables.specs.declared.handles.request.Request.TheVariants as asks
+use Rattle.live_tables.specs.declared.handles.request.HandleRequest.{HandleRequest}
+use Rattle.live_tables.specs.declared.handles.request.HandleRequest.TheVariants as asks
 use Rattle.live_tables.specs.handles.Decoding.{deeds_of}
 use Rattle.live_tables.specs.handles.Makes.{last_by, made_by, slot_by}
 
@@ -29,6 +28,12 @@ CanFollow slots t n last (See u j h i) = (u ≡ t) × (last h ≡ j + 1) × (h <
 CanFollow slots t n last (Drop u j h i) = (u ≡ t) × (last h ≡ j + 1) × (h < 8) × (i < slots)
 CanFollow slots t n last (Take i) = i < slots
 CanFollow slots t n last (Evict i) = i < slots
+
+-- the answer that the last three replies tell
+abbrev pub answer_by : Deed → Reply × Reply × Reply → Answer
+answer_by (Take i) p = Found (found_by p.0 p.2)
+answer_by (Evict i) p = Found (found_by p.0 p.2)
+answer_by _ p = Matched (is_yes p.2)
 
 -- The slots, the deeds, and the commands that they are made of.
 abbrev pub handles : Rows Deed Row Answer (List Slot)
@@ -45,16 +50,13 @@ handles = record {
   CanBeNext = λ slots t before op. CanFollow slots t (made_by before) (last_by before) op;
   operations_of = deeds_of;
   AreRead = λ t ops. (slots : ℕ) × AreNumbered slots t 0 (λ h. 0) ops;
+  answer_by = answer_by;
 }
 
 -- A worker of the slots: its worker of the heap, the deeds that it did, and their answers. In
 -- memory it has only its last command, how many handles it made, and the slot of each of its eight.
 abbrev pub HandleWorkerState : Type 0
 HandleWorkerState = RowWorkerState Deed Answer
-
--- the thread of a worker
-abbrev pub thread_of : HandleWorkerState → ℕ
-thread_of w = w.worker.thread.thread
 
 -- how many slots there are
 abbrev pub slots_of : HandleWorkerState → ℕ
@@ -63,18 +65,6 @@ slots_of w = w.worker.thread.config.shared
 -- the commands of deeds
 abbrev pub commands_of : List Deed → List Command
 commands_of ops = rows.commands_of handles ops
-
--- the heap of slots, of any number of blocks
-abbrev pub IsHandleHeap : Config → Type 0
-IsHandleHeap c = rows.IsRowHeap handles c
-
--- a worker of the heap has executed the commands of numbered deeds, and no others
-abbrev pub IsHandleWorker : WorkerState → Type 0
-IsHandleWorker w = workers.IsRowWorker handles w
-
--- the value of a worker in contracts
-abbrev pub handle_worker : WorkerState → HandleWorkerState
-handle_worker w = workers.row_worker handles w
 
 -- the heap of slots as it is opened
 abbrev pub opened_config : ℕ → ℕ → Config
@@ -96,7 +86,7 @@ place_in None = 0
 place_in (Some i) = i
 
 -- the deed: the next make of the worker, or one on the last make of h, at its slot
-abbrev pub deed_of : HandleWorkerState → Request → Deed
+abbrev pub deed_of : HandleWorkerState → HandleRequest → Deed
 deed_of w (asks.Make h i x) = Make (thread_of w) (made_by w.done) h i x
 deed_of w (asks.See h) =
     See (thread_of w) (last_by w.done h - 1) h (place_in (known_slot w h))
@@ -106,7 +96,7 @@ deed_of w (asks.Take i) = Take i
 deed_of w (asks.Evict i) = Evict i
 
 -- its ranges
-abbrev pub IsInRange : ℕ → Request → Type 0
+abbrev pub IsInRange : ℕ → HandleRequest → Type 0
 IsInRange slots (asks.Make h i x) = (h < 8) × (i < slots) × (x < 2 ^ 62)
 IsInRange slots (asks.See h) = h < 8
 IsInRange slots (asks.Release h) = h < 8
@@ -114,7 +104,7 @@ IsInRange slots (asks.Take i) = i < slots
 IsInRange slots (asks.Evict i) = i < slots
 
 -- the worker has made the handle that is named
-abbrev pub IsMade : HandleWorkerState → Request → Type 0
+abbrev pub IsMade : HandleWorkerState → HandleRequest → Type 0
 IsMade w (asks.See h) = IsTrue (is_known (known_slot w h))
 IsMade w (asks.Release h) = IsTrue (is_known (known_slot w h))
 IsMade w _ = Unit {0}
@@ -124,58 +114,20 @@ abbrev pub HasLife : HandleWorkerState → Deed → Type 0
 HasLife w op = workers.HasLife handles w op
 
 -- it can do what it is asked
-abbrev pub CanDo : HandleWorkerState → Request → Type 0
+abbrev pub CanDo : HandleWorkerState → HandleRequest → Type 0
 CanDo w u = IsInRange (slots_of w) u × IsMade w u × HasLife w (deed_of w u)
 
 -- the cause of each refusal
-abbrev pub IsRefused : HandleWorkerState → Request → Refused → Type 0
+abbrev pub IsRefused : HandleWorkerState → HandleRequest → Refused → Type 0
 IsRefused w u OutOfRange = ¬ IsInRange (slots_of w) u
 IsRefused w u NotMade = IsInRange (slots_of w) u × ¬ IsMade w u
 IsRefused w u NoLifeLeft = IsInRange (slots_of w) u × IsMade w u × ¬ HasLife w (deed_of w u)
 
--- the answer that the last three replies tell
-abbrev pub answer_by : Request → Reply × Reply × Reply → Answer
-answer_by (asks.Take i) p = Found (found_by p.0 p.2)
-answer_by (asks.Evict i) p = Found (found_by p.0 p.2)
-answer_by _ p = Matched (is_yes p.2)
-
 -- ---- workers
-
--- a worker is of these slots
-abbrev pub IsOf : HeapState → HandleWorkerState → Type 0
-IsOf t w = workers.IsOf t w
-
--- the same worker, which has learned a note of this history
-abbrev pub has_learned : HandleWorkerState → List HistoryItem → HandleWorkerState
-has_learned w seen = workers.has_learned w seen
-
--- these are all workers of these slots, in thread order
-abbrev pub AreInOrder : HeapState → List HandleWorkerState → Type 0
-AreInOrder t ws = workers.AreInOrder t ws
-
--- these are all workers of these slots, each once, in any order
-abbrev pub AreEachOnce : HeapState → List HandleWorkerState → Type 0
-AreEachOnce t ws = workers.AreEachOnce t ws
-
--- they have done nothing
-abbrev pub AreFresh : List HandleWorkerState → Type 0
-AreFresh ws = workers.AreFresh ws
-
--- a worker's entries are its part of what it has seen, and their commands are those of its deeds
-abbrev pub HasSeenAll : HandleWorkerState → Type 0
-HasSeenAll w = workers.HasSeenAll handles w
 
 -- The worker has done one more deed, with this answer, after all that it had seen and learned.
 abbrev pub HasDone : HandleWorkerState → Deed → Answer → HandleWorkerState → Type 0
 HasDone old op a new = workers.HasDone handles old op a new
-
--- the worker drew a stamp with this number, and executed nothing
-abbrev pub HasDrawn : HandleWorkerState → ℕ → HandleWorkerState → Type 0
-HasDrawn old n new = workers.HasDrawn old n new
-
--- the same worker of the same slots
-abbrev pub IsSameWorker : HandleWorkerState → HandleWorkerState → Type 0
-IsSameWorker old new = workers.IsSameWorker old new
 
 -- ---- opening and closing
 

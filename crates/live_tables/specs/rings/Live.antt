@@ -3,20 +3,19 @@ use Rattle.std.specs.Prelude.{ℕ, ◌+◌, ◌*◌, ◌<◌, ◌≤◌, ◌≡�
 use Rattle.block_store.specs.declared.Config.{Config}
 use Rattle.never_heap.specs.declared.Command.{Command}
 use Rattle.never_heap.specs.declared.Reply.{Reply}
-use Rattle.never_heap.specs.Histories.{HistoryItem}
-use Rattle.shared_heap.specs.Workers.{CanOpen, HeapState, WorkerState}
+use Rattle.shared_heap.specs.Workers.{CanOpen}
 use Rattle.array_tables.specs.number_rings.Rings.{Operation, Keep, Recall, Cell, Row, AreInCells, answer, cell_config, cells_after, command_at, decides, empty_cells, ends, number_of, ring_config, ring_place, rows_of}
 use Rattle.live_tables.specs.rows.Orders as orders
 use Rattle.live_tables.specs.rows.Rows as rows
 use Rattle.live_tables.specs.rows.Rows.{Rows}
 use Rattle.live_tables.specs.rows.Workers as workers
-use Rattle.live_tables.specs.rows.Workers.{RowWorkerState}
+use Rattle.live_tables.specs.rows.Workers.{RowWorkerState, thread_of, threads_of}
 use Rattle.live_tables.specs.declared.rings.faults.Refused.{Refused}
 use Rattle.live_tables.specs.declared.rings.faults.Refused.TheVariants.{OutOfRange, NoLifeLeft}
 use Rattle.live_tables.specs.declared.rings.faults.OpenFault.{OpenFault}
 use Rattle.live_tables.specs.declared.rings.faults.OpenFault.TheVariants as faults
-use Rattle.live_tables.specs.declared.rings.request.Request.{Request}
-use Rattle.live_tables.specs.declared.rings.request.Request.TheVariants as asks
+use Rattle.live_tables.specs.declared.rings.request.RingRequest.{RingRequest}
+use Rattle.live_tables.specs.declared.rings.request.RingRequest.TheVariants as asks
 use Rattle.live_tables.specs.rings.Decoding.{operations_of}
 
 -- how many numbers were kept, behind n others
@@ -43,6 +42,11 @@ CanBeNext places t before (Keep i v) =
     (i ≡ ring_place t (kept_by before)) × (i < places) × (v < 2 ^ 62)
 CanBeNext places t before (Recall i) = i < places
 
+-- the answer that the last three replies tell
+abbrev pub answer_by : Operation → Reply × Reply × Reply → Cell
+answer_by (Keep i v) p = None
+answer_by (Recall i) p = number_of p.2
+
 -- The places of all rings, the operations, and the commands that they are made of.
 abbrev pub rings : Rows Operation Row Cell (List Cell)
 rings = record {
@@ -58,6 +62,7 @@ rings = record {
   CanBeNext = CanBeNext;
   operations_of = λ t ks. operations_of ks;
   AreRead = λ t ops. AreOwn t ops;
+  answer_by = answer_by;
 }
 
 -- A worker of a ring: its worker of the heap, the operations that it did, and their answers. In
@@ -65,102 +70,44 @@ rings = record {
 abbrev pub RingWorkerState : Type 0
 RingWorkerState = RowWorkerState Operation Cell
 
--- the thread of a worker
-abbrev pub thread_of : RingWorkerState → ℕ
-thread_of w = w.worker.thread.thread
-
--- how many places there are in all rings
-abbrev pub places_of : RingWorkerState → ℕ
-places_of w = w.worker.thread.config.shared
-
 -- the commands of operations
 abbrev pub commands_of : List Operation → List Command
 commands_of ops = rows.commands_of rings ops
 
--- the heap of rings, of any number of blocks: eight places for each thread
-abbrev pub IsRingHeap : Config → Type 0
-IsRingHeap c = rows.IsRowHeap rings c × (c.shared ≡ 8 * c.threads)
-
--- a worker of the heap has executed the commands of operations on rings, and no others
-abbrev pub IsRingWorker : WorkerState → Type 0
-IsRingWorker w = workers.IsRowWorker rings w
-
--- the value of a worker in contracts
-abbrev pub ring_worker : WorkerState → RingWorkerState
-ring_worker w = workers.row_worker rings w
+-- the heap of rings has eight places for each thread
+abbrev pub AreOfEight : Config → Type 0
+AreOfEight c = c.shared ≡ 8 * c.threads
 
 -- ---- what a worker is asked to do
 
 -- the operation: a keep at the next place of the worker's own ring, or a recall of any place
-abbrev pub operation_of : RingWorkerState → Request → Operation
+abbrev pub operation_of : RingWorkerState → RingRequest → Operation
 operation_of w (asks.Keep v) = Keep (ring_place (thread_of w) (kept_by w.done)) v
 operation_of w (asks.Recall u k) = Recall (8 * u + k)
 
 -- its ranges: a number fits in a field, and a place is one of eight of a thread's ring
-abbrev pub IsInRange : ℕ → Request → Type 0
+abbrev pub IsInRange : ℕ → RingRequest → Type 0
 IsInRange threads (asks.Keep v) = v < 2 ^ 62
 IsInRange threads (asks.Recall u k) = (u < threads) × (k < 8)
-
--- how many threads there are
-abbrev pub threads_of : RingWorkerState → ℕ
-threads_of w = w.worker.thread.config.threads
 
 -- the worker's lifetime allows all commands of an operation
 abbrev pub HasLife : RingWorkerState → Operation → Type 0
 HasLife w op = workers.HasLife rings w op
 
 -- it can do what it is asked
-abbrev pub CanDo : RingWorkerState → Request → Type 0
+abbrev pub CanDo : RingWorkerState → RingRequest → Type 0
 CanDo w u = IsInRange (threads_of w) u × HasLife w (operation_of w u)
 
 -- the cause of each refusal
-abbrev pub IsRefused : RingWorkerState → Request → Refused → Type 0
+abbrev pub IsRefused : RingWorkerState → RingRequest → Refused → Type 0
 IsRefused w u OutOfRange = ¬ IsInRange (threads_of w) u
 IsRefused w u NoLifeLeft = IsInRange (threads_of w) u × ¬ HasLife w (operation_of w u)
 
--- the answer that the last reply tells
-abbrev pub answer_by : Request → Reply → Cell
-answer_by (asks.Keep v) r = None
-answer_by (asks.Recall u k) r = number_of r
-
 -- ---- workers
-
--- a worker is of these rings
-abbrev pub IsOf : HeapState → RingWorkerState → Type 0
-IsOf t w = workers.IsOf t w
-
--- the same worker, which has learned a note of this history
-abbrev pub has_learned : RingWorkerState → List HistoryItem → RingWorkerState
-has_learned w seen = workers.has_learned w seen
-
--- these are all workers of these rings, in thread order
-abbrev pub AreInOrder : HeapState → List RingWorkerState → Type 0
-AreInOrder t ws = workers.AreInOrder t ws
-
--- these are all workers of these rings, each once, in any order
-abbrev pub AreEachOnce : HeapState → List RingWorkerState → Type 0
-AreEachOnce t ws = workers.AreEachOnce t ws
-
--- they have done nothing
-abbrev pub AreFresh : List RingWorkerState → Type 0
-AreFresh ws = workers.AreFresh ws
-
--- a worker's entries are its part of what it has seen, and their commands are those of its
--- operations
-abbrev pub HasSeenAll : RingWorkerState → Type 0
-HasSeenAll w = workers.HasSeenAll rings w
 
 -- The worker has done one more operation, with this answer, after all that it had seen and learned.
 abbrev pub HasDone : RingWorkerState → Operation → Cell → RingWorkerState → Type 0
 HasDone old op a new = workers.HasDone rings old op a new
-
--- the worker drew a stamp with this number, and executed nothing
-abbrev pub HasDrawn : RingWorkerState → ℕ → RingWorkerState → Type 0
-HasDrawn old n new = workers.HasDrawn old n new
-
--- the same worker of the same rings
-abbrev pub IsSameWorker : RingWorkerState → RingWorkerState → Type 0
-IsSameWorker old new = workers.IsSameWorker old new
 
 -- ---- opening and closing
 
@@ -183,21 +130,11 @@ HaveOneOrder c ws cycles = orders.HaveOneOrder rings c ws cycles
 -- ---- within a worker
 
 -- how many numbers a request keeps
-abbrev pub keeps : Request → ℕ
-keeps (asks.Keep v) = 1
-keeps _ = 0
+abbrev pub keeping : RingRequest → ℕ
+keeping (asks.Keep v) = 1
+keeping _ = 0
 
--- a worker keeps how many numbers it kept; it is of one of the threads
-pub record Knows (w : WorkerState) (kept : ℕ) : Type 0 where
-  pub worker : IsRingWorker w
-  pub places : w.thread.config.shared ≡ 8 * w.thread.config.threads
-  pub low : w.thread.thread < w.thread.config.threads
-  pub kept_so : kept ≡ kept_by (operations_of w.thread.trace)
-  pub few : kept ≤ 2 ^ 60
-
--- a worker that has done nothing
-pub record IsNew (w : WorkerState) : Type 0 where
-  pub worker : IsRingWorker w
-  pub places : w.thread.config.shared ≡ 8 * w.thread.config.threads
-  pub low : w.thread.thread < w.thread.config.threads
-  pub none : operations_of w.thread.trace ≡ []
+-- a worker keeps how many numbers it kept
+pub record Keeps (c : Config) (t : ℕ) (ops : List Operation) (kept : ℕ) : Type 0 where
+  pub places : c.shared ≡ 8 * c.threads
+  pub kept_so : kept ≡ kept_by ops

@@ -4,7 +4,9 @@ use Rattle.block_store.specs.declared.Config.{Config}
 use Rattle.never_heap.specs.declared.Command.{Command}
 use Rattle.never_heap.specs.declared.Entry.{Entry}
 use Rattle.never_heap.specs.declared.Reply.{Reply}
+use Rattle.never_heap.specs.declared.Reply.TheVariants as tells
 use Rattle.array_tables.specs.operations.Linearizations.{answers_told}
+use Rattle.live_tables.specs.rows.Life.{last_three}
 
 -- A table, its operations, and the commands that they are made of.
 pub record Rows (Op Row Answer S : Type 0) : Type 1 where
@@ -27,6 +29,8 @@ pub record Rows (Op Row Answer S : Type 0) : Type 1 where
   -- the operations of a thread, read off its commands, and what they must be to be read so
   pub operations_of : ℕ → List Command → List Op
   pub AreRead : ℕ → List Op → Type 0
+  -- what the last three replies to an operation's commands tell that it answered
+  pub answer_by : Op → Reply × Reply × Reply → Answer
 
 abbrev pub replies : List Entry → List Reply
 replies es = map (λ (e : Entry). e.reply) es
@@ -42,6 +46,10 @@ module _ {Op Row Answer S : Type 0} (a : Rows Op Row Answer S) where
   -- the answers of operations, told by the replies to their commands
   abbrev pub answers_of : List Op → List Reply → List Answer
   answers_of ops rs = answers_told a.ends [] (flat_map a.rows_of ops) rs
+
+  -- the answer of one operation, told by the replies to its own commands
+  abbrev pub answer_told : Op → List Reply → Answer
+  answer_told op rs = a.answer_by op (last_three tells.Null tells.Null tells.Null rs)
 
   -- the heap of a table, with any number of blocks
   abbrev pub IsRowHeap : Config → Type 0

@@ -28,7 +28,10 @@ module _ {Op Answer : Type 0} where
   abbrev pub thread_of : RowWorkerState Op Answer → ℕ
   thread_of w = w.worker.thread.thread
 
-  -- how many places its table has
+  -- how many threads its table has, and how many places
+  abbrev pub threads_of : RowWorkerState Op Answer → ℕ
+  threads_of w = w.worker.thread.config.threads
+
   abbrev pub places_of : RowWorkerState Op Answer → ℕ
   places_of w = w.worker.thread.config.shared
 

@@ -5,15 +5,15 @@ use Rattle.never_heap.specs.declared.Command.{Command}
 use Rattle.never_heap.specs.Histories.{HistoryItem}
 use Rattle.array_tables.specs.operations.Linearizations.{Call}
 use Rattle.shared_heap.specs.declared.rules.Moment.{Moment}
-use Rattle.shared_heap.specs.Workers.{CanOpen, HasSeenIts, HeapState, WorkerState}
+use Rattle.shared_heap.specs.Workers.{CanOpen, HasSeenIts}
 use Rattle.array_tables.specs.declared.tag_table.operation.Operation.{Operation}
 use Rattle.array_tables.specs.declared.tag_table.operation.Operation.TheVariants.{Write}
-use Rattle.array_tables.specs.tag_table.Tables.{Tag, Row, rows_of, command_at, decides, ends, answer, table_after, empty_table, tag_config, AreInTable, IsOperationInRange}
+use Rattle.array_tables.specs.tag_table.Tables.{Tag, Row, rows_of, command_at, decides, ends, answer, table_after, empty_table, tag_config, AreInTable, IsOperationInRange, pair_of}
 use Rattle.live_tables.specs.rows.Orders as orders
 use Rattle.live_tables.specs.rows.Rows as rows
 use Rattle.live_tables.specs.rows.Rows.{Rows}
 use Rattle.live_tables.specs.rows.Workers as workers
-use Rattle.live_tables.specs.rows.Workers.{RowWorkerState}
+use Rattle.live_tables.specs.rows.Workers.{RowWorkerState, places_of}
 use Rattle.live_tables.specs.declared.tags.table.Refused.{Refused}
 use Rattle.live_tables.specs.declared.tags.table.Refused.TheVariants.{OutOfRange, NoLifeLeft}
 use Rattle.live_tables.specs.declared.tags.table.OpenFault.{OpenFault}
@@ -36,6 +36,7 @@ tags = record {
   CanBeNext = λ places t ops op. IsOperationInRange places op;
   operations_of = λ t ks. operations_of ks;
   AreRead = λ t ops. Unit {0};
+  answer_by = λ op p. pair_of p.1 p.2;
 }
 
 -- A worker of a table: its worker of the heap, the operations that it did, and their answers. In
@@ -43,66 +44,14 @@ tags = record {
 abbrev pub TagWorkerState : Type 0
 TagWorkerState = RowWorkerState Operation Tag
 
--- its worker of the heap
-abbrev pub heap_worker : TagWorkerState → WorkerState
-heap_worker w = w.worker
-
--- the thread of a worker
-abbrev pub thread_of : TagWorkerState → ℕ
-thread_of w = w.worker.thread.thread
-
--- how many places its table has
-abbrev pub places_of : TagWorkerState → ℕ
-places_of w = w.worker.thread.config.shared
-
 -- the commands of operations
 abbrev pub commands_of : List Operation → List Command
 commands_of ops = rows.commands_of tags ops
-
--- the heap of a table, of any number of blocks
-abbrev pub IsTagHeap : Config → Type 0
-IsTagHeap c = rows.IsRowHeap tags c
-
--- a worker of the heap has executed the commands of operations on places of the table, and no
--- others
-abbrev pub IsTagWorker : WorkerState → Type 0
-IsTagWorker w = workers.IsRowWorker tags w
-
--- the value of a worker in contracts
-abbrev pub tag_worker : WorkerState → TagWorkerState
-tag_worker w = workers.row_worker tags w
 
 -- the heap of a table as it is opened
 abbrev pub opened_config : ℕ → ℕ → Config
 opened_config threads tags =
     tag_config threads tags (4 * (tag_config threads tags 0).live)
-
--- a worker is of this table
-abbrev pub IsOf : HeapState → TagWorkerState → Type 0
-IsOf t w = workers.IsOf t w
-
--- the same worker, which has learned a note of this history
-abbrev pub has_learned : TagWorkerState → List HistoryItem → TagWorkerState
-has_learned w seen = workers.has_learned w seen
-
--- these are all workers of this table, in thread order
-abbrev pub AreInOrder : HeapState → List TagWorkerState → Type 0
-AreInOrder t ws = workers.AreInOrder t ws
-
--- one of these is of thread t
-abbrev pub HasWorker : ℕ → List TagWorkerState → Type 0
-HasWorker t ws = workers.HasWorker t ws
-
--- these are all workers of this table, each once, in any order
-abbrev pub AreEachOnce : HeapState → List TagWorkerState → Type 0
-AreEachOnce t ws = workers.AreEachOnce t ws
-
--- it has done no operation
-abbrev pub IsFresh : TagWorkerState → Type 0
-IsFresh w = workers.IsFresh w
-
-abbrev pub AreFresh : List TagWorkerState → Type 0
-AreFresh ws = workers.AreFresh ws
 
 -- the worker's lifetime allows all commands of an operation
 abbrev pub HasLife : TagWorkerState → Operation → Type 0
@@ -112,22 +61,9 @@ HasLife w op = workers.HasLife tags w op
 abbrev pub CanDo : TagWorkerState → Operation → Type 0
 CanDo w op = IsOperationInRange (places_of w) op × HasLife w op
 
--- A worker's entries are its part of what it has seen, and their commands are those of its
--- operations.
-abbrev pub HasSeenAll : TagWorkerState → Type 0
-HasSeenAll w = workers.HasSeenAll tags w
-
 -- The worker has done one more operation, with this answer, after all that it had seen and learned.
 abbrev pub HasDone : TagWorkerState → Operation → Tag → TagWorkerState → Type 0
 HasDone old op tag new = workers.HasDone tags old op tag new
-
--- the worker drew a stamp with this number, and executed nothing
-abbrev pub HasDrawn : TagWorkerState → ℕ → TagWorkerState → Type 0
-HasDrawn old n new = workers.HasDrawn old n new
-
--- the same worker of the same table
-abbrev pub IsSameWorker : TagWorkerState → TagWorkerState → Type 0
-IsSameWorker old new = workers.IsSameWorker old new
 
 -- the cause of each refusal of an operation
 abbrev pub IsRefused : TagWorkerState → Operation → Refused → Type 0
@@ -170,6 +106,6 @@ objects_by _ = 0
 -- a worker that has done at most 2^24 operations has life left for one more
 abbrev pub FewLeaveLife : Type 0
 FewLeaveLife =
-    (w : TagWorkerState) (op : Operation) → HasSeenIts w.worker → HasSeenAll w
-    → IsTagHeap w.worker.thread.config → CanOpen w.worker.thread.config
+    (w : TagWorkerState) (op : Operation) → HasSeenIts w.worker → workers.HasSeenAll tags w
+    → rows.IsRowHeap tags w.worker.thread.config → CanOpen w.worker.thread.config
     → length w.done ≤ 2 ^ 24 → HasLife w op

@@ -8,15 +8,14 @@ ghost use Rattle.live_tables.specs.handles.Live.{IsInRange, commands_of, place_i
 ghost use Rattle.live_tables.specs.handles.Kept.{NamesHandle, makes, objects_by, slot_next};
 ghost use Rattle.live_tables.specs.handles.Makes.{slot_after};
 
-use crate::handles::request::Request;
+use crate::handles::request::HandleRequest;
 use block_store::Value;
 use never_heap::{Command, Reply};
 
 // The id of the next handle of a thread that has made so many.
 pub(crate) fn id_of(thread: u32, made: u64) -> u64
     requires { made ≤ 2 ^ 60 }
-    ensures id { result ≡ handles.id thread made }
-    ensures small { result < 2 ^ 62 }
+    ensures { result ≡ handles.id thread made }
 {
     u64::from(thread) * (1 << 20) + (made + 1)
 }
@@ -118,37 +117,37 @@ pub(crate) fn evict_commands(slot: u32) -> [Command; 5]
 
 // Whether a request is on one of so many slots and on one of eight handles, with a number that fits
 // in a field.
-pub(crate) fn in_range(request: &Request, slots: u32) -> bool
+pub(crate) fn in_range(request: &HandleRequest, slots: u32) -> bool
     ensures { IsTrue result ↔ IsInRange slots request.now }
 {
     match *request {
-        Request::Make {
+        HandleRequest::Make {
             handle,
             slot,
             number,
         } => handle < 8 && slot < slots && number < 1 << 62,
-        Request::See { handle } | Request::Release { handle } => handle < 8,
-        Request::Take { slot } | Request::Evict { slot } => slot < slots,
+        HandleRequest::See { handle } | HandleRequest::Release { handle } => handle < 8,
+        HandleRequest::Take { slot } | HandleRequest::Evict { slot } => slot < slots,
     }
 }
 
 // How many objects the commands of a request make.
-pub(crate) fn objects_in(request: &Request) -> u64
+pub(crate) fn objects_in(request: &HandleRequest) -> u64
     ensures { result ≡ objects_by request.now }
 {
     match request {
-        Request::Make { .. } => 2,
+        HandleRequest::Make { .. } => 2,
         _ => 0,
     }
 }
 
 // How many handles a worker has made after a request, if it had made so many before.
-pub(crate) fn made_next(made: u64, request: &Request) -> u64
+pub(crate) fn made_next(made: u64, request: &HandleRequest) -> u64
     requires { made ≤ 2 ^ 60 }
     ensures { result ≡ made + makes request.now }
 {
     match request {
-        Request::Make { .. } => made + 1,
+        HandleRequest::Make { .. } => made + 1,
         _ => made,
     }
 }
@@ -166,13 +165,13 @@ fn made_in(slots: [Option<u32>; 8], handle: u8, slot: u32) -> [Option<u32>; 8]
 }
 
 // The slots of a worker's handles after a request.
-pub(crate) fn slots_next(slots: [Option<u32>; 8], request: &Request) -> [Option<u32>; 8]
+pub(crate) fn slots_next(slots: [Option<u32>; 8], request: &HandleRequest) -> [Option<u32>; 8]
     requires { NamesHandle request.now }
     ensures { (h : ℕ) → h < 8 → slice_index_or result h None
         ≡ slot_next request.now (λ g. slice_index_or slots g None) h }
 {
     match *request {
-        Request::Make { handle, slot, .. } => made_in(slots, handle, slot),
+        HandleRequest::Make { handle, slot, .. } => made_in(slots, handle, slot),
         _ => slots,
     }
 }

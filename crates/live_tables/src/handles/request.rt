@@ -3,7 +3,7 @@
 /// A request of a worker. A worker has eight handles of its own, and names one by a number from 0
 /// to 7.
 #[derive(Clone, Copy, Debug, PartialEq, Eq)]
-pub enum Request {
+pub enum HandleRequest {
     /// Makes an object with a number, and a handle to it, which fills the slot if that is free.
     Make { handle: u8, slot: u32, number: u64 },
     /// Asks whether the handle is still in the slot in which it was made.

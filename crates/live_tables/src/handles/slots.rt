@@ -1,64 +1,55 @@
 //! Slots for handles: how they are opened, used and closed.
 
-ghost use Rattle.std.specs.Prelude.{◌≡◌, ◌∷◌, [], ◌↔◌, IsTrue, IfOk, IfErr, OnOk, OnErr, IfSome};
-ghost use Rattle.shared_heap.specs.Workers as heaps;
+ghost use Rattle.std.specs.Prelude.{◌≡◌, ◌<◌, ◌∷◌, [], ◌↔◌, IsTrue, IfOk, IfErr, OnOk, OnErr, IfSome};
 ghost use Rattle.shared_heap.specs.Workers.{CanOpen};
 ghost use Rattle.array_tables.specs.handle_table.Handles.{Matched, Found};
-ghost use Rattle.live_tables.specs.declared.handles.request.Request.TheVariants as asks;
-ghost use Rattle.live_tables.specs.handles.Kept.{HasSmallId};
-ghost use Rattle.live_tables.specs.handles.Live.{AreInOrder, AreFresh, AreEachOnce, CanDo, HasDone, HasDrawn, HasSeenAll, HaveOneTable, IsInRange, IsMade, IsOf, IsOpenFault, IsRefused, IsSameWorker, IsTableInRange, answer_by, commands_of, deed_of, has_learned, opened_config, slots_of};
+ghost use Rattle.live_tables.specs.declared.handles.request.HandleRequest.TheVariants as asks;
+ghost use Rattle.live_tables.specs.rows.Workers.{AreEachOnce, AreFresh, AreInOrder, IsNext, IsOf, IsSameWorker};
+ghost use Rattle.live_tables.specs.handles.Live.{CanDo, HasDone, IsInRange, IsMade, IsOpenFault, IsRefused, IsTableInRange, answer_by, commands_of, deed_of, handles, known_slot, opened_config, slots_of};
 
 use crate::handles::commands::{
-    evict_commands, found, id_of, in_range, is_known, is_yes, made_next, make_commands, objects_in,
-    place, release_commands, see_commands, slots_next, take_commands,
+    evict_commands, found, id_of, in_range, is_known, is_yes, make_commands, place,
+    release_commands, see_commands, take_commands,
 };
 use crate::handles::faults::{OpenFault, Refused};
-use crate::handles::note::HandleNote;
-use crate::handles::request::Request;
-use crate::handles::worker::HandleWorker;
-use crate::rows::{RowHeap, wrapped};
+use crate::handles::kind::{HandleWorker, Handles, LiveHandles};
+use crate::handles::request::HandleRequest;
+use crate::table::{LiveTable, opened};
+use crate::worker::TableWorker;
 use array_trees::blocks_of_array;
 use block_store::{Config, Width};
 use never_heap::{Command, Reply};
-use shared_heap::Worker;
 use std::alloc::Global;
-use std::marker::Model;
 use std::sync::Wait;
 
-/// Slots for handles, which workers use concurrently. A slot is empty, or keeps a handle to an
-/// object with a number below 2^62. The handle has the id t · 2^20 + k if it is of make k of thread
-/// t, counted from 1.
-#[derive(Drop)]
-pub struct LiveHandles {
-    pub(crate) rows: RowHeap,
-}
-
-impl Model for LiveHandles {
-    ghost use Rattle.shared_heap.specs.Workers.{HeapState, CanOpen};
-    ghost use Rattle.live_tables.specs.handles.Live.{IsHandleHeap};
-
-    ghost Value = { HeapState };
-
-    ghost view = { λ t. t.rows };
-
-    ghost invariant = { λ t. IsHandleHeap t.rows.config × CanOpen t.rows.config };
+impl TableWorker<Handles> {
+    /// The slot in which the worker made a handle last. `None` if it has not made it.
+    pub fn slot_of(&self, handle: u8) -> Option<u32>
+        requires { handle < 8 }
+        ensures { result ≡ known_slot self.now handle }
+    {
+        self.own.slots[handle as usize]
+    }
 }
 
 // Whether the worker has made the handle that a request names.
-fn is_made(who: &HandleWorker, request: &Request) -> bool
+fn is_made(who: &HandleWorker, request: &HandleRequest) -> bool
     requires { IsInRange (slots_of who.now) request.now }
     ensures { IsTrue result ↔ IsMade who.now request.now }
 {
     match *request {
-        Request::See { handle } | Request::Release { handle } => is_known(who.slot_of(handle)),
+        HandleRequest::See { handle } | HandleRequest::Release { handle } => is_known(who.slot_of(
+            handle,
+        )),
         _ => true,
     }
 }
 
 // Checks the range of a request, and that the worker has made its handle.
-fn checked(who: &HandleWorker, request: &Request) -> Result<(), Refused>
+fn checked(who: &HandleWorker, request: &HandleRequest) -> Result<(), Refused>
     ensures can { OnOk result
         (IsInRange (slots_of who.now) request.now × IsMade who.now request.now) }
+    ensures next { OnOk result (IsNext handles who.now (deed_of who.now request.now)) }
     ensures refused { IfErr result (IsRefused who.now request.now) }
 {
     if !in_range(request, who.worker.config().shared) {
@@ -74,31 +65,27 @@ fn checked(who: &HandleWorker, request: &Request) -> Result<(), Refused>
 // three replies.
 fn done<R: Wait>(
     rt: &R,
-    rows: &RowHeap,
+    table: &LiveHandles,
     who: &mut HandleWorker,
-    request: Request,
+    request: HandleRequest,
     commands: &[Command],
 ) -> Result<(Reply, Reply, Reply), Refused>
-    requires own { IsOf rows.now who.old }
+    requires own { IsOf table.now who.old }
     requires checked { IsInRange (slots_of who.old) request × IsMade who.old request }
-    requires id { HasSmallId (deed_of who.old request) }
+    requires next { IsNext handles who.old (deed_of who.old request) }
     requires commands { commands.now ≡ commands_of (deed_of who.old request ∷ []) }
     ensures same { IsSameWorker who.old who.new }
     ensures can { OnOk result (CanDo who.old request) }
     ensures did { IfOk result
-        (λ three. HasDone who.old (deed_of who.old request) (answer_by request three) who.new) }
+        (λ three. HasDone who.old (deed_of who.old request)
+        (answer_by (deed_of who.old request) three) who.new) }
     ensures refused { IfErr result (IsRefused who.old request) }
     ensures unchanged { OnErr result (who.new ≡ who.old) }
 {
-    if !rows.has_life(&who.worker, objects_in(&request), commands) {
-        return Err(Refused::NoLifeLeft);
+    match table.does(rt, who, request, commands) {
+        Some(replies) => Ok(replies),
+        None => Err(Refused::NoLifeLeft),
     }
-    let replies = rows.run(rt, &mut who.worker, commands);
-    let made = made_next(who.made, &request);
-    let slots = slots_next(who.slots, &request);
-    who.made = made;
-    who.slots = slots;
-    Ok(replies)
 }
 
 // The configuration of the heap. It has four times as many blocks as may be live.
@@ -123,20 +110,8 @@ fn can_be_opened(slots: u32, threads: u32)
     ensures { CanOpen (opened_config threads slots) }
 {}
 
-// Opens the heap of slots, with its workers. `None` if an allocation failed.
-fn opened_heap(alloc: Global, slots: u32, threads: u32) -> Option<(RowHeap, Vec<Worker>)>
-    requires { IsTableInRange slots threads }
-    ensures can { CanOpen (opened_config threads slots) }
-    ensures config { IfSome result (λ r. r.0.config ≡ opened_config threads slots) }
-    ensures workers { IfSome result (λ r. heaps.AreInOrder r.0 r.1.items) }
-    ensures fresh { IfSome result (λ r. heaps.AreFresh (opened_config threads slots) r.1.items) }
-{
-    can_be_opened(slots, threads);
-    RowHeap::open(alloc, config_of(slots, threads))
-}
-
 // Opens slots, with their workers. `None` if an allocation failed.
-fn opened(alloc: Global, slots: u32, threads: u32) -> Option<(LiveHandles, Vec<HandleWorker>)>
+fn opened_slots(alloc: Global, slots: u32, threads: u32) -> Option<(LiveHandles, Vec<HandleWorker>)>
     requires { IsTableInRange slots threads }
     ensures can { CanOpen (opened_config threads slots) }
     ensures config { IfSome result (λ r. r.0.config ≡ opened_config threads slots) }
@@ -144,12 +119,11 @@ fn opened(alloc: Global, slots: u32, threads: u32) -> Option<(LiveHandles, Vec<H
     ensures each { IfSome result (λ r. AreEachOnce r.0 r.1.items) }
     ensures fresh { IfSome result (λ r. AreFresh r.1.items) }
 {
-    let (rows, workers) = opened_heap(alloc, slots, threads)?;
-    let crew = wrapped(alloc, workers)?;
-    Some((LiveHandles { rows }, crew))
+    can_be_opened(slots, threads);
+    opened(alloc, config_of(slots, threads))
 }
 
-impl LiveHandles {
+impl LiveTable<Handles> {
     /// Opens 0 to 512 empty slots. Returns them with one worker for each of 1 to 16 `threads`, in
     /// thread order. No worker has done anything yet. No later call allocates.
     ///
@@ -172,7 +146,7 @@ impl LiveHandles {
         if slots > 512 || threads == 0 || threads > 16 {
             return Err(OpenFault::OutOfRange);
         }
-        match opened(alloc, slots, threads) {
+        match opened_slots(alloc, slots, threads) {
             Some(table) => Ok(table),
             None => Err(OpenFault::NoMemory),
         }
@@ -205,15 +179,15 @@ impl LiveHandles {
         ensures refused { IfErr result (IsRefused who.old (asks.Make handle slot number)) }
         ensures unchanged { OnErr result (who.new ≡ who.old) }
     {
-        let request = Request::Make {
+        let request = HandleRequest::Make {
             handle,
             slot,
             number,
         };
         checked(who, &request)?;
-        let id = id_of(who.thread(), who.made);
+        let id = id_of(who.thread(), who.own.made);
         let commands = make_commands(id, handle, slot, number);
-        let (_, _, last) = done(rt, &self.rows, who, request, &commands)?;
+        let (_, _, last) = done(rt, self, who, request, &commands)?;
         Ok(is_yes(last))
     }
 
@@ -233,11 +207,11 @@ impl LiveHandles {
         ensures refused { IfErr result (IsRefused who.old (asks.See handle)) }
         ensures unchanged { OnErr result (who.new ≡ who.old) }
     {
-        let request = Request::See { handle };
+        let request = HandleRequest::See { handle };
         checked(who, &request)?;
         let slot = place(who.slot_of(handle));
         let commands = see_commands(handle, slot);
-        let (_, _, last) = done(rt, &self.rows, who, request, &commands)?;
+        let (_, _, last) = done(rt, self, who, request, &commands)?;
         Ok(is_yes(last))
     }
 
@@ -261,11 +235,11 @@ impl LiveHandles {
         ensures refused { IfErr result (IsRefused who.old (asks.Release handle)) }
         ensures unchanged { OnErr result (who.new ≡ who.old) }
     {
-        let request = Request::Release { handle };
+        let request = HandleRequest::Release { handle };
         checked(who, &request)?;
         let slot = place(who.slot_of(handle));
         let commands = release_commands(handle, slot);
-        let (_, _, last) = done(rt, &self.rows, who, request, &commands)?;
+        let (_, _, last) = done(rt, self, who, request, &commands)?;
         Ok(is_yes(last))
     }
 
@@ -288,10 +262,10 @@ impl LiveHandles {
         ensures refused { IfErr result (IsRefused who.old (asks.Take slot)) }
         ensures unchanged { OnErr result (who.new ≡ who.old) }
     {
-        let request = Request::Take { slot };
+        let request = HandleRequest::Take { slot };
         checked(who, &request)?;
         let commands = take_commands(slot);
-        let (id, _, number) = done(rt, &self.rows, who, request, &commands)?;
+        let (id, _, number) = done(rt, self, who, request, &commands)?;
         Ok(found(id, number))
     }
 
@@ -314,56 +288,10 @@ impl LiveHandles {
         ensures refused { IfErr result (IsRefused who.old (asks.Evict slot)) }
         ensures unchanged { OnErr result (who.new ≡ who.old) }
     {
-        let request = Request::Evict { slot };
+        let request = HandleRequest::Evict { slot };
         checked(who, &request)?;
         let commands = evict_commands(slot);
-        let (id, _, number) = done(rt, &self.rows, who, request, &commands)?;
+        let (id, _, number) = done(rt, self, who, request, &commands)?;
         Ok(found(id, number))
-    }
-
-    /// Makes a note of the history that a worker of these slots has seen. It has all deeds that the
-    /// worker did, and those of others that come before them.
-    pub fn note(&self, who: &mut HandleWorker) -> HandleNote
-        requires { IsOf self.now who.old }
-        ensures heap { result.heap ≡ self.now.id }
-        ensures seen { result.seen ≡ who.old.worker.seen }
-        ensures all { HasSeenAll who.old }
-        ensures same { who.new ≡ who.old }
-    {
-        let note = self.rows.note(&mut who.worker);
-        HandleNote { note }
-    }
-
-    /// Gives a worker of these slots a note of another. The deeds that the worker does from now on
-    /// come after all deeds that the note covers.
-    pub fn learn(&self, who: &mut HandleWorker, note: HandleNote)
-        requires own { IsOf self.now who.old }
-        requires note { note.heap ≡ self.now.id }
-        ensures { who.new ≡ has_learned who.old note.seen }
-    {
-        let HandleNote { note } = note;
-        self.rows.learn(&mut who.worker, note);
-    }
-
-    /// Draws a stamp for a worker of these slots, as `shared_heap::SharedHeap::stamp` does. The
-    /// deeds that a worker does after a stamp come after all that another had done before a
-    /// stamp that is no greater, unless 2^64 were drawn (`deeds_come_after_stamps`).
-    pub fn stamp(&self, who: &mut HandleWorker) -> u64
-        requires { IsOf self.now who.old }
-        ensures drawn { HasDrawn who.old result who.new }
-        ensures all { HasSeenAll who.new }
-    {
-        self.rows.stamp(&mut who.worker)
-    }
-
-    /// Closes the slots. It takes all of their workers, each once, in any order. All deeds that
-    /// they did have one order, which keeps the order of each worker, and in which each was
-    /// answered as by a plain list of slots. Returns how many cycles of collection were started.
-    pub fn close(self, who: Vec<HandleWorker>) -> u64
-        requires { AreEachOnce self who.items }
-        ensures { HaveOneTable self.config who.items result }
-    {
-        let LiveHandles { rows } = self;
-        rows.close(who)
     }
 }

@@ -2,9 +2,9 @@
 
 ghost use Rattle.std.specs.Prelude.{◌≡◌, ◌+◌, ◌<◌, ◌≤◌, ◌∷◌, [], ◌^◌, ◌↔◌, IsTrue};
 ghost use Rattle.array_tables.specs.number_rings.Rings.{Keep, Recall, number_of, ring_place};
-ghost use Rattle.live_tables.specs.rings.Live.{IsInRange, commands_of, keeps};
+ghost use Rattle.live_tables.specs.rings.Live.{IsInRange, commands_of, keeping};
 
-use crate::rings::request::Request;
+use crate::rings::request::RingRequest;
 use block_store::Value;
 use never_heap::{Command, Reply};
 
@@ -50,33 +50,33 @@ pub(crate) fn recall_commands(place: u64) -> [Command; 2]
 
 // Whether a request has a number that fits in a field, or is on one of eight places of a thread's
 // ring.
-pub(crate) fn in_range(request: &Request, threads: u32) -> bool
+pub(crate) fn in_range(request: &RingRequest, threads: u32) -> bool
     ensures { IsTrue result ↔ IsInRange threads request.now }
 {
     match *request {
-        Request::Keep { number } => number < 1 << 62,
-        Request::Recall { thread, place } => thread < threads && place < 8,
+        RingRequest::Keep { number } => number < 1 << 62,
+        RingRequest::Recall { thread, place } => thread < threads && place < 8,
     }
 }
 
 // How many records the commands of a request make.
-pub(crate) fn objects_in(request: &Request) -> u64
-    ensures { result ≡ keeps request.now }
+pub(crate) fn objects_in(request: &RingRequest) -> u64
+    ensures { result ≡ keeping request.now }
 {
     match request {
-        Request::Keep { .. } => 1,
-        Request::Recall { .. } => 0,
+        RingRequest::Keep { .. } => 1,
+        RingRequest::Recall { .. } => 0,
     }
 }
 
 // How many numbers a worker has kept after a request, if it had kept so many before.
-pub(crate) fn kept_next(kept: u64, request: &Request) -> u64
+pub(crate) fn kept_next(kept: u64, request: &RingRequest) -> u64
     requires { kept ≤ 2 ^ 60 }
-    ensures { result ≡ kept + keeps request.now }
+    ensures { result ≡ kept + keeping request.now }
 {
     match request {
-        Request::Keep { .. } => kept + 1,
-        Request::Recall { .. } => kept,
+        RingRequest::Keep { .. } => kept + 1,
+        RingRequest::Recall { .. } => kept,
     }
 }
 

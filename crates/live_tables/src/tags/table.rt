@@ -1,23 +1,18 @@
 //! A table of tags: how it is opened, used and closed.
 
 ghost use Rattle.std.specs.Prelude.{◌≡◌, ◌∷◌, [], IfOk, IfErr, OnOk, OnErr, IfSome};
-ghost use Rattle.shared_heap.specs.Workers as heaps;
 ghost use Rattle.shared_heap.specs.Workers.{CanOpen};
-ghost use Rattle.live_tables.specs.tags.Live.{AreInOrder, AreFresh, AreEachOnce, CanDo, HasDone, HasDrawn, HasSeenAll, HaveOneTable, IsOf, IsOpenFault, IsRefused, IsSameWorker, IsTableInRange, commands_of, has_learned, opened_config};
+ghost use Rattle.live_tables.specs.tags.Live.{CanDo, HasDone, IsOpenFault, IsRefused, IsTableInRange, commands_of, opened_config};
+ghost use Rattle.live_tables.specs.rows.Workers.{AreInOrder, AreFresh, AreEachOnce, IsOf, IsSameWorker};
 
-use crate::rows::{RowHeap, wrapped};
-use crate::tags::commands::{
-    clear_commands, in_range, objects_in, pair, read_commands, write_commands,
-};
-use crate::tags::note::TagNote;
-use crate::tags::worker::TagWorker;
+use crate::table::{LiveTable, opened};
+use crate::tags::commands::{clear_commands, in_range, pair, read_commands, write_commands};
+use crate::tags::kind::{LiveTags, TagWorker, Tags};
 use array_tables::tag_table::Operation;
 use array_trees::blocks_of_array;
 use block_store::{Config, Width};
 use never_heap::Command;
-use shared_heap::Worker;
 use std::alloc::Global;
-use std::marker::Model;
 use std::sync::Wait;
 
 /// Why a table is not opened. Its printed text also says what to do.
@@ -38,33 +33,15 @@ pub enum Refused {
     NoLifeLeft,
 }
 
-/// A table of tags, which its workers use concurrently. Each place is empty or has a value with its
-/// quality, two numbers below 2^62.
-#[derive(Drop)]
-pub struct LiveTags {
-    pub(crate) rows: RowHeap,
-}
-
-impl Model for LiveTags {
-    ghost use Rattle.shared_heap.specs.Workers.{HeapState, CanOpen};
-    ghost use Rattle.live_tables.specs.tags.Live.{IsTagHeap};
-
-    ghost Value = { HeapState };
-
-    ghost view = { λ t. t.rows };
-
-    ghost invariant = { λ t. IsTagHeap t.rows.config × CanOpen t.rows.config };
-}
-
 // Does an operation by its commands.
 fn done<R: Wait>(
     rt: &R,
-    rows: &RowHeap,
+    table: &LiveTags,
     who: &mut TagWorker,
     op: Operation,
     commands: &[Command],
 ) -> Result<Option<(u64, u64)>, Refused>
-    requires own { IsOf rows.now who.old }
+    requires own { IsOf table.now who.old }
     requires commands { commands.now ≡ commands_of (op ∷ []) }
     ensures same { IsSameWorker who.old who.new }
     ensures can { OnOk result (CanDo who.old op) }
@@ -75,11 +52,10 @@ fn done<R: Wait>(
     if !in_range(&op, who.worker.config().shared) {
         return Err(Refused::OutOfRange);
     }
-    if !rows.has_life(&who.worker, objects_in(&op), commands) {
-        return Err(Refused::NoLifeLeft);
+    match table.does(rt, who, op, commands) {
+        Some((_, value, quality)) => Ok(pair(value, quality)),
+        None => Err(Refused::NoLifeLeft),
     }
-    let replies = rows.run(rt, &mut who.worker, commands);
-    Ok(pair(replies.1, replies.2))
 }
 
 // The configuration of a table's heap. It has four times as many blocks as may be live.
@@ -104,20 +80,8 @@ fn can_be_opened(tags: u32, threads: u32)
     ensures { CanOpen (opened_config threads tags) }
 {}
 
-// Opens the heap of a table, with its workers. `None` if an allocation failed.
-fn opened_heap(alloc: Global, tags: u32, threads: u32) -> Option<(RowHeap, Vec<Worker>)>
-    requires { IsTableInRange tags threads }
-    ensures can { CanOpen (opened_config threads tags) }
-    ensures config { IfSome result (λ r. r.0.config ≡ opened_config threads tags) }
-    ensures workers { IfSome result (λ r. heaps.AreInOrder r.0 r.1.items) }
-    ensures fresh { IfSome result (λ r. heaps.AreFresh (opened_config threads tags) r.1.items) }
-{
-    can_be_opened(tags, threads);
-    RowHeap::open(alloc, config_of(tags, threads))
-}
-
 // Opens a table, with its workers. `None` if an allocation failed.
-fn opened(alloc: Global, tags: u32, threads: u32) -> Option<(LiveTags, Vec<TagWorker>)>
+fn opened_tags(alloc: Global, tags: u32, threads: u32) -> Option<(LiveTags, Vec<TagWorker>)>
     requires { IsTableInRange tags threads }
     ensures can { CanOpen (opened_config threads tags) }
     ensures config { IfSome result (λ r. r.0.config ≡ opened_config threads tags) }
@@ -125,12 +89,11 @@ fn opened(alloc: Global, tags: u32, threads: u32) -> Option<(LiveTags, Vec<TagWo
     ensures each { IfSome result (λ r. AreEachOnce r.0 r.1.items) }
     ensures fresh { IfSome result (λ r. AreFresh r.1.items) }
 {
-    let (rows, workers) = opened_heap(alloc, tags, threads)?;
-    let crew = wrapped(alloc, workers)?;
-    Some((LiveTags { rows }, crew))
+    can_be_opened(tags, threads);
+    opened(alloc, config_of(tags, threads))
 }
 
-impl LiveTags {
+impl LiveTable<Tags> {
     /// Opens a table of `tags` empty places, 0 to 1,024. Returns it with one worker for each of 1
     /// to 16 `threads`, in thread order. No worker has done an operation yet. No later call on the
     /// table or its workers allocates.
@@ -154,7 +117,7 @@ impl LiveTags {
         if tags > 1024 || threads == 0 || threads > 16 {
             return Err(OpenFault::OutOfRange);
         }
-        match opened(alloc, tags, threads) {
+        match opened_tags(alloc, tags, threads) {
             Some(table) => Ok(table),
             None => Err(OpenFault::NoMemory),
         }
@@ -192,7 +155,7 @@ impl LiveTags {
             quality,
         };
         let commands = write_commands(place, value, quality);
-        done(rt, &self.rows, who, op, &commands)
+        done(rt, self, who, op, &commands)
     }
 
     /// Empties a place, and returns the pair that it held before, as `write` does.
@@ -215,7 +178,7 @@ impl LiveTags {
     {
         let op = Operation::Clear { place };
         let commands = clear_commands(place);
-        done(rt, &self.rows, who, op, &commands)
+        done(rt, self, who, op, &commands)
     }
 
     /// Returns the pair that a place holds, or `None` if it is empty. A value comes with the
@@ -239,52 +202,6 @@ impl LiveTags {
     {
         let op = Operation::Read { place };
         let commands = read_commands(place);
-        done(rt, &self.rows, who, op, &commands)
-    }
-
-    /// Makes a note of the history that a worker of this table has seen. It has all operations that
-    /// the worker did, and those of others that come before them.
-    pub fn note(&self, who: &mut TagWorker) -> TagNote
-        requires { IsOf self.now who.old }
-        ensures heap { result.heap ≡ self.now.id }
-        ensures seen { result.seen ≡ who.old.worker.seen }
-        ensures all { HasSeenAll who.old }
-        ensures same { who.new ≡ who.old }
-    {
-        let note = self.rows.note(&mut who.worker);
-        TagNote { note }
-    }
-
-    /// Gives a worker of this table a note of another. The operations that the worker does from now
-    /// on come after all operations that the note covers.
-    pub fn learn(&self, who: &mut TagWorker, note: TagNote)
-        requires own { IsOf self.now who.old }
-        requires note { note.heap ≡ self.now.id }
-        ensures { who.new ≡ has_learned who.old note.seen }
-    {
-        let TagNote { note } = note;
-        self.rows.learn(&mut who.worker, note);
-    }
-
-    /// Draws a stamp for a worker of this table, as `shared_heap::SharedHeap::stamp` does. The
-    /// operations that a worker does after a stamp come after all that another had done before a
-    /// stamp that is no greater, unless 2^64 were drawn (`operations_come_after_stamps`).
-    pub fn stamp(&self, who: &mut TagWorker) -> u64
-        requires { IsOf self.now who.old }
-        ensures drawn { HasDrawn who.old result who.new }
-        ensures all { HasSeenAll who.new }
-    {
-        self.rows.stamp(&mut who.worker)
-    }
-
-    /// Closes the table. It takes all of its workers, each once, in any order. All operations that
-    /// they did have one order, which keeps the order of each worker, and in which each was
-    /// answered as by a plain table. Returns how many cycles of collection were started.
-    pub fn close(self, who: Vec<TagWorker>) -> u64
-        requires { AreEachOnce self who.items }
-        ensures { HaveOneTable self.config who.items result }
-    {
-        let LiveTags { rows } = self;
-        rows.close(who)
+        done(rt, self, who, op, &commands)
     }
 }

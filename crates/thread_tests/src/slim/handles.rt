@@ -1,8 +1,8 @@
 //! Calls of `live_tables`.
-#![tactic(auto, using(live_tables::proofs::handles::Crews::of_same))]
+#![tactic(auto, using(live_tables::proofs::rows::Crews::of_same))]
 
 ghost use Rattle.std.specs.Prelude.{IfOk};
-ghost use Rattle.live_tables.specs.handles.Live.{AreEachOnce, AreInOrder, IsOf, IsSameWorker};
+ghost use Rattle.live_tables.specs.rows.Workers.{AreEachOnce, AreInOrder, IsOf, IsSameWorker};
 
 use live_tables::handles::{HandleWorker, LiveHandles, OpenFault, Refused};
 use std::alloc::Global;
@@ -108,7 +108,8 @@ pub struct Seat<'t> {
 }
 
 impl<'t> Model for Seat<'t> {
-    ghost use Rattle.live_tables.specs.handles.Live.{IsOf, HandleWorkerState};
+    ghost use Rattle.live_tables.specs.handles.Live.{HandleWorkerState};
+    ghost use Rattle.live_tables.specs.rows.Workers.{IsOf};
 
     ghost Value = { HandleWorkerState };
 

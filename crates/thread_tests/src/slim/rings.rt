@@ -1,8 +1,8 @@
 //! Calls of `live_tables`.
-#![tactic(auto, using(live_tables::proofs::rings::Crews::of_same))]
+#![tactic(auto, using(live_tables::proofs::rows::Crews::of_same))]
 
 ghost use Rattle.std.specs.Prelude.{IfOk};
-ghost use Rattle.live_tables.specs.rings.Live.{AreEachOnce, AreInOrder, IsOf, IsSameWorker};
+ghost use Rattle.live_tables.specs.rows.Workers.{AreEachOnce, AreInOrder, IsOf, IsSameWorker};
 
 use live_tables::rings::{LiveRings, OpenFault, Refused, RingWorker};
 use std::alloc::Global;
@@ -61,7 +61,8 @@ pub struct Seat<'t> {
 }
 
 impl<'t> Model for Seat<'t> {
-    ghost use Rattle.live_tables.specs.rings.Live.{IsOf, RingWorkerState};
+    ghost use Rattle.live_tables.specs.rings.Live.{RingWorkerState};
+    ghost use Rattle.live_tables.specs.rows.Workers.{IsOf};
 
     ghost Value = { RingWorkerState };
 

@@ -1,8 +1,8 @@
 //! Calls of `live_tables`.
-#![tactic(auto, using(live_tables::proofs::tags::Crews::of_same))]
+#![tactic(auto, using(live_tables::proofs::rows::Crews::of_same))]
 
 ghost use Rattle.std.specs.Prelude.{IfOk};
-ghost use Rattle.live_tables.specs.tags.Live.{AreEachOnce, AreInOrder, IsOf, IsSameWorker};
+ghost use Rattle.live_tables.specs.rows.Workers.{AreEachOnce, AreInOrder, IsOf, IsSameWorker};
 
 use live_tables::tags::{LiveTags, OpenFault, Refused, TagWorker};
 use std::alloc::Global;
@@ -76,7 +76,8 @@ pub struct Seat<'t> {
 }
 
 impl<'t> Model for Seat<'t> {
-    ghost use Rattle.live_tables.specs.tags.Live.{IsOf, TagWorkerState};
+    ghost use Rattle.live_tables.specs.tags.Live.{TagWorkerState};
+    ghost use Rattle.live_tables.specs.rows.Workers.{IsOf};
 
     ghost Value = { TagWorkerState };
 

@@ -1,7 +1,7 @@
 -- The readings so far were read and written.
 use Rattle.std.proofs.Common.{◌≡◌, map}
 use Rattle.std.specs.Vec.{vec_capacity}
-use Rattle.live_tables.specs.tags.Live.{IsSameWorker}
+use Rattle.live_tables.specs.rows.Workers.{IsSameWorker}
 use Rattle.plantrun_core.specs.Logs.{operation_of}
 use Rattle.plantrun_core.proofs.Lines.{HasRead}
 use Rattle.plantrun_core.proofs.input.reads.Given as goal

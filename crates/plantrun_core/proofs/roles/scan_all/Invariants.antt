@@ -1,7 +1,7 @@
 -- The alarms so far were scanned.
 use Rattle.std.proofs.Common.{◌≡◌}
 use Rattle.std.specs.Vec.{vec_capacity}
-use Rattle.live_tables.specs.tags.Live.{IsSameWorker}
+use Rattle.live_tables.specs.rows.Workers.{IsSameWorker}
 use Rattle.plantrun_core.specs.Roles.{HasScannedTo}
 use Rattle.plantrun_core.proofs.roles.scan_all.Given as goal
 

@@ -1,7 +1,7 @@
 -- The places so far were read.
 use Rattle.std.proofs.Common.{◌≡◌, ◌+◌, length}
 use Rattle.std.specs.Vec.{vec_capacity}
-use Rattle.live_tables.specs.tags.Live.{IsSameWorker}
+use Rattle.live_tables.specs.rows.Workers.{IsSameWorker}
 use Rattle.plantrun_core.specs.Roles.{HasReread}
 use Rattle.plantrun_core.proofs.work.rereads.Given as goal
 

@@ -1,4 +1,4 @@
-use Rattle.live_tables.specs.tags.Live.{IsOf}
+use Rattle.live_tables.specs.rows.Workers.{IsOf}
 use Rattle.sharedbench.proofs.tags.add_times.Given as goal
 
 abbrev pub invariant-loop-round : goal.invariant-loop-round

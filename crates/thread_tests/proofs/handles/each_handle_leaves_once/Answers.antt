@@ -1,4 +1,4 @@
-use Rattle.live_tables.proofs.handles.Crews.{in_order_each}
+use Rattle.live_tables.proofs.rows.Crews.{in_order_each}
 use Rattle.thread_tests.proofs.handles.each_handle_leaves_once.Goals as goal
 
 pub close-requires : goal.close-requires

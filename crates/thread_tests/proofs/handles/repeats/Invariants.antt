@@ -1,4 +1,4 @@
-use Rattle.live_tables.specs.handles.Live.{IsSameWorker}
+use Rattle.live_tables.specs.rows.Workers.{IsSameWorker}
 use Rattle.thread_tests.proofs.handles.repeats.Given as goal
 
 abbrev pub invariant-loop-round : goal.invariant-loop-round

@@ -1,4 +1,4 @@
-use Rattle.live_tables.proofs.rings.Crews.{in_order_each}
+use Rattle.live_tables.proofs.rows.Crews.{in_order_each}
 use Rattle.thread_tests.proofs.rings.threads_recall_the_last_numbers.Goals as goal
 
 pub close-requires : goal.close-requires

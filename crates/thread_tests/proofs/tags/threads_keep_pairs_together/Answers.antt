@@ -1,4 +1,4 @@
-use Rattle.live_tables.proofs.tags.Crews.{in_order_each}
+use Rattle.live_tables.proofs.rows.Crews.{in_order_each}
 use Rattle.thread_tests.proofs.tags.threads_keep_pairs_together.Goals as goal
 
 pub close-requires : goal.close-requires

@@ -1,0 +1,18 @@
+use Rattle.std.proofs.Common.{◌≡◌, IfSome, refl, subst, sym}
+use Rattle.block_store.specs.declared.Config.{Config}
+use Rattle.shared_heap.specs.Workers.{CanOpen}
+use Rattle.live_tables.specs.rows.Rows.{IsRowHeap}
+use Rattle.live_tables.specs.tags.Live.{tags}
+use Rattle.live_tables.proofs.tags.table.opened_tags.Goals as goal
+
+pub opened-requires-clause-can : goal.opened-requires-clause-can
+opened-requires-clause-can c = subst CanOpen (sym c.config_of.ensures) c.can_be_opened.ensures
+
+pub opened-requires-clause-heap : goal.opened-requires-clause-heap
+opened-requires-clause-heap c =
+    subst (λ (k : Config). IsRowHeap tags k) (sym c.config_of.ensures) refl
+
+pub returns-clause-config : goal.returns-clause-config
+returns-clause-config c =
+    subst (λ (k : Config). IfSome c.opened.result (λ r. r.0.config ≡ k)) c.config_of.ensures
+    c.opened.ensures.config
