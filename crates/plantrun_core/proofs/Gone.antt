@@ -3,19 +3,9 @@ use Rattle.std.proofs.Common.{◌≡◌, ℕ, ◌+◌, ◌≤◌, List, map, Opt
 use Rattle.std.specs.Prelude.{IsSome, IsNone}
 use Rattle.std.specs.Vec.{vec_capacity}
 use Rattle.shared_heap.specs.Workers.{HeapState}
-<<<<<<< HEAD
 use Rattle.live_tables.specs.tags.Live.{TagWorkerState}
 use Rattle.live_tables.specs.rows.Workers.{IsSameWorker}
 use Rattle.live_tables.proofs.rows.Crews.{of_same}
-=======
-use Rattle.array_tables.specs.tag_table.Tables.{Tag, empty_table, IsOperationInRange}
-use Rattle.array_tables.specs.declared.tag_table.operation.Operation.{Operation}
-use Rattle.live_tables.specs.tags.Live.{HasScript, HasLife, IsRefused, TagWorkerState}
-use Rattle.live_tables.specs.rows.Workers.{IsSameWorker, places_of, thread_of}
-use Rattle.live_tables.specs.declared.tags.table.Refused.{Refused}
-use Rattle.live_tables.specs.declared.tags.table.Refused.TheVariants.{OutOfRange, NoLifeLeft}
-use Rattle.live_tables.proofs.rows.Crews.{of_same}
->>>>>>> cb1769d643e8a80679ad88e7c037341d318d7fc9
 use Rattle.plantrun_core.specs.declared.calls.Done.{Done}
 use Rattle.plantrun_core.specs.declared.calls.Logs.{Logs}
 use Rattle.plantrun_core.specs.declared.crew.Crew.{Crew}

@@ -11,7 +11,7 @@ use Rattle.shared_heap.specs.Workers.{CanOpen, HeapState}
 use Rattle.shared_heap.proofs.Views.{starts_on}
 use Rattle.live_tables.specs.rows.Stamped.{IsStampAfter}
 use Rattle.live_tables.specs.tags.Live.{HasLife, TagWorkerState, opened_config, tags}
-use Rattle.live_tables.specs.rows.Workers.{HasSeenAll, HasDrawn, IsFresh, IsOf, IsSameWorker, places_of, thread_of}
+use Rattle.live_tables.specs.rows.Workers.{HasDrawn, HasSeenAll, IsFresh, IsOf, IsSameWorker, places_of, thread_of}
 use Rattle.live_tables.proofs.rows.Stamped.{stamp_after, stamp_later}
 use Rattle.live_tables.proofs.rows.Crews.{of_same}
 use Rattle.live_tables.proofs.tags.FewOperations.{few_leave_life}

@@ -4,15 +4,8 @@ use Rattle.std.specs.List.{AllByRecursion}
 use Rattle.std.specs.Vec.{vec_capacity}
 use Rattle.shared_heap.specs.Shared.{stamps_in}
 use Rattle.shared_heap.specs.Workers.{HeapState}
-<<<<<<< HEAD
 use Rattle.live_tables.specs.tags.Live.{TagWorkerState, HaveOneTable, opened_config}
 use Rattle.live_tables.specs.rows.Workers.{IsOf, thread_of}
-=======
-use Rattle.array_tables.specs.tag_table.Tables.{IsOperationInRange}
-use Rattle.array_tables.specs.declared.tag_table.operation.Operation.{Operation}
-use Rattle.live_tables.specs.tags.Live.{TagWorkerState, HasLife, HaveOneTable, opened_config}
-use Rattle.live_tables.specs.rows.Workers.{IsOf, places_of, thread_of}
->>>>>>> cb1769d643e8a80679ad88e7c037341d318d7fc9
 use Rattle.plantrun_core.specs.declared.calls.Logs.{Logs}
 use Rattle.plantrun_core.specs.declared.crew.Crew.{Crew}
 use Rattle.plantrun_core.specs.declared.crew.Ends.{Ends}

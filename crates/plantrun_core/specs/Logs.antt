@@ -7,7 +7,7 @@ use Rattle.shared_heap.specs.declared.rules.Moment.{Moment}
 use Rattle.shared_heap.specs.Workers.{HasSeenIts, HeapState}
 use Rattle.live_tables.specs.rows.Stamped.{IsStampAfter}
 use Rattle.live_tables.specs.tags.Live.{HasDone, TagWorkerState, opened_config, tags}
-use Rattle.live_tables.specs.rows.Workers.{HasSeenAll, HasDrawn, IsOf, thread_of}
+use Rattle.live_tables.specs.rows.Workers.{HasDrawn, HasSeenAll, IsOf, thread_of}
 use Rattle.plantrun_core.specs.declared.calls.Done.{Done}
 use Rattle.plantrun_core.specs.declared.calls.Step.{Step}
 

@@ -1,20 +1,10 @@
 //! The table with its four workers: how it is opened, used and closed.
-<<<<<<< HEAD
 #![tactic(auto, using(live_tables::proofs::rows::Crews::same_first, live_tables::proofs::rows::Crews::same_then, live_tables::proofs::rows::Crews::of_same, crate::proofs::Logging::plant_same))]
-=======
-#![tactic(auto, using(live_tables::proofs::rows::Crews::same_first, live_tables::proofs::rows::Crews::same_then, live_tables::proofs::rows::Crews::of_same))]
->>>>>>> cb1769d643e8a80679ad88e7c037341d318d7fc9
 
 ghost use Rattle.std.specs.Prelude.{ℕ, List, Option, ◌≡◌, ◌+◌, ◌≤◌, ◌∷◌, [], length, IfSome};
 ghost use Rattle.std.specs.Vec.{vec_capacity};
-<<<<<<< HEAD
 ghost use Rattle.live_tables.specs.tags.Live.{HaveOneTable, opened_config};
 ghost use Rattle.live_tables.specs.rows.Workers.{AreFresh, AreInOrder, IsFresh, IsOf, IsSameWorker};
-=======
-ghost use Rattle.live_tables.specs.tags.Live.{HaveOneTable, opened_config};
-ghost use Rattle.live_tables.specs.rows.Workers.{AreFresh, AreInOrder, IsFresh, IsOf, IsSameWorker};
-ghost use Rattle.plantrun_core.specs.Crews as ends;
->>>>>>> cb1769d643e8a80679ad88e7c037341d318d7fc9
 ghost use Rattle.plantrun_core.specs.Crews.{AreAtWork, AreOfTable, AreTheirs, HasLogs, HaveEnded, HaveGone, IsCrew, IsGone, IsNew, IsPlantOf, IsWorker};
 ghost use Rattle.plantrun_core.specs.Logs.{IsOfPlant};
 ghost use Rattle.plantrun_core.specs.Readings.{room};

@@ -3,16 +3,9 @@
 ghost use Rattle.std.specs.Prelude.{◌≡◌, ◌<◌, ◌^◌, ◌×◌, length, IfErr, IfOk, OnErr, OnOk};
 ghost use Rattle.std.specs.Vec.{vec_capacity};
 ghost use Rattle.array_tables.specs.tag_table.Tables.{IsOperationInRange};
-<<<<<<< HEAD
 ghost use Rattle.live_tables.specs.tags.Live.{CanDo, HasDone, HasLife, IsRefused};
 ghost use Rattle.live_tables.specs.rows.Workers.{HasDrawn, IsOf, IsSameWorker, places_of};
 ghost use Rattle.plantrun_core.specs.Logs.{HasAsked, HasLogged, IsLog, IsOfPlant};
-=======
-ghost use Rattle.live_tables.specs.tags.Live.{CanDo, HasDone, IsRefused};
-ghost use Rattle.live_tables.specs.rows.Workers.{IsOf, IsSameWorker, places_of};
-ghost use Rattle.plantrun_core.specs.Logs.{IsLog};
-ghost use Rattle.plantrun_core.specs.Refusals.{AreFitting, AreInRange, IsRefusedAfter};
->>>>>>> cb1769d643e8a80679ad88e7c037341d318d7fc9
 
 use crate::calls::Done;
 use crate::clock::nanoseconds;

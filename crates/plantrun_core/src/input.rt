@@ -1,19 +1,10 @@
 //! The thread that takes the readings of the input.
-<<<<<<< HEAD
 #![tactic(auto, using(live_tables::proofs::rows::Crews::same_first, live_tables::proofs::rows::Crews::same_then, crate::proofs::Logging::plant_same))]
-=======
-#![tactic(auto, using(live_tables::proofs::rows::Crews::same_first, live_tables::proofs::rows::Crews::same_then, live_tables::proofs::rows::Crews::of_same))]
->>>>>>> cb1769d643e8a80679ad88e7c037341d318d7fc9
 
 ghost use Rattle.std.specs.Prelude.{◌≡◌, ◌≤◌, ◌<◌, ◌+◌, ◌∷◌, ◌++◌, ◌^◌, [], length, map};
 ghost use Rattle.std.specs.Vec.{vec_capacity};
-<<<<<<< HEAD
 ghost use Rattle.live_tables.specs.rows.Workers.{IsSameWorker};
 ghost use Rattle.plantrun_core.specs.Logs.{IsOfPlant, operation_of};
-=======
-ghost use Rattle.live_tables.specs.rows.Workers.{IsOf, IsSameWorker};
-ghost use Rattle.plantrun_core.specs.Logs.{operation_of};
->>>>>>> cb1769d643e8a80679ad88e7c037341d318d7fc9
 ghost use Rattle.plantrun_core.specs.Readings.{puts, room};
 ghost use Rattle.plantrun_core.specs.Works.{CountsInput, HasInput};
 

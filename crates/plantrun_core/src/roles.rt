@@ -1,17 +1,9 @@
 //! What each thread does.
-<<<<<<< HEAD
 #![tactic(auto, using(live_tables::proofs::rows::Crews::same_first, live_tables::proofs::rows::Crews::same_then, crate::proofs::Logging::plant_same))]
-=======
-#![tactic(auto, using(live_tables::proofs::rows::Crews::same_first, live_tables::proofs::rows::Crews::same_then, live_tables::proofs::rows::Crews::of_same))]
->>>>>>> cb1769d643e8a80679ad88e7c037341d318d7fc9
 
 ghost use Rattle.std.specs.Prelude.{◌≡◌, ◌≤◌, ◌<◌, ◌+◌, ◌^◌, length};
 ghost use Rattle.std.specs.Vec.{vec_capacity};
-<<<<<<< HEAD
 ghost use Rattle.live_tables.specs.rows.Workers.{IsSameWorker};
-=======
-ghost use Rattle.live_tables.specs.rows.Workers.{IsOf, IsSameWorker};
->>>>>>> cb1769d643e8a80679ad88e7c037341d318d7fc9
 ghost use Rattle.plantrun_core.specs.Roles.{HasControlled, HasKept, HasScanned, HasScannedTo, HasRecorded, HasTicked, HasWatched, IsFine};
 ghost use Rattle.plantrun_core.specs.Logs.{IsOfPlant};
 ghost use Rattle.plantrun_core.specs.Works.{at_scan, most_at};

@@ -1,20 +1,11 @@
 //! A thread that works at ticks.
-<<<<<<< HEAD
 #![tactic(auto, using(live_tables::proofs::rows::Crews::same_first, live_tables::proofs::rows::Crews::same_then, crate::proofs::Logging::plant_same))]
-=======
-#![tactic(auto, using(live_tables::proofs::rows::Crews::same_first, live_tables::proofs::rows::Crews::same_then, live_tables::proofs::rows::Crews::of_same))]
->>>>>>> cb1769d643e8a80679ad88e7c037341d318d7fc9
 
 ghost use Rattle.std.specs.Prelude.{◌≡◌, ◌≤◌, ◌<◌, ◌+◌, IsNone, IsFalse};
 ghost use Rattle.std.specs.Vec.{vec_capacity};
 ghost use Rattle.plantrun_core.specs.declared.roles.Role.TheVariants.{History};
-<<<<<<< HEAD
 ghost use Rattle.live_tables.specs.rows.Workers.{IsSameWorker};
 ghost use Rattle.plantrun_core.specs.Logs.{IsOfPlant};
-=======
-ghost use Rattle.live_tables.specs.rows.Workers.{IsOf, IsSameWorker};
-ghost use Rattle.plantrun_core.specs.Refusals.{IsRefusedAfter};
->>>>>>> cb1769d643e8a80679ad88e7c037341d318d7fc9
 ghost use Rattle.plantrun_core.specs.Works.{HasGone, HasKeptAll, IsAtWork, first_of, most_in};
 
 use crate::clock::{Ticks, nanoseconds};

@@ -1,9 +1,3 @@
-<<<<<<< HEAD
-=======
-use Rattle.std.proofs.Common.{◌≡◌, ap, ◌∙◌}
-use Rattle.block_store.specs.declared.Config.{Config}
-use Rattle.live_tables.specs.rows.Workers.{places_of}
->>>>>>> cb1769d643e8a80679ad88e7c037341d318d7fc9
 use Rattle.plantrun_core.proofs.crew.taken_apart.Goals as goal
 
 pub returns-clause-plant : goal.returns-clause-plant

@@ -1,10 +1,5 @@
-<<<<<<< HEAD
 use Rattle.std.proofs.Common.{◌∙◌, ◌≡◌, ◌≤◌, ◌^◌, ◌+◌, ℕ, arith, length, subst}
 use Rattle.live_tables.proofs.rows.Crews.{same_then}
-=======
-use Rattle.std.proofs.Common.{◌∙◌, ◌≡◌, ◌≤◌, ℕ, arith, length, subst}
-use Rattle.live_tables.proofs.rows.Crews.{same_then}
->>>>>>> cb1769d643e8a80679ad88e7c037341d318d7fc9
 use Rattle.plantrun_core.specs.declared.roles.Role.{Role}
 use Rattle.plantrun_core.specs.declared.roles.Role.TheVariants.{History}
 use Rattle.plantrun_core.specs.Roles.{AfterTicks, HasReread}
