@@ -1,5 +1,5 @@
 -- What is complete at a stamp comes before what begins after a stamp that is no less.
-use Rattle.std.proofs.Common.{◌≡◌, ℕ, ◌≤◌, ◌^◌, ◌⊎◌, inl, inr, arith, subst, sym, ap, ◌∙◌, refl, List, [], ◌∷◌, ◌++◌, length, map, take, slice_index_or, append_assoc}
+use Rattle.std.proofs.Common.{◌≡◌, ℕ, ◌+◌, ◌≤◌, ◌^◌, ◌⊎◌, inl, inr, arith, subst, sym, ap, ◌∙◌, refl, List, [], ◌∷◌, ◌++◌, length, map, take, slice_index_or, append_assoc}
 use Rattle.std.proofs.lemmas.List.{append-nil}
 use Rattle.never_heap.specs.declared.Command.{Command}
 use Rattle.never_heap.specs.declared.Entry.{Entry}
@@ -51,7 +51,13 @@ module _ {Op Row Answer S : Type 0} (a : Rows Op Row Answer S) where
   pub stamp_later : (timeline more : List Moment) (t : ℕ) (ops : List Op) (n : ℕ)
       → IsStampAfter a timeline t ops n → IsStartOf timeline more → IsStampAfter a more t ops n
   stamp_later timeline more t ops n is on =
-      record is { drawn = starts_on (is.past ++ stamp) timeline more is.drawn on }
+      record {
+        past = is.past;
+        drawn = starts_on (is.past ++ stamp) timeline more is.drawn on;
+        counts = is.counts;
+        complete = is.complete;
+        begun = is.begun;
+      }
 
   pub stamps_keep_order : StampsKeepOrder a
   stamps_keep_order c ws cycles is t n u m i j first second low =
