@@ -12,3 +12,4 @@ pub mod RealTime
 pub mod Closing
 pub mod SoFar
 pub mod Within
+pub mod Stamped

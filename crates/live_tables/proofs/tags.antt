@@ -1,3 +1,4 @@
 pub mod Decoded
 pub mod Doing
 pub mod Opening
+pub mod FewOperations

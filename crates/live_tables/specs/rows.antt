@@ -7,3 +7,4 @@ pub mod RealTime
 pub mod Kept
 pub mod Orders
 pub mod SoFar
+pub mod Stamped

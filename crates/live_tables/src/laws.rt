@@ -9,6 +9,7 @@ ghost use Rattle.shared_heap.specs.declared.rules.View.{View};
 ghost use Rattle.shared_heap.specs.Shared.{SharedKept};
 ghost use Rattle.live_tables.specs.rows.Orders.{OperationsAreInOrder, OperationsComeAfter, OperationsComeAfterStamps, StandBehindWhatWasSeen};
 ghost use Rattle.live_tables.specs.rows.Rows.{IsRowHeap};
+ghost use Rattle.live_tables.specs.rows.Stamped.{StampsKeepOrder};
 ghost use Rattle.live_tables.specs.rows.SoFar.{AllSeats, Execute, FitsOneOrder, IsBetween, IsWorking, SeenComesBeforeLater, WorkAllAlong};
 
 use crate::kind::Table;
@@ -42,6 +43,13 @@ pub fn operations_come_after_stamps<K: Table>()
 {
     K::is_lawful();
 }
+
+/// Stamps as data: a worker that logs a stamp after each of its operations knows which operations
+/// of others come later. In the order of a closed table, what a thread had done at a stamp comes
+/// before all that another began after a stamp that is no less. Or 2^64 stamps were drawn.
+pub fn stamps_keep_order<K: Table>()
+    ensures { StampsKeepOrder K.rows }
+{}
 
 /// Suppose that the rule of the heap's table holds, as it does between any two steps of any
 /// threads. Then what was answered so far is a plain table's: all operations that have taken effect

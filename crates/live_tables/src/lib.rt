@@ -16,7 +16,7 @@ pub use kind::Table;
 pub use laws::{
     operations_come_after_stamps, operations_keep_real_time,
     operations_seen_come_before_later_ones, operations_stand_behind_what_was_seen,
-    what_was_answered_is_a_tables, workers_are_at_work_all_along,
+    stamps_keep_order, what_was_answered_is_a_tables, workers_are_at_work_all_along,
 };
 pub use table::{LiveTable, TableNote};
 pub use worker::TableWorker;

@@ -1,8 +1,6 @@
 pub mod Crews
-pub mod Mixing
+pub mod Orders
 pub mod Lines
 pub mod Worked
-pub mod Homes
-pub mod Ranges
-pub mod Fits
+pub mod Logging
 pub mod Gone

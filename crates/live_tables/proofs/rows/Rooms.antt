@@ -18,7 +18,7 @@ use Rattle.shared_heap.specs.Workers.{WorkerState, HasRoom, HasAnswered, IsSame}
 use Rattle.live_tables.specs.rows.Life.{HasRoomFor}
 
 -- the work of each entry of a part is what its command owes
-abbrev AllRight : Width → ℕ → List Entry → Type 0
+abbrev pub AllRight : Width → ℕ → List Entry → Type 0
 AllRight w rate [] = Unit {0}
 AllRight w rate (e ∷ es) = (e.work ≡ units_owed w rate e.command) × AllRight w rate es
 
@@ -27,7 +27,7 @@ pick : (w : Width) (rate : ℕ) (b : Bool) (xs ys : List Entry) → AllRight w r
 pick w rate true xs ys p q = p
 pick w rate false xs ys p q = q
 
-right_part : (w : Width) (rate t : ℕ) (h : List HistoryItem) → RightWork w rate h
+pub right_part : (w : Width) (rate t : ℕ) (h : List HistoryItem) → RightWork w rate h
     → AllRight w rate (part t h)
 right_part w rate t [] r = tt
 right_part w rate t (Started ∷ h) r = right_part w rate t h r.1

@@ -1,11 +1,11 @@
 -- A table of tags that running threads share, and its workers, as contracts see them.
-use Rattle.std.specs.Prelude.{ℕ, ◌≤◌, ◌≡◌, ◌*◌, List}
+use Rattle.std.specs.Prelude.{ℕ, ◌≤◌, ◌≡◌, ◌*◌, ◌^◌, List, length}
 use Rattle.block_store.specs.declared.Config.{Config}
 use Rattle.never_heap.specs.declared.Command.{Command}
 use Rattle.never_heap.specs.Histories.{HistoryItem}
 use Rattle.array_tables.specs.operations.Linearizations.{Call}
 use Rattle.shared_heap.specs.declared.rules.Moment.{Moment}
-use Rattle.shared_heap.specs.Workers.{CanOpen}
+use Rattle.shared_heap.specs.Workers.{CanOpen, HasSeenIts}
 use Rattle.array_tables.specs.declared.tag_table.operation.Operation.{Operation}
 use Rattle.array_tables.specs.declared.tag_table.operation.Operation.TheVariants.{Write}
 use Rattle.array_tables.specs.tag_table.Tables.{Tag, Row, rows_of, command_at, decides, ends, answer, table_after, empty_table, tag_config, AreInTable, IsOperationInRange, pair_of}
@@ -102,3 +102,10 @@ HaveOneTable c ws cycles = orders.HaveOneOrder tags c ws cycles
 abbrev pub objects_by : Operation → ℕ
 objects_by (Write i v q) = 1
 objects_by _ = 0
+
+-- a worker that has done at most 2^24 operations has life left for one more
+abbrev pub FewLeaveLife : Type 0
+FewLeaveLife =
+    (w : TagWorkerState) (op : Operation) → HasSeenIts w.worker → workers.HasSeenAll tags w
+    → rows.IsRowHeap tags w.worker.thread.config → CanOpen w.worker.thread.config
+    → length w.done ≤ 2 ^ 24 → HasLife w op

@@ -1,0 +1,106 @@
+-- The log of a worker of a plant.
+use Rattle.std.proofs.Common.{◌≡◌, ℕ, ◌≤◌, ◌<◌, ◌^◌, List, [], ◌∷◌, ◌++◌, length, map, append_assoc, refl, sym, ap, ◌∙◌, subst, arith}
+use Rattle.std.proofs.lemmas.List.{append-nil, length-map, map-append}
+use Rattle.block_store.specs.declared.Config.{Config}
+use Rattle.array_tables.specs.declared.tag_table.operation.Operation.{Operation}
+use Rattle.array_tables.specs.tag_table.Tables.{Tag}
+use Rattle.shared_heap.specs.declared.rules.Moment.{Moment}
+use Rattle.shared_heap.specs.declared.rules.Moment.TheVariants as moments
+use Rattle.shared_heap.specs.Shared.{IsStartOf}
+use Rattle.shared_heap.specs.Workers.{CanOpen, HeapState}
+use Rattle.shared_heap.proofs.Views.{starts_on}
+use Rattle.live_tables.specs.rows.Stamped.{IsStampAfter}
+use Rattle.live_tables.specs.tags.Live.{HasLife, TagWorkerState, opened_config, tags}
+use Rattle.live_tables.specs.rows.Workers.{HasDrawn, HasSeenAll, IsFresh, IsOf, IsSameWorker, places_of, thread_of}
+use Rattle.live_tables.proofs.rows.Stamped.{stamp_after, stamp_later}
+use Rattle.live_tables.proofs.rows.Crews.{of_same}
+use Rattle.live_tables.proofs.tags.FewOperations.{few_leave_life}
+use Rattle.live_tables.proofs.tags.Opening.{can_open}
+use Rattle.plantrun_core.specs.declared.calls.Done.{Done}
+use Rattle.plantrun_core.specs.Logs.{AllStamped, HasAsked, IsLog, IsOfPlant, answer_of, operation_of}
+
+pub plant_same : (t : HeapState) (a b : TagWorkerState) → IsOfPlant t a → IsSameWorker a b
+    → IsOfPlant t b
+plant_same t a b is same = (of_same t a b is.0 same, is.1)
+
+pub places_in : (t : HeapState) (w : TagWorkerState) → IsOfPlant t w → places_of w ≡ 48
+places_in t w is = ap (λ (c : Config). c.shared) (is.0.1 ∙ is.1)
+
+-- a worker with a log that is not too long has life left
+pub has_life : (t : HeapState) (w : TagWorkerState) (log : List Done) (op : Operation)
+    → IsOfPlant t w → IsLog w log → length log < 2 ^ 24 → HasLife w op
+has_life t w log op is log_is few =
+    let config : w.worker.thread.config ≡ opened_config 4 48 = is.0.1 ∙ is.1 in
+    few_leave_life w op log_is.sound log_is.seen
+    (subst (λ (c : Config). c ≡ opened_config c.threads c.shared) (sym config) refl)
+    (subst CanOpen (sym config)
+    (can_open 48 4 record { few_tags = omega arith; some_thread = omega arith; few_threads = omega arith }))
+    (omega (arith, ap length log_is.operations, length-map log operation_of, few))
+
+-- a worker that has drawn its first stamp has an empty log
+pub first_log : (old new : TagWorkerState) (n : ℕ) → IsFresh old → HasDrawn old n new
+    → HasSeenAll tags new → IsLog new []
+first_log old new n fresh drew all = record {
+  operations = drew.done ∙ fresh.done;
+  answers = drew.answers ∙ fresh.answers;
+  stamped = tt;
+  sound = drew.drawn.sound;
+  seen = all;
+}
+
+stamps_later : (timeline more : List Moment) (t : ℕ) (before : List Operation) (log : List Done)
+    → IsStartOf timeline more → AllStamped timeline t before log → AllStamped more t before log
+stamps_later timeline more t before [] on all = tt
+stamps_later timeline more t before (d ∷ log) on all = (
+  stamp_later tags timeline more t (before ++ d.operation ∷ []) d.stamp all.0 on,
+  stamps_later timeline more t (before ++ d.operation ∷ []) log on all.1,
+)
+
+stamps_more : (timeline : List Moment) (t : ℕ) (before : List Operation) (log : List Done)
+    (d : Done) → AllStamped timeline t before log
+    → IsStampAfter tags timeline t (before ++ map operation_of (log ++ d ∷ [])) d.stamp
+    → AllStamped timeline t before (log ++ d ∷ [])
+stamps_more timeline t before [] d all one = (one, tt)
+stamps_more timeline t before (x ∷ log) d all one = (
+  all.0,
+  stamps_more timeline t (before ++ x.operation ∷ []) log d all.1
+      (subst (λ (ops : List Operation). IsStampAfter tags timeline t ops d.stamp)
+      (sym (append_assoc before (x.operation ∷ []) (map operation_of (log ++ d ∷ [])))) one),
+)
+
+-- the log of a worker that did one operation more, and drew a stamp
+pub log_more : (old new : TagWorkerState) (log : List Done) (d : Done) → IsLog old log
+    → HasAsked old d new → IsSameWorker old new → IsLog new (log ++ d ∷ [])
+log_more old new log d is asked same =
+    let mid = asked.between in
+    let did = asked.did in
+    let drew = asked.drew.drawn in
+    let ops : new.done ≡ map operation_of (log ++ d ∷ []) =
+    asked.drew.done ∙ did.done ∙ ap (λ (l : List Operation). l ++ d.operation ∷ []) is.operations
+    ∙ sym (map-append operation_of log (d ∷ [])) in
+    let to_mid : IsStartOf old.worker.timeline mid.worker.timeline =
+    starts_on old.worker.timeline did.past mid.worker.timeline did.began (
+      moments.Invoked (thread_of old) did.command ∷ did.invoked.0,
+      did.invoked.1
+          ∙ append_assoc did.past (moments.Invoked (thread_of old) did.command ∷ []) did.invoked.0,
+    ) in
+    let to_new : IsStartOf mid.worker.timeline new.worker.timeline =
+    starts_on mid.worker.timeline drew.past new.worker.timeline drew.before
+    (moments.Stamped ∷ [], drew.timeline) in
+    let on = starts_on old.worker.timeline mid.worker.timeline new.worker.timeline to_mid to_new in
+    record {
+      operations = ops;
+      answers = asked.drew.answers ∙ did.answers
+          ∙ ap (λ (l : List Tag). l ++ d.answer ∷ []) is.answers
+          ∙ sym (map-append answer_of log (d ∷ []));
+      stamped = subst (λ (t : ℕ). AllStamped new.worker.timeline t [] (log ++ d ∷ []))
+          (sym same.thread)
+          (stamps_more new.worker.timeline (thread_of old) [] log d
+          (stamps_later old.worker.timeline new.worker.timeline (thread_of old) [] log on is.stamped)
+          (subst (λ (t : ℕ). IsStampAfter tags new.worker.timeline t (map operation_of (log ++ d ∷ [])) d.stamp)
+          same.thread
+          (subst (λ (l : List Operation). IsStampAfter tags new.worker.timeline (thread_of new) l d.stamp)
+          ops (stamp_after tags mid new d.stamp asked.drew asked.seen))));
+      sound = drew.sound;
+      seen = asked.seen;
+    }
