@@ -5,8 +5,8 @@ ghost use Rattle.std.specs.Prelude.{◌≡◌, IfOk};
 ghost use Rattle.shared_heap.specs.Workers.{AreEachOnce, AreInOrder, IsSame};
 
 use crate::slim::heap::{
-    Seat, Told, ask, ask_alone, asked, close, close_swapped, close_with_one, fault_of, follow, heap_of,
-    objects_left, open, open_one, pass_note, stamps, two_of,
+    Seat, Told, ask, ask_alone, asked, close, close_swapped, close_with_one, fault_of, follow,
+    heap_of, objects_left, open, open_one, pass_note, stamps, two_of,
 };
 use block_store::{Config, Name, OutOfMemory, Value};
 use never_heap::{Command, Reply};
