@@ -2,6 +2,7 @@ pub mod Operands
 pub mod Walks
 pub mod Rows
 pub mod Fits
+pub mod Events
 pub mod Deciding
 pub mod Replies
 pub mod Projection

@@ -20,7 +20,7 @@ ghost use Rattle.barrier_steps.specs.Rows;
 ghost use Rattle.barrier_steps.specs.Rows.{at_first_row, register_place, field_want, field_got, field_step, field_decided, field_reply};
 ghost use Rattle.barrier_steps.specs.Fits.{IsThread, IsWalk, StoreFits, WantedFits, FitsAt, ReadsAt, FieldFits, FieldReads};
 
-mod rows_known;
+mod row_events;
 
 use crate::operands::{
     constant_word, expected_register, field_index, from_register, other_register, to_register,
@@ -585,31 +585,6 @@ impl FieldPass {
         Op::load(register(places, self.pass.thread, r))
     }
 
-    // The row after the event at this one, whose operation read the word.
-    #[inline(always)]
-    fn after(&self, places: &Places, row: FieldRow, read: u64) -> FieldRow
-        requires fits { FitsAt places.now self.now.pass self.now.command row }
-        requires word { ReadsAt places.now self.now.pass self.now.command row read }
-        ensures { result
-            ≡ Rows.row_got (extent places.now) self.now.pass self.now.command row read }
-    {
-        use FieldRow::*;
-
-        let (pass, command) = (self.pass, self.command);
-        match row {
-            LoadRegister { wanted } => self.after_register(places, wanted, read),
-            LoadShape { block } => after_shape(places, pass, command, block, shape_in(read)),
-            LoadLink { way, word } => after_link(places, pass, command, way, word, target(read)),
-            LoadField { .. } => after_field(read, payload_in(read)),
-            LoadOwner { word } => after_owner(pass, command, word, object_in(read)),
-            Shade { shade, store } => in_barrier(places, pass, shade, store, read),
-            Store { store } => after_store(store, read),
-            StoreConstant => answered(Reply::Stored),
-            IdleLook => answered(Reply::Idle),
-            Answered { reply } => answered(reply),
-        }
-    }
-
     // After a register in which this word stands.
     #[inline(always)]
     fn after_register(&self, places: &Places, wanted: Purpose, read: u64) -> FieldRow
@@ -715,8 +690,7 @@ impl FieldPass {
             × (result ≡ field_step (extent places.now) self.old w)) }
         ensures fits { FieldFits places.now self.new }
     {
-        let word = memory.act(shared, &self.operation(places, row));
-        let next = self.after(places, row, word);
+        let next = FieldPass::event_at(self.pass, self.command, row, places, memory, shared);
         self.row = next;
         step_at(next)
     }

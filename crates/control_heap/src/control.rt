@@ -12,7 +12,7 @@ ghost use Rattle.block_store.specs.Heaps.{heap_of};
 ghost use Rattle.block_store.specs.Places.{Place, ColourOf, extent, in_range, words_count};
 ghost use Rattle.heap_machine.specs.FreeBlocks.{count_free};
 ghost use Rattle.heap_system.specs.Lives.{objects_of, most_units, most_objects};
-ghost use Rattle.heap_system.specs.AtOnce.{MayBegin};
+ghost use Rattle.heap_system.specs.FastPath.{MayBegin};
 ghost use Rattle.heap_system.specs.Locals.{begun, is_done};
 ghost use Rattle.heap_system.specs.Machines.{Run};
 ghost use Rattle.heap_system.specs.ThreadMemories.{HasRunOn, MayRun, longest};

@@ -16,7 +16,7 @@ pub mod GatePassage
 pub mod parts
 pub mod LawsOf
 pub mod Always
-pub mod AtOnce
+pub mod FastPath
 pub mod SystemStart
 pub mod Rooms
 pub mod TurnFacts

@@ -17,5 +17,5 @@ pub mod Loaded
 pub mod Shades
 pub mod Shares
 pub mod Alone
-pub mod AtOnce
+pub mod FastPath
 pub mod Serials

@@ -1,8 +1,9 @@
 //! One thread's whole state.
 
-mod at_once;
 mod events;
+mod fast_path;
 mod lone;
+mod lone_rows;
 mod runs;
 
 ghost use Rattle.std.specs.Prelude.{◌≡◌, ◌≤◌, ◌<◌, ◌+◌, ◌^◌, [], true, length, IfOk};

@@ -10,12 +10,13 @@ ghost use Rattle.barrier_steps.specs.declared.rows.Purpose.{Purpose};
 ghost use Rattle.barrier_steps.specs.Fits.{FitsAt};
 ghost use Rattle.heap_machine.specs.Gates.{SeenOpen};
 ghost use Rattle.never_heap.specs.declared.Command.{Command};
-ghost use Rattle.heap_system.specs.AtOnce.{GoesIn, HasEntered, HasRunUpTo, HasNotEntered, MayBegin, come_to, entering_by, HasRunFromGate, HasRunFromRest};
+ghost use Rattle.heap_system.specs.FastPath.{IsInside, HasEntered, HasRunUpTo, HasNotEntered, MayBegin, come_to, entering_by, HasRunFromGate, HasRunFromRest};
 ghost use Rattle.heap_system.specs.ThreadMemories.{HasRunOn, MayRun, longest};
 ghost use Rattle.heap_system.specs.Locals.{begun, command_of, is_done, pass_by};
 ghost use Rattle.heap_system.specs.Parts.{Rest};
 
 use super::Local;
+use super::fast_path::Inside;
 use crate::Turn;
 use barrier_steps::{FieldPass, FieldRow, FieldStore, Purpose};
 use block_store::{PhaseWord, Places, read_phase};
@@ -127,8 +128,13 @@ impl Local {
         let places = self.places();
         match self.try_enter(&places, memory, shared) {
             Some(pass) => {
-                self.goes_by(pass, command, FieldRow::StoreConstant);
-                self.constant(pass, command, &places, memory, shared)
+                let inside = Inside {
+                    pass,
+                    command,
+                    places,
+                };
+                self.goes_by(&inside, FieldRow::StoreConstant);
+                self.from_constant(&inside, memory, shared)
             }
             None => {
                 self.looks_again();
@@ -151,8 +157,13 @@ impl Local {
         let places = self.places();
         match self.try_enter(&places, memory, shared) {
             Some(pass) => {
-                self.goes_by(pass, command, FieldRow::StoreConstant);
-                self.constant(pass, command, &places, memory, shared)
+                let inside = Inside {
+                    pass,
+                    command,
+                    places,
+                };
+                self.goes_by(&inside, FieldRow::StoreConstant);
+                self.from_constant(&inside, memory, shared)
             }
             None => {
                 self.looks_again();
@@ -175,14 +186,14 @@ impl Local {
         let places = self.places();
         match self.try_enter(&places, memory, shared) {
             Some(pass) => {
-                self.goes_by(
+                let inside = Inside {
                     pass,
                     command,
-                    FieldRow::LoadRegister {
-                        wanted: Purpose::Copied,
-                    },
-                );
-                self.register(pass, command, Purpose::Copied, &places, memory, shared)
+                    places,
+                };
+                let wanted = Purpose::Copied;
+                self.goes_by(&inside, FieldRow::LoadRegister { wanted });
+                self.from_register(&inside, Purpose::Copied, memory, shared)
             }
             None => {
                 self.looks_again();
@@ -212,14 +223,14 @@ impl Local {
         let places = self.places();
         match self.try_enter(&places, memory, shared) {
             Some(pass) => {
-                self.goes_by(
+                let inside = Inside {
                     pass,
                     command,
-                    FieldRow::LoadRegister {
-                        wanted: Purpose::Object,
-                    },
-                );
-                self.object_of_get(pass, command, &places, memory, shared)
+                    places,
+                };
+                let wanted = Purpose::Object;
+                self.goes_by(&inside, FieldRow::LoadRegister { wanted });
+                self.from_object_of_get(&inside, memory, shared)
             }
             None => {
                 self.looks_again();
@@ -249,14 +260,14 @@ impl Local {
         let places = self.places();
         match self.try_enter(&places, memory, shared) {
             Some(pass) => {
-                self.goes_by(
+                let inside = Inside {
                     pass,
                     command,
-                    FieldRow::LoadRegister {
-                        wanted: Purpose::Object,
-                    },
-                );
-                self.object_of_put(pass, command, &places, memory, shared)
+                    places,
+                };
+                let wanted = Purpose::Object;
+                self.goes_by(&inside, FieldRow::LoadRegister { wanted });
+                self.from_object_of_put(&inside, memory, shared)
             }
             None => {
                 self.looks_again();
@@ -279,14 +290,14 @@ impl Local {
         let places = self.places();
         match self.try_enter(&places, memory, shared) {
             Some(pass) => {
-                self.goes_by(
+                let inside = Inside {
                     pass,
                     command,
-                    FieldRow::LoadRegister {
-                        wanted: Purpose::Object,
-                    },
-                );
-                self.object_of_len(pass, command, &places, memory, shared)
+                    places,
+                };
+                let wanted = Purpose::Object;
+                self.goes_by(&inside, FieldRow::LoadRegister { wanted });
+                self.from_object_of_len(&inside, memory, shared)
             }
             None => {
                 self.looks_again();
@@ -309,14 +320,14 @@ impl Local {
         let places = self.places();
         match self.try_enter(&places, memory, shared) {
             Some(pass) => {
-                self.goes_by(
+                let inside = Inside {
                     pass,
                     command,
-                    FieldRow::LoadRegister {
-                        wanted: Purpose::First,
-                    },
-                );
-                self.both(pass, command, &places, memory, shared)
+                    places,
+                };
+                let wanted = Purpose::First;
+                self.goes_by(&inside, FieldRow::LoadRegister { wanted });
+                self.from_first_of_same(&inside, memory, shared)
             }
             None => {
                 self.looks_again();
@@ -339,14 +350,14 @@ impl Local {
         let places = self.places();
         match self.try_enter(&places, memory, shared) {
             Some(pass) => {
-                self.goes_by(
+                let inside = Inside {
                     pass,
                     command,
-                    FieldRow::LoadRegister {
-                        wanted: Purpose::Shown,
-                    },
-                );
-                self.shown(pass, command, &places, memory, shared)
+                    places,
+                };
+                let wanted = Purpose::Shown;
+                self.goes_by(&inside, FieldRow::LoadRegister { wanted });
+                self.from_shown(&inside, memory, shared)
             }
             None => {
                 self.looks_again();
@@ -376,14 +387,14 @@ impl Local {
         let places = self.places();
         match self.try_enter(&places, memory, shared) {
             Some(pass) => {
-                self.goes_by(
+                let inside = Inside {
                     pass,
                     command,
-                    FieldRow::LoadRegister {
-                        wanted: Purpose::Object,
-                    },
-                );
-                self.object_of_swap(pass, command, &places, memory, shared)
+                    places,
+                };
+                let wanted = Purpose::Object;
+                self.goes_by(&inside, FieldRow::LoadRegister { wanted });
+                self.from_object_of_swap(&inside, memory, shared)
             }
             None => {
                 self.looks_again();
@@ -414,382 +425,19 @@ impl Local {
         let places = self.places();
         match self.try_enter(&places, memory, shared) {
             Some(pass) => {
-                self.goes_by(
+                let inside = Inside {
                     pass,
                     command,
-                    FieldRow::LoadRegister {
-                        wanted: Purpose::Object,
-                    },
-                );
-                self.object_of_cas(pass, command, &places, memory, shared)
+                    places,
+                };
+                let wanted = Purpose::Object;
+                self.goes_by(&inside, FieldRow::LoadRegister { wanted });
+                self.from_object_of_cas(&inside, memory, shared)
             }
             None => {
                 self.looks_again();
                 Turn::Waited
             }
-        }
-    }
-
-    // From the load of the register that refers to the object, of `get`.
-    #[inline(always)]
-    fn object_of_get<M: Memory>(
-        &mut self,
-        pass: Pass,
-        command: Command,
-        places: &Places,
-        memory: &mut M,
-        shared: &M::Shared,
-    ) -> Turn
-        requires goes { GoesIn self.old pass command }
-        requires places { places.now ≡ self.old.config }
-        requires fits { FitsAt places.now pass command (FieldRow.LoadRegister Purpose.Object) }
-        requires may { MayRun M.may M.acts 6 memory.old shared.now
-            (come_to self.old pass (FieldRow.LoadRegister Purpose.Object)) }
-        ensures { HasRunUpTo 6 M.acts shared.now memory.old
-            (come_to self.old pass (FieldRow.LoadRegister Purpose.Object)) memory.new self.new result }
-    {
-        match FieldPass::loads_register(pass, command, Purpose::Object, places, memory, shared) {
-            FieldRow::LoadShape { block } => self.shape_of_get(
-                pass, command, block, places, memory, shared,
-            ),
-            row => self.ends(pass, command, row, places, memory, shared),
-        }
-    }
-
-    // From the load of the register that refers to the object, of `put`.
-    #[inline(always)]
-    fn object_of_put<M: Memory>(
-        &mut self,
-        pass: Pass,
-        command: Command,
-        places: &Places,
-        memory: &mut M,
-        shared: &M::Shared,
-    ) -> Turn
-        requires goes { GoesIn self.old pass command }
-        requires places { places.now ≡ self.old.config }
-        requires fits { FitsAt places.now pass command (FieldRow.LoadRegister Purpose.Object) }
-        requires may { MayRun M.may M.acts 5 memory.old shared.now
-            (come_to self.old pass (FieldRow.LoadRegister Purpose.Object)) }
-        ensures { HasRunUpTo 5 M.acts shared.now memory.old
-            (come_to self.old pass (FieldRow.LoadRegister Purpose.Object)) memory.new self.new result }
-    {
-        match FieldPass::loads_register(pass, command, Purpose::Object, places, memory, shared) {
-            FieldRow::LoadShape { block } => self.shape_of_put(
-                pass, command, block, places, memory, shared,
-            ),
-            row => self.ends(pass, command, row, places, memory, shared),
-        }
-    }
-
-    // From the load of the register that refers to the object, of `len`.
-    #[inline(always)]
-    fn object_of_len<M: Memory>(
-        &mut self,
-        pass: Pass,
-        command: Command,
-        places: &Places,
-        memory: &mut M,
-        shared: &M::Shared,
-    ) -> Turn
-        requires goes { GoesIn self.old pass command }
-        requires places { places.now ≡ self.old.config }
-        requires fits { FitsAt places.now pass command (FieldRow.LoadRegister Purpose.Object) }
-        requires may { MayRun M.may M.acts 3 memory.old shared.now
-            (come_to self.old pass (FieldRow.LoadRegister Purpose.Object)) }
-        ensures { HasRunUpTo 3 M.acts shared.now memory.old
-            (come_to self.old pass (FieldRow.LoadRegister Purpose.Object)) memory.new self.new result }
-    {
-        match FieldPass::loads_register(pass, command, Purpose::Object, places, memory, shared) {
-            FieldRow::LoadShape { block } => self.shape_of_len(
-                pass, command, block, places, memory, shared,
-            ),
-            row => self.ends(pass, command, row, places, memory, shared),
-        }
-    }
-
-    // From the load of the register that refers to the object, of `swap`.
-    #[inline(always)]
-    fn object_of_swap<M: Memory>(
-        &mut self,
-        pass: Pass,
-        command: Command,
-        places: &Places,
-        memory: &mut M,
-        shared: &M::Shared,
-    ) -> Turn
-        requires goes { GoesIn self.old pass command }
-        requires places { places.now ≡ self.old.config }
-        requires fits { FitsAt places.now pass command (FieldRow.LoadRegister Purpose.Object) }
-        requires may { MayRun M.may M.acts 7 memory.old shared.now
-            (come_to self.old pass (FieldRow.LoadRegister Purpose.Object)) }
-        ensures { HasRunUpTo 7 M.acts shared.now memory.old
-            (come_to self.old pass (FieldRow.LoadRegister Purpose.Object)) memory.new self.new result }
-    {
-        match FieldPass::loads_register(pass, command, Purpose::Object, places, memory, shared) {
-            FieldRow::LoadShape { block } => self.shape_of_swap(
-                pass, command, block, places, memory, shared,
-            ),
-            row => self.ends(pass, command, row, places, memory, shared),
-        }
-    }
-
-    // From the load of the register that refers to the object, of `cas`.
-    #[inline(always)]
-    fn object_of_cas<M: Memory>(
-        &mut self,
-        pass: Pass,
-        command: Command,
-        places: &Places,
-        memory: &mut M,
-        shared: &M::Shared,
-    ) -> Turn
-        requires goes { GoesIn self.old pass command }
-        requires places { places.now ≡ self.old.config }
-        requires fits { FitsAt places.now pass command (FieldRow.LoadRegister Purpose.Object) }
-        requires may { MayRun M.may M.acts 6 memory.old shared.now
-            (come_to self.old pass (FieldRow.LoadRegister Purpose.Object)) }
-        ensures { HasRunUpTo 6 M.acts shared.now memory.old
-            (come_to self.old pass (FieldRow.LoadRegister Purpose.Object)) memory.new self.new result }
-    {
-        match FieldPass::loads_register(pass, command, Purpose::Object, places, memory, shared) {
-            FieldRow::LoadShape { block } => self.shape_of_cas(
-                pass, command, block, places, memory, shared,
-            ),
-            row => self.ends(pass, command, row, places, memory, shared),
-        }
-    }
-
-    // From the load of the object's shape, of `swap`.
-    #[inline(always)]
-    fn shape_of_swap<M: Memory>(
-        &mut self,
-        pass: Pass,
-        command: Command,
-        block: u32,
-        places: &Places,
-        memory: &mut M,
-        shared: &M::Shared,
-    ) -> Turn
-        requires goes { GoesIn self.old pass command }
-        requires places { places.now ≡ self.old.config }
-        requires fits { FitsAt places.now pass command (FieldRow.LoadShape block) }
-        requires may { MayRun M.may M.acts 6 memory.old shared.now
-            (come_to self.old pass (FieldRow.LoadShape block)) }
-        ensures { HasRunUpTo 6 M.acts shared.now memory.old
-            (come_to self.old pass (FieldRow.LoadShape block)) memory.new self.new result }
-    {
-        match FieldPass::loads_shape(pass, command, block, places, memory, shared) {
-            FieldRow::LoadRegister { wanted } => self.stored_of_swap(
-                pass, command, wanted, places, memory, shared,
-            ),
-            row => self.ends(pass, command, row, places, memory, shared),
-        }
-    }
-
-    // From the load of the object's shape, of `cas`.
-    #[inline(always)]
-    fn shape_of_cas<M: Memory>(
-        &mut self,
-        pass: Pass,
-        command: Command,
-        block: u32,
-        places: &Places,
-        memory: &mut M,
-        shared: &M::Shared,
-    ) -> Turn
-        requires goes { GoesIn self.old pass command }
-        requires places { places.now ≡ self.old.config }
-        requires fits { FitsAt places.now pass command (FieldRow.LoadShape block) }
-        requires may { MayRun M.may M.acts 5 memory.old shared.now
-            (come_to self.old pass (FieldRow.LoadShape block)) }
-        ensures { HasRunUpTo 5 M.acts shared.now memory.old
-            (come_to self.old pass (FieldRow.LoadShape block)) memory.new self.new result }
-    {
-        match FieldPass::loads_shape(pass, command, block, places, memory, shared) {
-            FieldRow::LoadRegister { wanted } => self.expected_of_cas(
-                pass, command, wanted, places, memory, shared,
-            ),
-            row => self.ends(pass, command, row, places, memory, shared),
-        }
-    }
-
-    // From the load of the register that `swap` stores.
-    #[inline(always)]
-    fn stored_of_swap<M: Memory>(
-        &mut self,
-        pass: Pass,
-        command: Command,
-        wanted: Purpose,
-        places: &Places,
-        memory: &mut M,
-        shared: &M::Shared,
-    ) -> Turn
-        requires goes { GoesIn self.old pass command }
-        requires places { places.now ≡ self.old.config }
-        requires fits { FitsAt places.now pass command (FieldRow.LoadRegister wanted) }
-        requires may { MayRun M.may M.acts 5 memory.old shared.now
-            (come_to self.old pass (FieldRow.LoadRegister wanted)) }
-        ensures { HasRunUpTo 5 M.acts shared.now memory.old
-            (come_to self.old pass (FieldRow.LoadRegister wanted)) memory.new self.new result }
-    {
-        match FieldPass::loads_register(pass, command, wanted, places, memory, shared) {
-            FieldRow::Store { store } => self.store_of_swap(
-                pass, command, store, places, memory, shared,
-            ),
-            row => self.ends(pass, command, row, places, memory, shared),
-        }
-    }
-
-    // From the exchange of `swap`.
-    #[inline(always)]
-    fn store_of_swap<M: Memory>(
-        &mut self,
-        pass: Pass,
-        command: Command,
-        store: FieldStore,
-        places: &Places,
-        memory: &mut M,
-        shared: &M::Shared,
-    ) -> Turn
-        requires goes { GoesIn self.old pass command }
-        requires places { places.now ≡ self.old.config }
-        requires fits { FitsAt places.now pass command (FieldRow.Store store) }
-        requires may { MayRun M.may M.acts 4 memory.old shared.now
-            (come_to self.old pass (FieldRow.Store store)) }
-        ensures { HasRunUpTo 4 M.acts shared.now memory.old
-            (come_to self.old pass (FieldRow.Store store)) memory.new self.new result }
-    {
-        match FieldPass::stores(pass, command, store, places, memory, shared) {
-            FieldRow::Store { store } => self.store(pass, command, store, places, memory, shared),
-            FieldRow::LoadOwner { word } => self.owner(pass, command, word, places, memory, shared),
-            row => self.ends(pass, command, row, places, memory, shared),
-        }
-    }
-
-    // From the load of the register with which `cas` compares.
-    #[inline(always)]
-    fn expected_of_cas<M: Memory>(
-        &mut self,
-        pass: Pass,
-        command: Command,
-        wanted: Purpose,
-        places: &Places,
-        memory: &mut M,
-        shared: &M::Shared,
-    ) -> Turn
-        requires goes { GoesIn self.old pass command }
-        requires places { places.now ≡ self.old.config }
-        requires fits { FitsAt places.now pass command (FieldRow.LoadRegister wanted) }
-        requires may { MayRun M.may M.acts 4 memory.old shared.now
-            (come_to self.old pass (FieldRow.LoadRegister wanted)) }
-        ensures { HasRunUpTo 4 M.acts shared.now memory.old
-            (come_to self.old pass (FieldRow.LoadRegister wanted)) memory.new self.new result }
-    {
-        match FieldPass::loads_register(pass, command, wanted, places, memory, shared) {
-            FieldRow::LoadRegister { wanted } => self.register(
-                pass, command, wanted, places, memory, shared,
-            ),
-            row => self.ends(pass, command, row, places, memory, shared),
-        }
-    }
-
-    // From the load of the object's shape, of `get`.
-    #[inline(always)]
-    fn shape_of_get<M: Memory>(
-        &mut self,
-        pass: Pass,
-        command: Command,
-        block: u32,
-        places: &Places,
-        memory: &mut M,
-        shared: &M::Shared,
-    ) -> Turn
-        requires goes { GoesIn self.old pass command }
-        requires places { places.now ≡ self.old.config }
-        requires fits { FitsAt places.now pass command (FieldRow.LoadShape block) }
-        requires may { MayRun M.may M.acts 5 memory.old shared.now
-            (come_to self.old pass (FieldRow.LoadShape block)) }
-        ensures { HasRunUpTo 5 M.acts shared.now memory.old
-            (come_to self.old pass (FieldRow.LoadShape block)) memory.new self.new result }
-    {
-        match FieldPass::loads_shape(pass, command, block, places, memory, shared) {
-            FieldRow::LoadField { way } => self.field(pass, command, way, places, memory, shared),
-            row => self.ends(pass, command, row, places, memory, shared),
-        }
-    }
-
-    // From the load of the object's shape, of `put`.
-    #[inline(always)]
-    fn shape_of_put<M: Memory>(
-        &mut self,
-        pass: Pass,
-        command: Command,
-        block: u32,
-        places: &Places,
-        memory: &mut M,
-        shared: &M::Shared,
-    ) -> Turn
-        requires goes { GoesIn self.old pass command }
-        requires places { places.now ≡ self.old.config }
-        requires fits { FitsAt places.now pass command (FieldRow.LoadShape block) }
-        requires may { MayRun M.may M.acts 4 memory.old shared.now
-            (come_to self.old pass (FieldRow.LoadShape block)) }
-        ensures { HasRunUpTo 4 M.acts shared.now memory.old
-            (come_to self.old pass (FieldRow.LoadShape block)) memory.new self.new result }
-    {
-        match FieldPass::loads_shape(pass, command, block, places, memory, shared) {
-            FieldRow::LoadRegister { wanted } => self.register(
-                pass, command, wanted, places, memory, shared,
-            ),
-            row => self.ends(pass, command, row, places, memory, shared),
-        }
-    }
-
-    // From the load of the object's shape, of `len`.
-    #[inline(always)]
-    fn shape_of_len<M: Memory>(
-        &mut self,
-        pass: Pass,
-        command: Command,
-        block: u32,
-        places: &Places,
-        memory: &mut M,
-        shared: &M::Shared,
-    ) -> Turn
-        requires goes { GoesIn self.old pass command }
-        requires places { places.now ≡ self.old.config }
-        requires fits { FitsAt places.now pass command (FieldRow.LoadShape block) }
-        requires may { MayRun M.may M.acts 2 memory.old shared.now
-            (come_to self.old pass (FieldRow.LoadShape block)) }
-        ensures { HasRunUpTo 2 M.acts shared.now memory.old
-            (come_to self.old pass (FieldRow.LoadShape block)) memory.new self.new result }
-    {
-        let row = FieldPass::loads_shape(pass, command, block, places, memory, shared);
-        self.ends(pass, command, row, places, memory, shared)
-    }
-
-    // From the load of the register that `say` shows.
-    #[inline(always)]
-    fn shown<M: Memory>(
-        &mut self,
-        pass: Pass,
-        command: Command,
-        places: &Places,
-        memory: &mut M,
-        shared: &M::Shared,
-    ) -> Turn
-        requires goes { GoesIn self.old pass command }
-        requires places { places.now ≡ self.old.config }
-        requires fits { FitsAt places.now pass command (FieldRow.LoadRegister Purpose.Shown) }
-        requires may { MayRun M.may M.acts 4 memory.old shared.now
-            (come_to self.old pass (FieldRow.LoadRegister Purpose.Shown)) }
-        ensures { HasRunUpTo 4 M.acts shared.now memory.old
-            (come_to self.old pass (FieldRow.LoadRegister Purpose.Shown)) memory.new self.new result }
-    {
-        match FieldPass::loads_register(pass, command, Purpose::Shown, places, memory, shared) {
-            FieldRow::LoadOwner { word } => self.owner(pass, command, word, places, memory, shared),
-            row => self.ends(pass, command, row, places, memory, shared),
         }
     }
 }

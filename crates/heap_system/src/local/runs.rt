@@ -79,7 +79,7 @@ impl Local {
             Row::Sweep { .. } => self.sweeps(memory, shared, LONGEST),
             Row::Serve => self.serves_on(memory, shared),
             Row::Build => self.builds_on(memory, shared),
-            Row::Rest => self.at_once(memory, shared),
+            Row::Rest => self.fast_path(memory, shared),
             _ => self.event(memory, shared),
         }
     }
@@ -96,7 +96,7 @@ impl Local {
             Row::Sweep { .. } => self.sweeps(memory, shared, LONGEST),
             Row::Serve => self.serves_on(memory, shared),
             Row::Build => self.builds_on(memory, shared),
-            Row::Rest => self.at_once(memory, shared),
+            Row::Rest => self.fast_path(memory, shared),
             Row::Look => self.at_gate_once(memory, shared),
             Row::Enter { .. } => self.at_gate_once(memory, shared),
             Row::PhaseChange => self.at_gate_once(memory, shared),

@@ -1,5 +1,5 @@
 use Rattle.std.proofs.Common.{subst, sym}
-use Rattle.heap_system.specs.AtOnce.{MayBegin}
+use Rattle.heap_system.specs.FastPath.{MayBegin}
 use Rattle.heap_system.specs.ThreadMemories.{HasRunOn, MayRun, longest}
 use Rattle.control_heap.proofs.ServeLoop.{may_begin}
 use Rattle.heap_system.specs.Locals.{begun}

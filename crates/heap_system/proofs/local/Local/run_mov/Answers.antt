@@ -1,11 +1,11 @@
 use Rattle.std.proofs.Common.{refl, sym, subst, arith}
 use Rattle.barrier_steps.specs.declared.rows.FieldRow.{FieldRow}
 use Rattle.barrier_steps.specs.declared.rows.Purpose.{Purpose}
-use Rattle.heap_system.specs.AtOnce.{HasRunFromRest}
+use Rattle.heap_system.specs.FastPath.{HasRunFromRest}
 use Rattle.heap_system.specs.Locals.{LocalState}
 use Rattle.heap_system.specs.ThreadMemories.{HasRunOn, MayRun, longest}
 use Rattle.heap_system.specs.declared.Turn.TheVariants.{Waited}
-use Rattle.heap_system.proofs.AtOnce.{row_may, row_run}
+use Rattle.heap_system.proofs.FastPath.{row_may, row_run}
 use Rattle.heap_system.proofs.local.Local.run_mov.Goals as goal
 
 pub try_enter-requires-clause-may : goal.try_enter-requires-clause-may
@@ -13,22 +13,22 @@ try_enter-requires-clause-may g c =
     subst (λ (y : LocalState). MayRun g.M.Memory.may g.M.Memory.acts longest c.args.memory.now c.args.shared.now y)
     (sym c.begin_lone.ensures.begun) c.requires.may
 
-pub register-requires-clause-may : goal.register-requires-clause-may
-register-requires-clause-may g c =
+pub from_register-requires-clause-may : goal.from_register-requires-clause-may
+from_register-requires-clause-may g c =
     row_may g.M.Memory.may g.M.Memory.acts c.args.shared.now
     (HasRunFromRest g.M.Memory.acts c.args.shared.now c.args.memory.now c.begin_lone.new.self) c.begin_lone.new.self
     c.try_enter.new.memory c.in-Some.pass c.in-Some.ensures.inside _ (FieldRow.LoadRegister Purpose.Copied)
-    (record { first = refl; told = refl; blocks = λ _. refl; unsaid = refl }) c.goes_by.ensures.goes 3 (omega arith)
+    (record { first = refl; told = refl; blocks = λ _. refl; unsaid = refl }) c.goes_by.ensures.inside.goes 3 (omega arith)
 
 pub returns-in-Some : goal.returns-in-Some
 returns-in-Some g c =
-    subst (λ (y : LocalState). HasRunOn g.M.Memory.acts c.args.shared.now c.args.memory.now y c.register.new.memory c.register.new.self c.register.result)
+    subst (λ (y : LocalState). HasRunOn g.M.Memory.acts c.args.shared.now c.args.memory.now y c.from_register.new.memory c.from_register.new.self c.from_register.result)
     c.begin_lone.ensures.begun
     (row_run g.M.Memory.may g.M.Memory.acts c.args.shared.now
     (HasRunFromRest g.M.Memory.acts c.args.shared.now c.args.memory.now c.begin_lone.new.self) c.begin_lone.new.self
     c.try_enter.new.memory c.in-Some.pass c.in-Some.ensures.inside _ (FieldRow.LoadRegister Purpose.Copied)
-    (record { first = refl; told = refl; blocks = λ _. refl; unsaid = refl }) c.goes_by.ensures.goes 3 (omega arith)
-    c.register.new.memory c.register.new.self c.register.result c.register.ensures)
+    (record { first = refl; told = refl; blocks = λ _. refl; unsaid = refl }) c.goes_by.ensures.inside.goes 3 (omega arith)
+    c.from_register.new.memory c.from_register.new.self c.from_register.result c.from_register.ensures)
 
 pub returns-in-None : goal.returns-in-None
 returns-in-None g c =

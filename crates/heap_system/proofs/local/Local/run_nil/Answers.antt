@@ -1,10 +1,10 @@
 use Rattle.std.proofs.Common.{refl, sym, subst, arith}
 use Rattle.barrier_steps.specs.declared.rows.FieldRow.{FieldRow}
-use Rattle.heap_system.specs.AtOnce.{HasRunFromRest}
+use Rattle.heap_system.specs.FastPath.{HasRunFromRest}
 use Rattle.heap_system.specs.Locals.{LocalState}
 use Rattle.heap_system.specs.ThreadMemories.{HasRunOn, MayRun, longest}
 use Rattle.heap_system.specs.declared.Turn.TheVariants.{Waited}
-use Rattle.heap_system.proofs.AtOnce.{row_may, row_run}
+use Rattle.heap_system.proofs.FastPath.{row_may, row_run}
 use Rattle.heap_system.proofs.local.Local.run_nil.Goals as goal
 
 pub try_enter-requires-clause-may : goal.try_enter-requires-clause-may
@@ -12,22 +12,22 @@ try_enter-requires-clause-may g c =
     subst (λ (y : LocalState). MayRun g.M.Memory.may g.M.Memory.acts longest c.args.memory.now c.args.shared.now y)
     (sym c.begin_lone.ensures.begun) c.requires.may
 
-pub constant-requires-clause-may : goal.constant-requires-clause-may
-constant-requires-clause-may g c =
+pub from_constant-requires-clause-may : goal.from_constant-requires-clause-may
+from_constant-requires-clause-may g c =
     row_may g.M.Memory.may g.M.Memory.acts c.args.shared.now
     (HasRunFromRest g.M.Memory.acts c.args.shared.now c.args.memory.now c.begin_lone.new.self) c.begin_lone.new.self
     c.try_enter.new.memory c.in-Some.pass c.in-Some.ensures.inside _ (FieldRow.StoreConstant)
-    (record { first = refl; told = refl; blocks = λ _. refl; unsaid = refl }) c.goes_by.ensures.goes 2 (omega arith)
+    (record { first = refl; told = refl; blocks = λ _. refl; unsaid = refl }) c.goes_by.ensures.inside.goes 2 (omega arith)
 
 pub returns-in-Some : goal.returns-in-Some
 returns-in-Some g c =
-    subst (λ (y : LocalState). HasRunOn g.M.Memory.acts c.args.shared.now c.args.memory.now y c.constant.new.memory c.constant.new.self c.constant.result)
+    subst (λ (y : LocalState). HasRunOn g.M.Memory.acts c.args.shared.now c.args.memory.now y c.from_constant.new.memory c.from_constant.new.self c.from_constant.result)
     c.begin_lone.ensures.begun
     (row_run g.M.Memory.may g.M.Memory.acts c.args.shared.now
     (HasRunFromRest g.M.Memory.acts c.args.shared.now c.args.memory.now c.begin_lone.new.self) c.begin_lone.new.self
     c.try_enter.new.memory c.in-Some.pass c.in-Some.ensures.inside _ (FieldRow.StoreConstant)
-    (record { first = refl; told = refl; blocks = λ _. refl; unsaid = refl }) c.goes_by.ensures.goes 2 (omega arith)
-    c.constant.new.memory c.constant.new.self c.constant.result c.constant.ensures)
+    (record { first = refl; told = refl; blocks = λ _. refl; unsaid = refl }) c.goes_by.ensures.inside.goes 2 (omega arith)
+    c.from_constant.new.memory c.from_constant.new.self c.from_constant.result c.from_constant.ensures)
 
 pub returns-in-None : goal.returns-in-None
 returns-in-None g c =

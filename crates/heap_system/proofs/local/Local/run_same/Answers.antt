@@ -1,11 +1,11 @@
 use Rattle.std.proofs.Common.{refl, sym, subst, arith}
 use Rattle.barrier_steps.specs.declared.rows.FieldRow.{FieldRow}
 use Rattle.barrier_steps.specs.declared.rows.Purpose.{Purpose}
-use Rattle.heap_system.specs.AtOnce.{HasRunFromRest}
+use Rattle.heap_system.specs.FastPath.{HasRunFromRest}
 use Rattle.heap_system.specs.Locals.{LocalState}
 use Rattle.heap_system.specs.ThreadMemories.{HasRunOn, MayRun, longest}
 use Rattle.heap_system.specs.declared.Turn.TheVariants.{Waited}
-use Rattle.heap_system.proofs.AtOnce.{row_may, row_run}
+use Rattle.heap_system.proofs.FastPath.{row_may, row_run}
 use Rattle.heap_system.proofs.local.Local.run_same.Goals as goal
 
 pub try_enter-requires-clause-may : goal.try_enter-requires-clause-may
@@ -13,22 +13,22 @@ try_enter-requires-clause-may g c =
     subst (λ (y : LocalState). MayRun g.M.Memory.may g.M.Memory.acts longest c.args.memory.now c.args.shared.now y)
     (sym c.begin_lone.ensures.begun) c.requires.may
 
-pub both-requires-clause-may : goal.both-requires-clause-may
-both-requires-clause-may g c =
+pub from_first_of_same-requires-clause-may : goal.from_first_of_same-requires-clause-may
+from_first_of_same-requires-clause-may g c =
     row_may g.M.Memory.may g.M.Memory.acts c.args.shared.now
     (HasRunFromRest g.M.Memory.acts c.args.shared.now c.args.memory.now c.begin_lone.new.self) c.begin_lone.new.self
     c.try_enter.new.memory c.in-Some.pass c.in-Some.ensures.inside _ (FieldRow.LoadRegister Purpose.First)
-    (record { first = refl; told = refl; blocks = λ _. refl; unsaid = refl }) c.goes_by.ensures.goes 4 (omega arith)
+    (record { first = refl; told = refl; blocks = λ _. refl; unsaid = refl }) c.goes_by.ensures.inside.goes 4 (omega arith)
 
 pub returns-in-Some : goal.returns-in-Some
 returns-in-Some g c =
-    subst (λ (y : LocalState). HasRunOn g.M.Memory.acts c.args.shared.now c.args.memory.now y c.both.new.memory c.both.new.self c.both.result)
+    subst (λ (y : LocalState). HasRunOn g.M.Memory.acts c.args.shared.now c.args.memory.now y c.from_first_of_same.new.memory c.from_first_of_same.new.self c.from_first_of_same.result)
     c.begin_lone.ensures.begun
     (row_run g.M.Memory.may g.M.Memory.acts c.args.shared.now
     (HasRunFromRest g.M.Memory.acts c.args.shared.now c.args.memory.now c.begin_lone.new.self) c.begin_lone.new.self
     c.try_enter.new.memory c.in-Some.pass c.in-Some.ensures.inside _ (FieldRow.LoadRegister Purpose.First)
-    (record { first = refl; told = refl; blocks = λ _. refl; unsaid = refl }) c.goes_by.ensures.goes 4 (omega arith)
-    c.both.new.memory c.both.new.self c.both.result c.both.ensures)
+    (record { first = refl; told = refl; blocks = λ _. refl; unsaid = refl }) c.goes_by.ensures.inside.goes 4 (omega arith)
+    c.from_first_of_same.new.memory c.from_first_of_same.new.self c.from_first_of_same.result c.from_first_of_same.ensures)
 
 pub returns-in-None : goal.returns-in-None
 returns-in-None g c =

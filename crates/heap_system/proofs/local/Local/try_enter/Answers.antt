@@ -2,8 +2,8 @@ use Rattle.std.proofs.Common.{◌∙◌, Option, Some, None, ap, refl, subst, sy
 use Rattle.std.specs.Option.{IfNone}
 use Rattle.std.proofs.lemmas.Option.{IfSome_then}
 use Rattle.block_store.specs.declared.PhaseWord.{PhaseWord}
-use Rattle.heap_system.specs.AtOnce.{HasRunFromGate, HasRunFromRest}
-use Rattle.heap_system.proofs.AtOnce.{closed_run, entering_may, entering_run, gone_earlier}
+use Rattle.heap_system.specs.FastPath.{HasRunFromGate, HasRunFromRest}
+use Rattle.heap_system.proofs.FastPath.{closed_run, entering_may, entering_run, gone_earlier}
 use Rattle.heap_system.proofs.local.Local.try_enter.Goals as goal
 
 pub enter_by-requires-clause-may : goal.enter_by-requires-clause-may

@@ -1,0 +1,24 @@
+use Rattle.std.proofs.Common.{refl, arith}
+use Rattle.barrier_steps.specs.declared.rows.FieldRow.{FieldRow}
+use Rattle.heap_system.proofs.FastPath.{may_on, reads_well, run_on}
+use Rattle.heap_system.proofs.local.Local.from_shape_of_len.Goals as goal
+
+pub finish-requires-clause-may : goal.finish-requires-clause-may
+finish-requires-clause-may g c =
+    may_on g.M.Memory.may g.M.Memory.acts c.args.shared.now c.args.self.now c.args.inside.now
+    c.requires.inside (FieldRow.LoadShape c.args.block) c.requires.fits refl 1 c.args.memory.now c.requires.may
+    c.loads_shape-row.new.memory c.loads_shape-row.result c.loads_shape-row.ensures.acted
+    c.loads_shape-row.result refl 1 (omega arith)
+
+pub returns : goal.returns
+returns g c =
+    run_on g.M.Memory.may g.M.Memory.acts c.args.shared.now c.args.self.now c.args.inside.now
+    c.requires.inside (FieldRow.LoadShape c.args.block) c.requires.fits refl 1 c.args.memory.now c.requires.may
+    c.loads_shape-row.new.memory c.loads_shape-row.result c.loads_shape-row.ensures.acted
+    c.loads_shape-row.result refl 1 (omega arith)
+    c.finish.new.memory c.finish.new.self c.finish.result c.finish.ensures
+
+pub loads_shape-row-requires-clause-reads : goal.loads_shape-row-requires-clause-reads
+loads_shape-row-requires-clause-reads g c =
+    reads_well g.M.Memory.may g.M.Memory.acts c.args.shared.now c.args.self.now c.args.inside.now
+    c.requires.inside (FieldRow.LoadShape c.args.block) c.requires.fits refl 1 c.args.memory.now c.requires.may
