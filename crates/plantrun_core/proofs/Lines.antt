@@ -18,6 +18,7 @@ use Rattle.plantrun_core.specs.declared.stops.Stop.TheVariants as stops
 use Rattle.plantrun_core.specs.Logs.{operation_of}
 use Rattle.plantrun_core.specs.Readings.{AreDue, CountsNext, HasTooMany, IsNext, IsPastEnd, IsTaken, Spells, SpellsNone, puts, reading_at, room, spelled_at}
 use Rattle.plantrun_core.specs.Roles.{word}
+use Rattle.plantrun_core.specs.Refusals.{IsRefusedAfter}
 use Rattle.plantrun_core.specs.Works.{CountsInput, HasInput, IsInputEnd}
 
 reading_long : (line : List ℕ) → 40 ≤ length line → reading_at line ≡ None
@@ -141,6 +142,7 @@ pub read_stop : (ticks : ℕ) (all left new : Option (List ℕ)) (rs : List Read
     → IsInputEnd ticks all new hand rs (Some stop)
 read_stop ticks all left new rs number stops.TooMany hand a b few same counts read next =
     absurd counts
+read_stop ticks all left new rs number stops.Refused hand a b few same counts read next =
     absurd counts
 read_stop ticks all left new rs number stops.NoMemory hand a b few same counts read next =
     absurd counts
@@ -177,6 +179,7 @@ pub counts_input : (first a b : ℕ) (stop : Stop) → a ≡ first → CountsNex
 counts_input first a b (stops.BadLine k) same counts = counts ∙ same
 counts_input first a b stops.ReadFault same counts = subst (λ x. Rose x b) same counts
 counts_input first a b stops.TooMany same counts = absurd counts
+counts_input first a b stops.Refused same counts = absurd counts
 counts_input first a b stops.NoMemory same counts = absurd counts
 
 -- ---- the loop over the lines
@@ -250,4 +253,14 @@ input_many ticks n all left new hand r full read next = record {
   tags = read.1;
   log = read.3;
   end = read_many ticks all left new read.0 r (n + 1) (read.2 ∙ full) read.4 next;
+}
+
+pub input_refused : (ticks n : ℕ) (all left new : Option (List ℕ)) (old : List Done) (hand : Hand)
+    → hand.calls.items ≡ old → HasRead ticks all left n (map operation_of old)
+    → IsRefusedAfter hand.who hand.calls.items → HasInput ticks all new hand (Some stops.Refused)
+input_refused ticks n all left new old hand same read refused = record {
+  readings = read.0;
+  tags = read.1;
+  log = ap (map operation_of) same ∙ read.3;
+  end = refused;
 }

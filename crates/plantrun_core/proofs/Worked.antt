@@ -16,7 +16,7 @@ use Rattle.plantrun_core.specs.declared.roles.Role.TheVariants.{Control, Alarms,
 use Rattle.plantrun_core.specs.declared.work.Work.{Work}
 use Rattle.plantrun_core.specs.Alarms.{act_of, move_of}
 use Rattle.plantrun_core.specs.Roles.{AfterTicks, HasKept, HasRecorded, HasReread, HasScanned, HasScannedTo, HasTicked, HasWatched, IsFine, acted, did, limits_of, put_in_ring}
-use Rattle.plantrun_core.specs.Logs.{HasLogged}
+use Rattle.plantrun_core.specs.Refusals.{IsRefusedAfter}
 use Rattle.plantrun_core.specs.Works.{HasGone, IsAtWork, at_scan, first_of, most_at, most_in}
 
 pub scanned_more : (i : ℕ) (old mid new : List Done) → HasScannedTo i old mid
@@ -24,10 +24,10 @@ pub scanned_more : (i : ℕ) (old mid new : List Done) → HasScannedTo i old mi
 scanned_more i old mid new so_far here =
     subst (λ (k : ℕ). HasScannedTo k old new) (sym (add-one i)) (mid, so_far, here)
 
-reread_more : (k : ℕ) (old mid new : List Done) (tag : Tag) → HasReread k old mid
-    → HasLogged (Read (14 + k)) tag mid new → HasReread (k + 1) old new
+pub reread_more : (k : ℕ) (old mid new : List Done) (tag : Tag) → HasReread k old mid
+    → new ≡ mid ++ did (Read (14 + k)) tag ∷ [] → HasReread (k + 1) old new
 reread_more k old mid new tag so_far more =
-    subst (λ (n : ℕ). HasReread n old new) (sym (add-one k)) (mid, tag, more.0, so_far, more.1)
+    subst (λ (n : ℕ). HasReread n old new) (sym (add-one k)) (mid, tag, so_far, more)
 
 ticked_more : (first : Role) (n : ℕ) (old new : List Done) (before after : Role)
     → AfterTicks first n old before → HasTicked before n old new after
@@ -43,14 +43,13 @@ kind_kept History after n old new h = ap first_of h.1
 
 -- ---- how long it is
 
-acted_short : (o : Option Operation) (tag : Tag) (stamp : ℕ) → length (acted o tag stamp) ≤ 1
-acted_short None tag stamp = omega arith
-acted_short (Some op) tag stamp = omega arith
+acted_short : (o : Option Operation) (tag : Tag) → length (acted o tag) ≤ 1
+acted_short None tag = omega arith
+acted_short (Some op) tag = omega arith
 
-put_short : (n : ℕ) (measured tag : Tag) (stamp : ℕ)
-    → length (put_in_ring n measured tag stamp) ≤ 1
-put_short n None tag stamp = omega arith
-put_short n (Some p) tag stamp = omega arith
+put_short : (n : ℕ) (measured tag : Tag) → length (put_in_ring n measured tag) ≤ 1
+put_short n None tag = omega arith
+put_short n (Some p) tag = omega arith
 
 -- a list that ends in these
 length_ends : (old end new : List Done) → new ≡ old ++ end → length new ≡ length old + length end
@@ -59,12 +58,10 @@ length_ends old end new e = ap length e ∙ length-append old end
 pub scanned_length : (l : Limits) (i : ℕ) (old new : List Done) → HasScanned l i old new
     → length new ≤ length old + 4
 scanned_length l i old new h =
-    let act = acted_short (act_of (move_of l h.kept h.measured h.told) i h.told) h.replaced
-    h.fourth in
-    let e = length_ends old (did (Read (10 + i)) h.kept h.first ∷ did (Read i) h.measured h.second
-    ∷ did (Read (5 + i)) h.told h.third
-    ∷ acted (act_of (move_of l h.kept h.measured h.told) i h.told) h.replaced h.fourth) new
-    h.log in
+    let act = acted_short (act_of (move_of l h.kept h.measured h.told) i h.told) h.replaced in
+    let e = length_ends old (did (Read (10 + i)) h.kept ∷ did (Read i) h.measured
+    ∷ did (Read (5 + i)) h.told
+    ∷ acted (act_of (move_of l h.kept h.measured h.told) i h.told) h.replaced) new h.log in
     omega (arith, act, e)
 
 pub scanned_to_length : (i : ℕ) (old new : List Done) → HasScannedTo i old new
@@ -77,9 +74,9 @@ scanned_to_length (suc i) old new h =
 
 kept_length : (n : ℕ) (old new : List Done) → HasKept n old new → length new ≤ length old + 2
 kept_length n old new h =
-    let put = put_short n h.measured h.replaced h.second in
-    let e = length_ends old
-    (did (Read 0) h.measured h.first ∷ put_in_ring n h.measured h.replaced h.second) new h.log in
+    let put = put_short n h.measured h.replaced in
+    let e = length_ends old (did (Read 0) h.measured ∷ put_in_ring n h.measured h.replaced) new
+    h.log in
     omega (arith, put, e)
 
 watched_length : (b : Bool) (old new : List Done) → HasWatched b old new
@@ -135,37 +132,32 @@ log_length first (suc n) log role h =
     subst (λ (k : ℕ). length log ≤ most_in role k) (add-one n)
     (omega (arith, so_far, here, most, same))
 
--- how long a log is at most
-abbrev pub longest : ℕ
-longest = 16 * 1048576
-
-few_in : (r : Role) (n : ℕ) → n ≤ 1048576 → most_in r n + 32 ≤ longest
-few_in (Control l) n le = omega (arith, le)
-few_in Alarms n le = omega (arith, le)
-few_in History n le = omega (arith, le)
-
 -- the log of the history when it has done all its ticks
 pub kept_short : (count : ℕ) (w : Work) → IsAtWork count w → first_of w.role ≡ History
-    → w.ticks ≡ count → length w.hand.calls.items ≤ most_in History count
-kept_short count w is hist whole =
-    let so_far = log_length (first_of w.role) w.ticks w.hand.calls.items w.role is.worked in
+    → (w.spent ≡ false → w.ticks ≡ count) → w.spent ≡ false
+    → length w.hand.calls.items ≤ most_in History count
+kept_short count w is hist whole fresh =
+    let so_far = log_length (first_of w.role) w.ticks w.hand.calls.items w.role (is.worked fresh) in
     let same : most_in w.role w.ticks ≡ most_in History w.ticks =
     most_first w.role w.ticks ∙ ap (λ (r : Role). most_in r w.ticks) hist in
-    subst (λ (n : ℕ). length w.hand.calls.items ≤ most_in History n) whole
+    subst (λ (n : ℕ). length w.hand.calls.items ≤ most_in History n) (whole fresh)
     (subst (λ (n : ℕ). length w.hand.calls.items ≤ n) same so_far)
 
-pub kept_few : (count : ℕ) (w : Work) → IsAtWork count w → first_of w.role ≡ History
-    → w.ticks ≡ count → count ≤ 1048576 → length w.hand.calls.items + 32 ≤ 2 ^ 24
-kept_few count w is hist whole le =
-    omega (arith, kept_short count w is hist whole, few_in History count le)
+-- what a call did that did not fail
+pub ok_of : {X E : Type 0} (r : Result X E) (b : Bool) (P : Type 0) → b ≡ false → b ≡ is_err r
+    → OnOk r P → P
+ok_of (Ok x) b P fine is h = h
+ok_of (Err e) b P fine is h = absurd (cc (fine, is))
 
-pub reread_on : (k : ℕ) (old mid new : List Done) (tag : Tag)
-    → HasLogged (Read (14 + k)) tag mid new → HasReread k old mid
+pub reread_on : {E : Type 0} (k : ℕ) (old mid new : List Done) (r : Result Tag E) (b : Bool)
+    → b ≡ false → b ≡ is_err r
+    → IfOk r (λ tag. new ≡ mid ++ did (Read (14 + k)) tag ∷ []) → HasReread k old mid
     → HasReread (k + 1) old new × (length new ≡ length mid + 1)
-reread_on k old mid new tag h so_far = (
+reread_on k old mid new (Ok tag) b fine is h so_far = (
   reread_more k old mid new tag so_far h,
-  ap length h.1 ∙ length-append mid (did (Read (14 + k)) tag h.0 ∷ []),
+  ap length h ∙ length-append mid (did (Read (14 + k)) tag ∷ []),
 )
+reread_on k old mid new (Err e) b fine is h so_far = absurd (cc (fine, is))
 
 -- ---- a thread goes on
 
@@ -183,28 +175,20 @@ gone_then count a b c f g = record {
 }
 
 -- there is room for what it does at its next tick
-pub room_next : (count : ℕ) (w : Work) → IsAtWork count w → w.ticks < count
+pub room_next : (count : ℕ) (w : Work) → IsAtWork count w → w.spent ≡ false → w.ticks < count
     → length w.hand.calls.items + most_at w.role w.ticks ≤ vec_capacity w.hand.calls
-room_next count w is more =
-    let so_far = log_length (first_of w.role) w.ticks w.hand.calls.items w.role is.worked in
+room_next count w is fresh more =
+    let so_far = log_length (first_of w.role) w.ticks w.hand.calls.items w.role (is.worked fresh) in
     let here = most_more w.role w.ticks in
     let rest = most_mono w.role (w.ticks + 1) count (omega arith) in
     omega (arith, so_far, here, rest, is.room)
 
-pub few_next : (count : ℕ) (w : Work) → IsAtWork count w → w.ticks < count → count ≤ 1048576
-    → length w.hand.calls.items + most_at w.role w.ticks ≤ 2 ^ 24
-few_next count w is more le =
-    let so_far = log_length (first_of w.role) w.ticks w.hand.calls.items w.role is.worked in
-    let here = most_more w.role w.ticks in
-    let few = few_in w.role (w.ticks + 1) (omega (arith, more, le)) in
-    omega (arith, so_far, here, few)
-
-pub gone_on : (count : ℕ) (old new : Work) → IsAtWork count old → old.ticks < count
-    → IsSameWorker old.hand.who new.hand.who
+pub gone_on : (count : ℕ) (old new : Work) → IsAtWork count old → old.spent ≡ false
+    → old.ticks < count → IsSameWorker old.hand.who new.hand.who
     → vec_capacity new.hand.calls ≡ vec_capacity old.hand.calls → IsFine new.role
     → HasTicked old.role old.ticks old.hand.calls.items new.hand.calls.items new.role
-    → new.ticks ≡ old.ticks + 1 → HasGone count old new
-gone_on count old new is more same capacity fine here ticks = record {
+    → new.ticks ≡ old.ticks + 1 → new.spent ≡ false → HasGone count old new
+gone_on count old new is fresh more same capacity fine here ticks spent = record {
   same = same;
   first = kind;
   capacity = capacity;
@@ -212,13 +196,32 @@ gone_on count old new is more same capacity fine here ticks = record {
     few = omega (arith, ticks);
     room = omega (arith, most_same new.role old.role count kind, is.room, capacity);
     fine = fine;
-    worked = subst (λ (k : ℕ). AfterTicks (first_of new.role) k new.hand.calls.items new.role)
+    worked = λ _. subst (λ (k : ℕ). AfterTicks (first_of new.role) k new.hand.calls.items new.role)
         (sym ticks)
         (subst (λ (r : Role). AfterTicks r (old.ticks + 1) new.hand.calls.items new.role) (sym kind)
         (ticked_more (first_of old.role) old.ticks old.hand.calls.items new.hand.calls.items old.role
-        new.role is.worked here));
+        new.role (is.worked fresh) here));
+    refused = λ yes. absurd (cc (yes, spent));
   };
 }
   where
     kind : first_of new.role ≡ first_of old.role
     kind = kind_kept old.role new.role old.ticks old.hand.calls.items new.hand.calls.items here
+
+pub gone_out : (count : ℕ) (old new : Work) → IsAtWork count old
+    → IsSameWorker old.hand.who new.hand.who
+    → vec_capacity new.hand.calls ≡ vec_capacity old.hand.calls → new.role ≡ old.role
+    → new.ticks ≡ old.ticks → new.spent ≡ true
+    → IsRefusedAfter new.hand.who new.hand.calls.items → HasGone count old new
+gone_out count old new is same capacity role ticks spent refused = record {
+  same = same;
+  first = ap first_of role;
+  capacity = capacity;
+  work = record {
+    few = omega (arith, ticks, is.few);
+    room = omega (arith, ap (λ (r : Role). most_in r count) role, is.room, capacity);
+    fine = subst IsFine (sym role) is.fine;
+    worked = λ no. absurd (cc (no, spent));
+    refused = λ _. refused;
+  };
+}

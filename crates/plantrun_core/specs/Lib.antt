@@ -3,6 +3,7 @@ pub mod Alarms
 pub mod Logs
 pub mod Roles
 pub mod Readings
+pub mod Refusals
 pub mod Works
 pub mod Crews
 pub mod Orders

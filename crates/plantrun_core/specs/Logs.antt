@@ -1,14 +1,11 @@
--- What the threads of a plant did, and when.
-use Rattle.std.specs.Prelude.{ℕ, ◌≡◌, ◌++◌, List, [], ◌∷◌, map}
-use Rattle.array_tables.specs.operations.Linearizations.{Call}
+-- What the threads of a plant did, and an order of it.
+use Rattle.std.specs.Prelude.{ℕ, ◌≡◌, List, map}
+use Rattle.array_tables.specs.operations.Linearizations.{Call, calls_of, AreAnswered}
 use Rattle.array_tables.specs.declared.tag_table.operation.Operation.{Operation}
-use Rattle.array_tables.specs.tag_table.Tables.{Tag}
-use Rattle.shared_heap.specs.declared.rules.Moment.{Moment}
-use Rattle.shared_heap.specs.Workers.{HasSeenIts, HeapState}
-use Rattle.live_tables.specs.rows.Stamped.{IsStampAfter}
-use Rattle.live_tables.specs.tags.Live.{HasDone, TagWorkerState, opened_config, tags}
-use Rattle.live_tables.specs.rows.Workers.{HasDrawn, HasSeenAll, IsOf, thread_of}
+use Rattle.array_tables.specs.tag_table.Tables.{Tag, answer, table_after, empty_table}
+use Rattle.live_tables.specs.tags.Live.{TagWorkerState}
 use Rattle.plantrun_core.specs.declared.calls.Done.{Done}
+use Rattle.plantrun_core.specs.declared.calls.Logs.{Logs}
 use Rattle.plantrun_core.specs.declared.calls.Step.{Step}
 
 abbrev pub operation_of : Done → Operation
@@ -17,45 +14,28 @@ operation_of d = d.operation
 abbrev pub answer_of : Done → Tag
 answer_of d = d.answer
 
-abbrev pub stamp_of : Step → ℕ
-stamp_of s = s.done.stamp
+-- the log has all that the worker did, with its answers
+abbrev pub IsLog : TagWorkerState → List Done → Type 0
+IsLog w log = (w.done ≡ map operation_of log) × (w.answers ≡ map answer_of log)
 
 abbrev pub call_by : ℕ → Done → Call Operation Tag
 call_by t d = record { thread = t; operation = d.operation; answer = d.answer }
 
-abbrev pub step_by : ℕ → Done → Step
-step_by t d = record { thread = t; done = d }
+abbrev pub call_of : Step → Call Operation Tag
+call_of s = call_by s.thread s.done
 
--- Each operation of the log was done, after these, when its stamp was drawn, and no later one of
--- its thread had begun.
-abbrev pub AllStamped : List Moment → ℕ → List Operation → List Done → Type 0
-AllStamped timeline t before [] = Unit {0}
-AllStamped timeline t before (d ∷ log) =
-    IsStampAfter tags timeline t (before ++ d.operation ∷ []) d.stamp
-    × AllStamped timeline t (before ++ d.operation ∷ []) log
+-- what thread t did is this log, with these answers
+abbrev pub HasLog : List Step → ℕ → List Done → Type 0
+HasLog order t log = calls_of t (map call_of order) ≡ map (call_by t) log
 
--- the log has all that the worker did, with its answers, and a stamp after each
-pub record IsLog (w : TagWorkerState) (log : List Done) : Type 0 where
-  pub operations : w.done ≡ map operation_of log
-  pub answers : w.answers ≡ map answer_of log
-  pub stamped : AllStamped w.worker.timeline (thread_of w) [] log
-  pub sound : HasSeenIts w.worker
-  pub seen : HasSeenAll tags w
+-- each answer is that of a plain table of so many places, empty at first
+abbrev pub IsPlain : ℕ → List Step → Type 0
+IsPlain places order = AreAnswered answer table_after (empty_table places) (map call_of order)
 
--- ---- within a thread
-
--- a worker of the table of a plant
-abbrev pub IsOfPlant : HeapState → TagWorkerState → Type 0
-IsOfPlant table w = IsOf table w × (table.config ≡ opened_config 4 48)
-
--- the worker did this operation, and then drew its stamp
-pub record HasAsked (old : TagWorkerState) (d : Done) (new : TagWorkerState) : Type 0 where
-  pub between : TagWorkerState
-  pub did : HasDone old d.operation d.answer between
-  pub drew : HasDrawn between d.stamp new
-  pub seen : HasSeenAll tags new
-
--- a log that has one operation more, with this answer
-abbrev pub HasLogged : Operation → Tag → List Done → List Done → Type 0
-HasLogged op tag old new =
-    (stamp : ℕ) × (new ≡ old ++ record { operation = op; answer = tag; stamp = stamp } ∷ [])
+-- an order of all that four threads did, in which each was answered as by a plain table
+pub record IsOrder (l : Logs) (order : List Step) : Type 0 where
+  pub plain : IsPlain 48 order
+  pub input : HasLog order 0 l.input.items
+  pub control : HasLog order 1 l.control.items
+  pub alarms : HasLog order 2 l.alarms.items
+  pub history : HasLog order 3 l.history.items

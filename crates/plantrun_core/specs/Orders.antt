@@ -1,59 +1,56 @@
--- Orders of what four threads did: the one that is printed, and one in which each answer is that of
--- a plain table.
-use Rattle.std.specs.Prelude.{ℕ, zero, suc, ◌+◌, ◌^◌, ◌≤◌, ◌≡◌, ◌⊎◌, List, [], ◌∷◌, ◌++◌, map}
-use Rattle.std.specs.List.Sorted.{IsNonDecreasingBy, IsPermutation}
-use Rattle.array_tables.specs.operations.Linearizations.{Call, calls_of, AreAnswered}
+-- What is put in order of the logs of four threads, and that what is left has an order.
+use Rattle.std.specs.Prelude.{ℕ, zero, suc, ◌≡◌, ◌≢◌, ◌⊎◌, nat_lt, if◌then◌else◌, List, [], ◌∷◌, ◌++◌, map}
+use Rattle.std.specs.List.{AllByRecursion}
+use Rattle.array_tables.specs.operations.Linearizations.{Call, calls_of, after_calls, AreAnswered}
 use Rattle.array_tables.specs.tag_table.Tables.{Tag, answer, table_after, empty_table}
 use Rattle.array_tables.specs.declared.tag_table.operation.Operation.{Operation}
-use Rattle.live_tables.specs.rows.Behind.{operations_in}
+use Rattle.array_tables.specs.declared.tag_table.operation.Operation.TheVariants.{Write, Clear, Read}
 use Rattle.plantrun_core.specs.declared.calls.Done.{Done}
 use Rattle.plantrun_core.specs.declared.calls.Logs.{Logs}
 use Rattle.plantrun_core.specs.declared.calls.Step.{Step}
-use Rattle.plantrun_core.specs.Logs.{call_by, operation_of, stamp_of, step_by}
+use Rattle.plantrun_core.specs.Logs.{call_by, call_of}
 
--- what thread t did: 0 the input, 1 the controller, 2 the alarms, 3 the history
-abbrev pub log_of : Logs → ℕ → List Done
-log_of l zero = l.input.items
-log_of l (suc zero) = l.control.items
-log_of l (suc (suc zero)) = l.alarms.items
-log_of l (suc (suc (suc zero))) = l.history.items
-log_of l (suc (suc (suc (suc n)))) = []
+-- the thread that changes a place: 0 the input, 1 the controller, 2 the alarms, 3 the history
+abbrev pub owner : ℕ → ℕ
+owner p = if nat_lt p 9 then 0 else if nat_lt p 10 then 1 else if nat_lt p 14 then 2 else 3
 
--- all that the four threads did, thread by thread
-abbrev pub steps_of : Logs → List Step
-steps_of l =
-    ((map (step_by 0) l.input.items ++ map (step_by 1) l.control.items)
-    ++ map (step_by 2) l.alarms.items) ++ map (step_by 3) l.history.items
+-- a thread changes its own places, and reads these and those of the input
+abbrev pub IsAtHome : ℕ → Operation → Type 0
+IsAtHome t (Write i v q) = owner i ≡ t
+IsAtHome t (Clear i) = owner i ≡ t
+IsAtHome t (Read i) = (owner i ≡ t) ⊎ (owner i ≡ 0)
 
--- these are all that the threads did, by ascending stamps
-pub record IsByStamps (l : Logs) (steps : List Step) : Type 0 where
-  pub all : IsPermutation (steps_of l) steps
-  pub ascending : IsNonDecreasingBy stamp_of steps
+abbrev pub AreAtHome : ℕ → List Done → Type 0
+AreAtHome t log = AllByRecursion (λ (d : Done). IsAtHome t d.operation) log
 
--- an order of all that four threads did, in which each was answered as by a plain table
-pub record IsPlainOrder (l : Logs) (order : List (Call Operation Tag)) : Type 0 where
-  pub plain : AreAnswered answer table_after (empty_table 48) order
-  pub each : (t : ℕ) → calls_of t order ≡ map (call_by t) (log_of l t)
+-- what is left of the logs of four threads, by threads
+abbrev pub by_thread : List Done → List Done → List Done → List Done → ℕ → List Done
+by_thread a b c d zero = a
+by_thread a b c d (suc zero) = b
+by_thread a b c d (suc (suc zero)) = c
+by_thread a b c d (suc (suc (suc zero))) = d
+by_thread a b c d (suc (suc (suc (suc n)))) = []
 
--- A prefix of the order has at least these operations of thread t, and at most those of thread u. So
--- these come before all that u did after those.
-pub record ComeBefore (order : List (Call Operation Tag)) (t : ℕ) (these : List Operation) (u : ℕ)
-    (those : List Operation) : Type 0 where
-  pub first : List (Call Operation Tag)
-  pub later : List (Call Operation Tag)
-  pub split : order ≡ first ++ later
-  pub more : List Operation
-  pub many : operations_in t first ≡ these ++ more
-  pub rest : List Operation
-  pub few : those ≡ operations_in u first ++ rest
+abbrev pub logs_of : Logs → ℕ → List Done
+logs_of l = by_thread l.input.items l.control.items l.alarms.items l.history.items
 
--- The order keeps real time: take an operation of a thread, and one of any thread with a stamp that
--- is no less. Then the one and what its thread did before it come before all that the other thread
--- did after the other. Or 2^64 stamps were drawn.
-abbrev pub KeepsStamps : Logs → List (Call Operation Tag) → ℕ → Type 0
-KeepsStamps l order drawn =
-    (t u : ℕ) (earlier rest before after : List Done) (d e : Done)
-    → log_of l t ≡ earlier ++ d ∷ rest → log_of l u ≡ before ++ e ∷ after → d.stamp ≤ e.stamp
-    → ComeBefore order t (map operation_of (earlier ++ d ∷ [])) u
-    (map operation_of (before ++ e ∷ []))
-    ⊎ (2 ^ 64 ≤ drawn)
+-- What is left has an order in which each answer is that of a plain table, which has these tags now.
+pub record HasOrder (table : List Tag) (left : ℕ → List Done) : Type 0 where
+  pub order : List (Call Operation Tag)
+  pub answered : AreAnswered answer table_after table order
+  pub each : (t : ℕ) → calls_of t order ≡ map (call_by t) (left t)
+
+-- no operation is left, or the next one has another answer than the table has now
+abbrev pub IsStuck : List Tag → List Done → Type 0
+IsStuck table [] = Unit {0}
+IsStuck table (d ∷ ds) = d.answer ≢ answer d.operation table
+
+-- These steps are an order of what the threads did, up to what they have left; and that has an order.
+pub record IsMerged (logs left : ℕ → List Done) (steps : List Step) (table : List Tag) : Type 0
+  where
+    pub plain : AreAnswered answer table_after (empty_table 48) (map call_of steps)
+    pub now : table ≡ after_calls table_after (empty_table 48) (map call_of steps)
+    pub each : (t : ℕ) → calls_of t (map call_of steps) ++ map (call_by t) (left t)
+        ≡ map (call_by t) (logs t)
+    pub homes : (t : ℕ) → AreAtHome t (left t)
+    pub order : HasOrder table left

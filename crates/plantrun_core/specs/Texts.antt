@@ -28,18 +28,11 @@ operation_text (Write i v w) =
 operation_text (Clear i) = codes "clear " ++ decimal i
 operation_text (Read i) = codes "read " ++ decimal i
 
--- the stamp of an operation
-abbrev pub stamp_text : Step → List ℕ
-stamp_text s = decimal s.done.stamp ++ codes " "
-
 -- an operation and what its tag was before
-abbrev pub did_line : Step → List ℕ
-did_line s = ended
+abbrev pub step_line : Step → List ℕ
+step_line s = ended
     (thread_text s.thread ++ codes " " ++ operation_text s.done.operation ++ codes " was "
     ++ tag_text s.done.answer)
-
-abbrev pub step_line : Step → List ℕ
-step_line s = stamp_text s ++ did_line s
 
 abbrev pub figures_line : Figures → List ℕ
 figures_line f = ended
@@ -53,7 +46,7 @@ abbrev pub parts_text : List Step → List Figures → List Cycles → List ℕ
 parts_text order figures cycles =
     (flat_map step_line order ++ flat_map figures_line figures) ++ flat_map cycles_line cycles
 
--- all that is printed: the operations in this order, the figures of the threads, and the cycles
+-- all that is printed: the operations in the order, the figures of the threads, and the cycles
 abbrev pub plant_text : List Step → List Figures → ℕ → List ℕ
 plant_text order figures cycles = parts_text order figures (record { count = cycles } ∷ [])
 

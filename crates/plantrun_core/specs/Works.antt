@@ -13,6 +13,7 @@ use Rattle.plantrun_core.specs.declared.stops.Stop.{Stop}
 use Rattle.plantrun_core.specs.declared.stops.Stop.TheVariants as stops
 use Rattle.plantrun_core.specs.declared.work.Work.{Work}
 use Rattle.plantrun_core.specs.Logs.{operation_of}
+use Rattle.plantrun_core.specs.Refusals.{IsRefusedAfter}
 use Rattle.plantrun_core.specs.Readings.{IsTaken, IsBadAt, HasTooMany, FailsBehind, puts}
 use Rattle.plantrun_core.specs.Roles.{AfterTicks, HasReread, IsFine, closed}
 
@@ -38,12 +39,14 @@ first_of (Control l) = closed
 first_of Alarms = Alarms
 first_of History = History
 
--- a thread at work in a plant of so many ticks: its log is that of its ticks so far
+-- A thread at work in a plant of so many ticks. Its log is that of its ticks so far; or the table
+-- refused it an operation.
 pub record IsAtWork (count : ℕ) (w : Work) : Type 0 where
   pub few : w.ticks ≤ count
   pub room : most_in w.role count ≤ vec_capacity w.hand.calls
   pub fine : IsFine w.role
-  pub worked : AfterTicks (first_of w.role) w.ticks w.hand.calls.items w.role
+  pub worked : w.spent ≡ false → AfterTicks (first_of w.role) w.ticks w.hand.calls.items w.role
+  pub refused : w.spent ≡ true → IsRefusedAfter w.hand.who w.hand.calls.items
 
 -- the same thread, later
 pub record HasGone (count : ℕ) (old new : Work) : Type 0 where
@@ -62,6 +65,7 @@ IsInputEnd ticks all left hand rs (Some stops.TooMany) =
     IfSome all (λ bytes. HasTooMany ticks bytes)
 IsInputEnd ticks all left hand rs (Some stops.ReadFault) =
     IfSome all (λ bytes. FailsBehind ticks bytes left)
+IsInputEnd ticks all left hand rs (Some stops.Refused) = IsRefusedAfter hand.who hand.calls.items
 IsInputEnd ticks all left hand rs (Some stops.NoMemory) = ⊥
 
 -- how many faults the source has counted then

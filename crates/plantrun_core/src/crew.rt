@@ -1,12 +1,12 @@
 //! The table with its four workers: how it is opened, used and closed.
-#![tactic(auto, using(live_tables::proofs::rows::Crews::same_first, live_tables::proofs::rows::Crews::same_then, live_tables::proofs::rows::Crews::of_same, crate::proofs::Logging::plant_same))]
+#![tactic(auto, using(live_tables::proofs::rows::Crews::same_first, live_tables::proofs::rows::Crews::same_then, live_tables::proofs::rows::Crews::of_same))]
 
-ghost use Rattle.std.specs.Prelude.{ℕ, List, Option, ◌≡◌, ◌+◌, ◌≤◌, ◌∷◌, [], length, IfSome};
+ghost use Rattle.std.specs.Prelude.{ℕ, List, Option, ◌≡◌, ◌+◌, ◌≤◌, ◌∷◌, [], length, false, IfSome};
 ghost use Rattle.std.specs.Vec.{vec_capacity};
 ghost use Rattle.live_tables.specs.tags.Live.{HaveOneTable, opened_config};
 ghost use Rattle.live_tables.specs.rows.Workers.{AreFresh, AreInOrder, IsFresh, IsOf, IsSameWorker};
+ghost use Rattle.plantrun_core.specs.Crews as ends;
 ghost use Rattle.plantrun_core.specs.Crews.{AreAtWork, AreOfTable, AreTheirs, HasLogs, HaveEnded, HaveGone, IsCrew, IsGone, IsNew, IsPlantOf, IsWorker};
-ghost use Rattle.plantrun_core.specs.Logs.{IsOfPlant};
 ghost use Rattle.plantrun_core.specs.Readings.{room};
 ghost use Rattle.plantrun_core.specs.Roles.{IsFine};
 ghost use Rattle.plantrun_core.specs.Works.{CountsInput, HasGone, HasInput, IsAtWork, first_of, most_in};
@@ -71,18 +71,16 @@ pub struct Closed {
 }
 
 /// A worker that has done nothing, with room in its log for so many operations.
-fn hand_of(alloc: Global, table: &LiveTags, thread: u32, who: TagWorker, most: u64) -> Option<Hand>
-    requires own { IsWorker table.now thread who }
+fn hand_of(alloc: Global, _table: &LiveTags, thread: u32, who: TagWorker, most: u64) -> Option<Hand>
+    requires own { IsWorker _table.now thread who }
     requires fresh { IsFresh who }
-    ensures worker { IfSome result (λ h. IsWorker table.now thread h.who) }
+    ensures worker { IfSome result (λ h. IsWorker _table.now thread h.who) }
     ensures none { IfSome result (λ h. h.calls.items ≡ []) }
     ensures room { IfSome result (λ h. most ≤ vec_capacity h.calls) }
 {
     let Ok(calls) = Vec::with_capacity(alloc, most as usize) else {
         return None;
     };
-    let mut who = who;
-    table.stamp(&mut who);
     Some(Hand {
         who,
         calls,
@@ -182,12 +180,13 @@ fn before_ticks(hand: Hand, role: Role, _ticks: u64) -> Work
         hand,
         role,
         ticks: 0,
+        spent: false,
     }
 }
 
 /// Runs a thread until it ends or is halted.
 fn shift<R: Wait + Clock>(rt: &R, table: &LiveTags, ticks: Ticks, halt: &AtomicU64, work: &mut Work)
-    requires own { IsOfPlant table.now work.old.hand.who }
+    requires own { IsOf table.now work.old.hand.who }
     requires count { ticks.count ≤ 1048576 }
     requires work { IsAtWork ticks.count work.old }
     ensures { HasGone ticks.count work.old work.new }
@@ -204,8 +203,7 @@ fn both<R: Threads + Wait + Clock + Sync>(
     alarms: &mut Work,
     history: &mut Work,
 )
-    requires own { IsOfPlant table.now alarms.old.hand.who
-        × IsOfPlant table.now history.old.hand.who }
+    requires own { IsOf table.now alarms.old.hand.who × IsOf table.now history.old.hand.who }
     requires count { ticks.count ≤ 1048576 }
     requires at { IsAtWork ticks.count alarms.old × IsAtWork ticks.count history.old }
     ensures alarms { HasGone ticks.count alarms.old alarms.new }
@@ -240,8 +238,7 @@ fn at_ticks<R: Threads + Wait + Clock + Sync>(
         rt,
         &mut || shift(rt, table, ticks, halt, control),
         &mut ||
-            requires { (IsOfPlant table.now alarms.now.hand.who
-                × IsOfPlant table.now history.now.hand.who)
+            requires { (IsOf table.now alarms.now.hand.who × IsOf table.now history.now.hand.who)
                 × (ticks.count ≤ 1048576)
                 × (IsAtWork ticks.count alarms.now × IsAtWork ticks.count history.now) }
         { both(rt, table, ticks, halt, alarms, history) },
@@ -259,7 +256,7 @@ fn together<R: Threads + Wait + Clock + Sync, S: Source>(
     input: &mut Hand,
 ) -> Option<Stop>
     requires own { AreOfTable table.now works.old }
-    requires input { IsOfPlant table.now input.old.who }
+    requires input { IsOf table.now input.old.who }
     requires count { ticks.count ≤ 1048576 }
     requires at { AreAtWork ticks.count works.old }
     requires fresh { input.old.calls.items ≡ [] }
@@ -290,7 +287,6 @@ pub(crate) fn ran<R: Threads + Wait + Clock + Sync, S: Source>(
     source: &mut S,
     crew: Crew,
 ) -> Ends
-    requires config { table.now.config ≡ opened_config 4 48 }
     requires crew { IsCrew table.now crew }
     requires fresh { IsNew ticks.count crew }
     requires count { ticks.count ≤ 1048576 }
@@ -316,17 +312,27 @@ pub(crate) fn ran<R: Threads + Wait + Clock + Sync, S: Source>(
     Ends { input, stop, works }
 }
 
+/// Why a plant stops, if one of the threads at ticks was refused an operation.
+fn stop_by(control: bool, alarms: bool, history: bool) -> Option<Stop>
+    ensures { result ≡ ends.stop_by control alarms history }
+{
+    match (control, alarms, history) {
+        (false, false, false) => None,
+        _ => Some(Stop::Refused),
+    }
+}
+
 /// Lets each thread do what is left of its ticks, if the input was taken to its end, and then reads
 /// the ring. Nothing is left unless the plant was halted, which the input does only where it stops.
 pub(crate) fn finished<R: Wait + Clock>(rt: &R, table: &LiveTags, ticks: Ticks, ends: Ends) -> Gone
-    requires config { table.now.config ≡ opened_config 4 48 }
     requires crew { AreTheirs table.now ends }
     requires count { ticks.count ≤ 1048576 }
     requires ends { HaveEnded ticks.count ends.works }
     ensures crew { IsCrew table.now result.crew }
     ensures gone { (all left : Option (List ℕ)) → HasInput ticks.count all left ends.input ends.stop
         → IsGone ticks.count all left result.crew result.stop }
-    ensures stop { result.stop ≡ ends.stop }
+    ensures counted { (old new : ℕ) → CountsInput old new ends.stop
+        → CountsInput old new result.stop }
 {
     let Ends { input, stop, works } = ends;
     let Works {
@@ -348,12 +354,13 @@ pub(crate) fn finished<R: Wait + Clock>(rt: &R, table: &LiveTags, ticks: Ticks, 
     let control = finishes(rt, table, ticks, control);
     let alarms = finishes(rt, table, ticks, alarms);
     let history = rereads(rt, table, ticks.count, finishes(rt, table, ticks, history));
+    let stop = stop_by(control.spent, alarms.spent, history.spent);
     Gone {
         crew: Crew {
             input,
             control: control.hand,
             alarms: alarms.hand,
-            history,
+            history: history.hand,
         },
         stop,
     }
@@ -361,11 +368,11 @@ pub(crate) fn finished<R: Wait + Clock>(rt: &R, table: &LiveTags, ticks: Ticks, 
 
 /// Lets a thread do what is left of its ticks.
 fn finishes<R: Wait + Clock>(rt: &R, table: &LiveTags, ticks: Ticks, work: Work) -> Work
-    requires own { IsOfPlant table.now work.hand.who }
+    requires own { IsOf table.now work.hand.who }
     requires count { ticks.count ≤ 1048576 }
     requires work { IsAtWork ticks.count work }
     ensures gone { HasGone ticks.count work result }
-    ensures whole { result.ticks ≡ ticks.count }
+    ensures whole { result.spent ≡ false → result.ticks ≡ ticks.count }
 {
     let mut work = work;
     works(rt, table, ticks, None, &mut work);

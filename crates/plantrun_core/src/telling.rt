@@ -3,7 +3,7 @@
 ghost use Rattle.std.specs.Prelude.{◌≡◌, ◌+◌, ◌≤◌, ◌++◌, ℕ, List, length, OnOk, OnErr};
 ghost use Rattle.std.specs.List.{flat_map};
 ghost use Rattle.trace_text.specs.Streams.{Appends, AppendsPrefix};
-ghost use Rattle.plantrun_core.specs.Texts.{did_line, step_line, tag_text, operation_text, thread_text, figures_line, cycles_line};
+ghost use Rattle.plantrun_core.specs.Texts.{step_line, tag_text, operation_text, thread_text, figures_line, cycles_line};
 
 use crate::calls::Step;
 use array_tables::tag_table::Operation;
@@ -65,36 +65,8 @@ pub(crate) fn write_all<T: Told, K: Sink>(all: &[T], sink: &mut K) -> Result<(),
     Ok(())
 }
 
-/// Writes a line for each operation, its stamp first.
-pub(crate) fn write_steps<K: Sink>(steps: &[Step], sink: &mut K) -> Result<(), Failed>
-    ensures written { OnOk result
-        (Appends (K.held sink.old) (K.held sink.new) (flat_map step_line steps.now)) }
-    ensures prefix { OnErr result
-        (AppendsPrefix (K.held sink.old) (K.held sink.new) (flat_map step_line steps.now)) }
-{
-    for step in steps {
-        write_step(step, sink)?;
-    }
-    Ok(())
-}
-
-/// Writes the line of an operation: its stamp, and then the rest.
-fn write_step<K: Sink>(step: &Step, sink: &mut K) -> Result<(), Failed>
-    ensures written { OnOk result
-        (Appends (K.held sink.old) (K.held sink.new) (step_line step.now)) }
-    ensures prefix { OnErr result
-        (AppendsPrefix (K.held sink.old) (K.held sink.new) (step_line step.now)) }
-{
-    let mut line = LineBuffer::new();
-    line.prepend(b" ");
-    line.prepend_number(step.done.stamp);
-    sink.put(line.bytes())?;
-    step.fill(&mut line);
-    sink.put(line.bytes())
-}
-
 impl Told for Step {
-    ghost text = { did_line };
+    ghost text = { step_line };
 
     fn fill(&self, line: &mut LineBuffer) {
         line.clear();

@@ -1,22 +1,14 @@
-use Rattle.std.proofs.Common.{◌≡◌, ◌++◌, ◌∷◌, [], sym, subst, ap, ◌∙◌}
-use Rattle.array_tables.specs.tag_table.Tables.{IsOperationInRange}
-use Rattle.plantrun_core.specs.Logs.{IsLog}
-use Rattle.plantrun_core.proofs.Logging.{has_life, log_more, places_in}
+use Rattle.plantrun_core.specs.declared.calls.Done.{Done}
+use Rattle.plantrun_core.proofs.Ranges.{logged_more, ranges_more}
 use Rattle.plantrun_core.proofs.hand.Hand.does.Goals as goal
-
-pub stamped-requires-clause-range : goal.stamped-requires-clause-range
-stamped-requires-clause-range g c =
-    subst (λ n. IsOperationInRange n c.args.op)
-    (sym (places_in c.args.table.now c.args.self.now.who c.requires.own)) c.requires.range
-
-pub stamped-requires-clause-life : goal.stamped-requires-clause-life
-stamped-requires-clause-life g c =
-    has_life c.args.table.now c.args.self.now.who c.args.self.now.calls.items c.args.op c.requires.own
-    c.args.self.now.log c.requires.few
 
 pub invariant_of-self-2 : goal.invariant_of-self-2
 invariant_of-self-2 g c =
+    let d : Done = record { operation = c.args.op; answer = c.in-Ok.answer } in
     let old = c.args.self.now in
-    subst (IsLog c.stamped-call.new.who) (sym c.push_reserved.ensures.items)
-    (log_more old.who c.stamped-call.new.who old.calls.items c.stamped-call.result old.log
-    c.stamped-call.ensures.asked c.stamped-call.ensures.same)
+    record {
+      told = logged_more old.who c.ask.new.who old.calls.items c.push_reserved.new.self.items d
+          old.told c.in-Ok.ensures.did c.push_reserved.ensures.items;
+      ranges = ranges_more old.who c.ask.new.who old.calls.items c.push_reserved.new.self.items d
+          c.push_reserved.ensures.items c.in-Ok.ensures.same c.in-Ok.ensures.can old.ranges;
+    }

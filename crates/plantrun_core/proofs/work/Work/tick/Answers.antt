@@ -1,10 +1,6 @@
-use Rattle.plantrun_core.proofs.Worked.{few_next, room_next}
+use Rattle.plantrun_core.proofs.Worked.{room_next}
 use Rattle.plantrun_core.proofs.work.Work.tick.Goals as goal
-
-pub tick-requires-clause-few : goal.tick-requires-clause-few
-tick-requires-clause-few g c =
-    few_next c.args.ticks.count c.args.self.now c.requires.work c.requires.more c.requires.count
 
 pub tick-requires-clause-room : goal.tick-requires-clause-room
 tick-requires-clause-room g c =
-    room_next c.args.ticks.count c.args.self.now c.requires.work c.requires.more
+    room_next c.args.ticks.count c.args.self.now c.requires.work c.requires.fresh c.requires.more
