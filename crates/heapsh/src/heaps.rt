@@ -70,20 +70,19 @@ fn yes_or_no(same: bool) -> Reply {
     if same { Reply::Yes } else { Reply::No }
 }
 
-/// Prints a gauge. Returns whether the word names one.
-pub fn push_gauge(heap: &ControlHeap, word: &str, out: &mut String) -> Result<bool, OutOfMemory> {
-    match word {
-        "live_at_start" => push_live(heap, out)?,
-        "unused" => out.push_str(if heap.is_unused() { "yes" } else { "no" })?,
-        _ => match gauge(heap, word) {
-            Some(number) => push_number(out, word, number)?,
-            None => return Ok(false),
-        },
-    }
-    Ok(true)
+/// Prints a gauge, which has no operands.
+pub fn push_gauge(
+    word: &str,
+    number: u64,
+    n: &[u64],
+    out: &mut String,
+) -> Result<bool, OutOfMemory> {
+    push_number(out, word, number)?;
+    Ok(n.is_empty())
 }
 
-fn gauge(heap: &ControlHeap, word: &str) -> Option<u64> {
+/// The gauge of this name.
+pub fn gauge(heap: &ControlHeap, word: &str) -> Option<u64> {
     match word {
         "rate" => Some(heap.rate()),
         "cycle" => Some(heap.cycle()),
@@ -106,11 +105,13 @@ fn life_gauge(heap: &ControlHeap, word: &str) -> Option<u64> {
     }
 }
 
-fn push_live(heap: &ControlHeap, out: &mut String) -> Result<(), OutOfMemory> {
+/// Prints how many blocks were live when the cycle began.
+pub fn push_live(heap: &ControlHeap, out: &mut String) -> Result<bool, OutOfMemory> {
     match heap.live_at_start() {
-        Some(blocks) => push_number(out, "live_at_start", blocks),
-        None => Ok(out.push_str("live_at_start unknown in Sweep")?),
+        Some(blocks) => push_number(out, "live_at_start", blocks)?,
+        None => out.push_str("live_at_start unknown in Sweep")?,
     }
+    Ok(true)
 }
 
 /// The most operations of a command, and whether the life has room for it.
@@ -118,23 +119,24 @@ pub fn push_most(
     heap: &ControlHeap,
     command: Command,
     out: &mut String,
-) -> Result<(), OutOfMemory> {
+) -> Result<bool, OutOfMemory> {
     if !command.in_bounds(heap.config()) {
         out.push_str("out of range")?;
-        return Ok(());
+        return Ok(true);
     }
     let most = heap.most_operations(&command);
     let room = if heap.has_left(&command) { "yes" } else { "no" };
     write!(out, "operations {most} room {room}")?;
-    Ok(())
+    Ok(true)
 }
 
 /// What a register holds, read without a command.
-pub fn push_register(heap: &ControlHeap, n: &[u64], out: &mut String) -> Result<(), OutOfMemory> {
+pub fn push_register(heap: &ControlHeap, n: &[u64], out: &mut String) -> Result<bool, OutOfMemory> {
     match register_in(n) {
-        Some(r) => push_value(out, heap.register(r)),
-        None => Ok(out.push_str("no such register")?),
+        Some(r) => push_value(out, heap.register(r))?,
+        None => out.push_str("no such register")?,
     }
+    Ok(n.len() == 1)
 }
 
 /// The fields of the object in a register, read without a command.
@@ -143,15 +145,16 @@ pub fn push_fields(
     alloc: Global,
     n: &[u64],
     out: &mut String,
-) -> Result<(), OutOfMemory> {
+) -> Result<bool, OutOfMemory> {
     let Some(r) = register_in(n) else {
         out.push_str("no such register")?;
-        return Ok(());
+        return Ok(n.len() == 1);
     };
     match heap.fields(alloc, r)? {
-        Some(fields) => push_values(out, fields.as_slice()),
-        None => Ok(out.push_str("no object")?),
+        Some(fields) => push_values(out, fields.as_slice())?,
+        None => out.push_str("no object")?,
     }
+    Ok(true)
 }
 
 fn push_values(out: &mut String, values: &[Value]) -> Result<(), OutOfMemory> {
@@ -192,6 +195,17 @@ pub fn commands_of(alloc: Global, words: &[&str]) -> Result<Option<Vec<Command>>
         }
     }
     Ok(Some(commands))
+}
+
+/// The one command that words spell.
+pub fn one_command(alloc: Global, words: &[&str]) -> Result<Option<Command>, OutOfMemory> {
+    let Some((word, rest)) = words.split_first() else {
+        return Ok(None);
+    };
+    match numbers_of(alloc, rest)? {
+        Some(numbers) => Ok(command_of(word, numbers.as_slice())),
+        None => Ok(None),
+    }
 }
 
 /// Of which command a reply is.

@@ -1,9 +1,10 @@
 //! A heap that is read, planned and copied in pieces, while it goes on.
 
-use block_store::{Config, OutOfMemory};
+use crate::replies::push_refused;
+use block_store::OutOfMemory;
 use control_heap::ControlHeap;
 use never_heap::{Command, Reply};
-use saved_heap::{Planning, Reading, Renewal};
+use saved_heap::{NotBegun, Planning, Reading, Renewal};
 use std::alloc::Global;
 use std::fmt::Write;
 
@@ -12,6 +13,8 @@ use std::fmt::Write;
 pub struct Pieces {
     reading: Option<Reading>,
     planning: Option<Planning>,
+    // The commands of the copy, where its heap was refused.
+    planned: Option<Vec<Command>>,
     kept: Vec<(Command, Reply)>,
 }
 
@@ -20,6 +23,7 @@ impl Pieces {
         Pieces {
             reading: None,
             planning: None,
+            planned: None,
             kept: Vec::new(alloc),
         }
     }
@@ -30,16 +34,24 @@ impl Pieces {
         alloc: Global,
         heap: &ControlHeap,
         out: &mut String,
-    ) -> Result<(), OutOfMemory> {
-        self.reading = Some(Reading::of(alloc, heap)?);
+    ) -> Result<bool, OutOfMemory> {
+        let reading = Reading::of(alloc, heap)?;
+        self.forget();
+        self.reading = Some(reading);
+        out.push_str("ok")?;
+        Ok(true)
+    }
+
+    fn forget(&mut self) {
+        self.reading = None;
         self.planning = None;
+        self.planned = None;
         self.kept.clear();
-        Ok(out.push_str("ok")?)
     }
 
     /// Keeps a command of the heap for the copy, where one is under way.
     pub fn keep(&mut self, command: Command, reply: Option<Reply>) -> Result<(), OutOfMemory> {
-        let is_going = self.reading.is_some() || self.planning.is_some();
+        let is_going = self.reading.is_some() || self.planning.is_some() || self.planned.is_some();
         if let (true, Some(reply)) = (is_going, reply) {
             self.kept.push((command, reply))?;
         }
@@ -47,9 +59,15 @@ impl Pieces {
     }
 
     /// Reads so many objects.
-    pub fn read(&mut self, alloc: Global, n: &[u64], out: &mut String) -> Result<(), OutOfMemory> {
+    pub fn read(
+        &mut self,
+        alloc: Global,
+        n: &[u64],
+        out: &mut String,
+    ) -> Result<bool, OutOfMemory> {
         let ([most], Some(reading)) = (n, &mut self.reading) else {
-            return Ok(out.push_str("nothing is read")?);
+            out.push_str("nothing is read")?;
+            return Ok(n.len() == 1);
         };
         let is_done = reading.step(alloc, *most as usize)?;
         let (read, rest) = (
@@ -57,20 +75,26 @@ impl Pieces {
             if is_done { "and that is all" } else { "so far" },
         );
         write!(out, "read {read} {rest}")?;
-        Ok(())
+        Ok(true)
     }
 
     /// Plans so many turns of the copy of what was read.
-    pub fn plan(&mut self, alloc: Global, n: &[u64], out: &mut String) -> Result<(), OutOfMemory> {
+    pub fn plan(
+        &mut self,
+        alloc: Global,
+        n: &[u64],
+        out: &mut String,
+    ) -> Result<bool, OutOfMemory> {
         if let Some(reading) = self.reading.take() {
             self.turn_to_planning(alloc, reading);
         }
         let ([most], Some(planning)) = (n, &mut self.planning) else {
-            return Ok(out.push_str("not all is read")?);
+            out.push_str("not all is read")?;
+            return Ok(n.len() == 1);
         };
         let left = planning.step(*most as usize)?;
         write!(out, "left {left}")?;
-        Ok(())
+        Ok(true)
     }
 
     fn turn_to_planning(&mut self, alloc: Global, reading: Reading) {
@@ -84,38 +108,54 @@ impl Pieces {
         }
     }
 
-    /// The renewal that does what was planned on a heap of its own, with room for the commands that
-    /// were kept and for so many more.
+    /// The renewal that does what was planned on this heap, with room for the commands that were
+    /// kept and for so many more. It returns the heap if it can't begin.
     pub fn onto(
         &mut self,
-        alloc: Global,
-        config: Config,
+        spare: ControlHeap,
         room: usize,
         out: &mut String,
-    ) -> Result<Option<Renewal>, OutOfMemory> {
-        let Some(commands) = self.planned() else {
+    ) -> Result<Result<Renewal, ControlHeap>, OutOfMemory> {
+        let Some(commands) = self.take_plan() else {
             out.push_str("not all is planned")?;
-            return Ok(None);
+            return Ok(Err(spare));
         };
-        let Ok(spare) = ControlHeap::open(alloc, config) else {
-            out.push_str("refused")?;
-            return Ok(None);
-        };
-        let Ok(mut renewal) = Renewal::on(spare, commands) else {
-            out.push_str("refused")?;
-            return Ok(None);
-        };
+        match begun(spare, commands) {
+            Ok(renewal) => {
+                let renewal = self.followed(renewal, room)?;
+                let left = renewal.left();
+                write!(out, "left {left}")?;
+                Ok(Ok(renewal))
+            }
+            Err(
+                NotBegun {
+                    heap,
+                    commands,
+                    fault,
+                },
+            ) => {
+                self.planned = Some(commands);
+                push_refused(out, fault.text())?;
+                Ok(Err(heap))
+            }
+        }
+    }
+
+    /// The renewal, which has followed the commands that were kept.
+    fn followed(&mut self, renewal: Renewal, room: usize) -> Result<Renewal, OutOfMemory> {
+        let mut renewal = renewal;
         renewal.make_room(self.kept.len().saturating_add(room))?;
         for (command, reply) in self.kept.iter() {
             follow(&mut renewal, *command, *reply);
         }
         self.kept.clear();
-        let left = renewal.left();
-        write!(out, "left {left}")?;
-        Ok(Some(renewal))
+        Ok(renewal)
     }
 
-    fn planned(&mut self) -> Option<Vec<Command>> {
+    fn take_plan(&mut self) -> Option<Vec<Command>> {
+        if let Some(commands) = self.planned.take() {
+            return Some(commands);
+        }
         match self.planning.take()?.finish() {
             Ok(commands) => Some(commands),
             Err(planning) => {
@@ -124,6 +164,10 @@ impl Pieces {
             }
         }
     }
+}
+
+fn begun(heap: ControlHeap, commands: Vec<Command>) -> Result<Renewal, NotBegun> {
+    Renewal::on(heap, commands)
 }
 
 fn follow(renewal: &mut Renewal, command: Command, reply: Reply) {

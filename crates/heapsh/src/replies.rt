@@ -64,3 +64,9 @@ pub fn push_refused(out: &mut String, text: &str) -> Result<(), OutOfMemory> {
     out.push_str(text)?;
     Ok(())
 }
+
+/// `yes` or `no`.
+pub fn push_yes(out: &mut String, is: bool) -> Result<bool, OutOfMemory> {
+    out.push_str(if is { "yes" } else { "no" })?;
+    Ok(true)
+}

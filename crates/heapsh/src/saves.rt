@@ -32,7 +32,7 @@ impl Saves {
     ) -> Result<(), OutOfMemory> {
         match save(alloc, heap) {
             Ok(bytes) => {
-                self.bytes = bytes;
+                replace_bytes(&mut self.bytes, bytes);
                 Ok(out.push_str("ok")?)
             }
             Err(NotSaved::NoMemory) => Err(OutOfMemory),
@@ -41,32 +41,36 @@ impl Saves {
     }
 
     /// Prints the bytes that were saved.
-    pub fn push_bytes(&self, out: &mut String) -> Result<(), OutOfMemory> {
+    pub fn push_bytes(&self, out: &mut String) -> Result<bool, OutOfMemory> {
         for byte in self.bytes.iter() {
             write!(out, "{byte:02x}")?;
         }
-        Ok(())
+        Ok(true)
     }
 
     /// Changes bits of a saved byte.
-    pub fn flip(&mut self, n: &[u64], out: &mut String) -> Result<(), OutOfMemory> {
+    pub fn flip(&mut self, n: &[u64], out: &mut String) -> Result<bool, OutOfMemory> {
         let [place, mask] = n else {
-            return usage(out);
+            return Ok(false);
         };
         match self.bytes.get_mut(*place as usize) {
-            Some(byte) => *byte ^= (*mask % 256) as u8,
-            None => return Ok(out.push_str("no such byte")?),
+            Some(byte) => {
+                *byte ^= (*mask % 256) as u8;
+                out.push_str("ok")?;
+            }
+            None => out.push_str("no such byte")?,
         }
-        Ok(out.push_str("ok")?)
+        Ok(true)
     }
 
     /// Keeps so many of the saved bytes.
-    pub fn cut(&mut self, n: &[u64], out: &mut String) -> Result<(), OutOfMemory> {
+    pub fn cut(&mut self, n: &[u64], out: &mut String) -> Result<bool, OutOfMemory> {
         let [length] = n else {
-            return usage(out);
+            return Ok(false);
         };
         self.bytes.truncate(*length as usize);
-        Ok(out.push_str("ok")?)
+        out.push_str("ok")?;
+        Ok(true)
     }
 
     /// Opens a heap from the saved bytes.
@@ -160,29 +164,31 @@ impl Saves {
     }
 
     /// Makes room for so many commands that the copy is to follow.
-    pub fn make_room(&mut self, n: &[u64], out: &mut String) -> Result<(), OutOfMemory> {
+    pub fn make_room(&mut self, n: &[u64], out: &mut String) -> Result<bool, OutOfMemory> {
         let ([commands], Some(renewal)) = (n, &mut self.renewal) else {
-            return usage(out);
+            return no_copy(n.len() == 1, out);
         };
         renewal.make_room(*commands as usize)?;
-        Ok(out.push_str("ok")?)
+        out.push_str("ok")?;
+        Ok(true)
     }
 
     /// Does so many commands of the copy.
-    pub fn copy(&mut self, n: &[u64], out: &mut String) -> Result<(), OutOfMemory> {
+    pub fn copy(&mut self, n: &[u64], out: &mut String) -> Result<bool, OutOfMemory> {
         let ([most], Some(renewal)) = (n, &mut self.renewal) else {
-            return usage(out);
+            return no_copy(n.len() == 1, out);
         };
         match renewal.copy(*most as usize) {
-            Ok(left) => push_left(out, left),
-            Err(fault) => push_refused(out, fault.text()),
+            Ok(left) => push_left(out, left)?,
+            Err(fault) => push_refused(out, fault.text())?,
         }
+        Ok(true)
     }
 
     /// Ends the copy, if it is whole.
     pub fn finish(&mut self, out: &mut String) -> Result<Option<ControlHeap>, OutOfMemory> {
         let Some(renewal) = self.renewal.take() else {
-            usage(out)?;
+            no_copy(true, out)?;
             return Ok(None);
         };
         match renewal.finish() {
@@ -200,9 +206,14 @@ impl Saves {
     }
 }
 
-fn usage(out: &mut String) -> Result<(), OutOfMemory> {
-    out.push_str("unknown; help lists what there is")?;
-    Ok(())
+fn replace_bytes(place: &mut Vec<u8>, bytes: Vec<u8>) {
+    *place = bytes;
+}
+
+/// Says that no copy is under way, unless the words mean nothing.
+fn no_copy(is_understood: bool, out: &mut String) -> Result<bool, OutOfMemory> {
+    out.push_str("no copy is under way")?;
+    Ok(is_understood)
 }
 
 fn push_left(out: &mut String, left: usize) -> Result<(), OutOfMemory> {

@@ -88,7 +88,11 @@ impl Trends {
             })?;
             return Ok(true);
         }
-        let (Some(heap), Some(numbers)) = (&mut self.counted, numbers_of(alloc, rest)?) else {
+        let Some(heap) = &mut self.counted else {
+            out.push_str("no heap is open that counts")?;
+            return Ok(true);
+        };
+        let Some(numbers) = numbers_of(alloc, rest)? else {
             return Ok(false);
         };
         match command_of(verb, numbers.as_slice()) {
