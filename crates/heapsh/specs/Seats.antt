@@ -1,9 +1,13 @@
--- The seats of a shared heap's workers.
-use Rattle.std.specs.Prelude.{◌≡◌, IfSome}
+-- A shared heap's workers and commands under way.
+use Rattle.std.specs.Prelude.{◌≡◌}
 use Rattle.atomic_table.specs.Seated.{TableId}
-use Rattle.heapsh.specs.declared.crew.Seat.{Seat}
+use Rattle.shared_heap.specs.Workers.{WorkerState}
+use Rattle.heapsh.specs.declared.crew.Begun.{Begun}
 
--- what a seat has is of this heap
-abbrev pub IsSeat : TableId → Seat → Type 0
-IsSeat id s = IfSome s.worker (λ w. w.heap ≡ id)
-    × IfSome s.pending (λ p. (p.heap ≡ id) × (p.worker.heap ≡ id))
+-- a worker of this heap
+abbrev pub IsOf : TableId → WorkerState → Type 0
+IsOf id w = w.heap ≡ id
+
+-- a command that a worker of this heap has begun
+abbrev pub IsBegunOn : TableId → Begun → Type 0
+IsBegunOn id b = (b.pending.heap ≡ id) × (b.pending.worker.heap ≡ id)

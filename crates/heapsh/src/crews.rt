@@ -4,9 +4,8 @@ use crate::crew::{Came, Crew, Deed};
 use crate::heaps::one_command;
 use crate::replies::{push_number, push_refused, push_reply};
 use crate::words::{config_of, numbers_of};
-use block_store::{Config, OutOfMemory};
+use block_store::OutOfMemory;
 use never_heap::Command;
-use shared_heap::{OpenFault, SharedHeap};
 use std::alloc::Global;
 use std::fmt::Write;
 
@@ -54,9 +53,9 @@ impl Crews {
         let Some(config) = config_of(words) else {
             return Ok(false);
         };
-        match opened(alloc, config)? {
+        match Crew::open(alloc, config) {
             Ok(crew) => {
-                self.crew = Some(crew);
+                hold(&mut self.crew, crew);
                 out.push_str("ok")?;
             }
             Err(fault) => push_refused(out, fault.text())?,
@@ -90,7 +89,7 @@ impl Crews {
             }
         }
         match self.crew.take() {
-            Some(crew) => push_closed(out, crew.close(alloc)?),
+            Some(crew) => push_closed(out, crew.close()),
             None => no_heap(out),
         }
     }
@@ -157,11 +156,9 @@ fn push_closed(out: &mut String, cycles: Option<u64>) -> Result<bool, OutOfMemor
     Ok(true)
 }
 
-fn opened(alloc: Global, config: Config) -> Result<Result<Crew, OpenFault>, OutOfMemory> {
-    match SharedHeap::open(alloc, config) {
-        Ok((heap, workers)) => Ok(Ok(Crew::new(alloc, heap, workers)?)),
-        Err(fault) => Ok(Err(fault)),
-    }
+/// Takes a heap in place of another.
+fn hold(place: &mut Option<Crew>, crew: Crew) {
+    *place = Some(crew);
 }
 
 /// Starts a command, and polls it to its end if that is wanted.
@@ -176,10 +173,12 @@ fn command(
     let Some(command) = one_command(alloc, words)? else {
         return Ok(false);
     };
-    let mut came = crew.act(thread, Deed::Start(command));
-    if is_polled && matches!(came, Came::Done) {
-        came = crew.act(thread, Deed::Poll(MOST_EVENTS));
-    }
+    let started = crew.act(thread, Deed::Start(command))?;
+    let came = if is_polled && matches!(started, Came::Done) {
+        crew.act(thread, Deed::Poll(MOST_EVENTS))?
+    } else {
+        started
+    };
     push_came(out, came)?;
     Ok(true)
 }
@@ -196,7 +195,7 @@ fn poll(
     let Ok(events) = events.parse::<u64>() else {
         return Ok(false);
     };
-    push_came(out, crew.act(thread, Deed::Poll(events)))?;
+    push_came(out, crew.act(thread, Deed::Poll(events))?)?;
     Ok(true)
 }
 
@@ -213,7 +212,7 @@ fn on_worker(
         "lose" => Deed::Lose,
         _ => return push_gauge(crew, thread, verb, out),
     };
-    push_came(out, crew.act(thread, deed))?;
+    push_came(out, crew.act(thread, deed)?)?;
     Ok(true)
 }
 
@@ -250,10 +249,10 @@ fn in_turns(
 ) -> Result<(), OutOfMemory> {
     let mut last = Vec::new(alloc);
     for thread in 0..crew.threads() {
-        last.push(crew.act(thread, Deed::Start(command)))?;
+        last.push(crew.act(thread, Deed::Start(command))?)?;
     }
     for _round in 0..MOST_ROUNDS {
-        if !round(crew, &mut last) {
+        if !round(crew, &mut last)? {
             break;
         }
     }
@@ -264,18 +263,18 @@ fn in_turns(
 }
 
 /// An event of each command under way. Returns whether there was one.
-fn round(crew: &mut Crew, last: &mut Vec<Came>) -> bool {
+fn round(crew: &mut Crew, last: &mut Vec<Came>) -> Result<bool, OutOfMemory> {
     let mut is_going = false;
     for thread in 0..crew.threads() {
         if crew.is_pending(thread) {
             is_going = true;
-            let came = crew.act(thread, Deed::Poll(1));
+            let came = crew.act(thread, Deed::Poll(1))?;
             if let Some(place) = last.get_mut(thread as usize) {
                 *place = came;
             }
         }
     }
-    is_going
+    Ok(is_going)
 }
 
 fn push_of_thread(out: &mut String, thread: usize, came: Came) -> Result<(), OutOfMemory> {

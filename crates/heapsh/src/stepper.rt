@@ -8,7 +8,7 @@ use block_store::{Config, OutOfMemory, Width};
 use heap_machine::Op;
 use heap_system::Turn;
 use never_heap::{Entry, Item, Logs};
-use schedules::Schedule;
+use rtheap_core::Schedule;
 use std::alloc::Global;
 use std::fmt::Write;
 use trace_text::TraceFault;

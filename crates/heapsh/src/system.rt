@@ -9,7 +9,7 @@ use heap_machine::Op;
 use heap_system::{Finished, Local, System, Turn};
 use never_heap::{Entry, Item};
 use rate_plan::plan;
-use rtheap_core::{Schedule, replay};
+use rtheap_core::schedules::{Schedule, replay};
 use std::alloc::Global;
 use std::marker::Model;
 use trace_text::{Job, MemSource, TraceFault, read_trace};

@@ -4,7 +4,8 @@ use crate::help::{COMMANDS, FORMS};
 use crate::words::words_of;
 use block_store::OutOfMemory;
 use std::alloc::Global;
-use std::fmt::Write;
+
+const ALL_COMMANDS: &str = "help lists the commands";
 
 const A_CONFIG: &str = "2 blocks 64 live 20 object 2 shared 0";
 
@@ -17,7 +18,7 @@ pub fn help(words: &[&str], out: &mut String) -> Result<bool, OutOfMemory> {
     if is_known(word) {
         push_lines(word, out)?;
     } else {
-        write!(out, "'{word}' is unknown; help lists the commands")?;
+        push_four(out, "'", word, "' is unknown; ", ALL_COMMANDS)?;
     }
     Ok(rest.is_empty())
 }
@@ -88,19 +89,46 @@ pub fn explain(
     words: &[&str],
     out: &mut String,
 ) -> Result<(), OutOfMemory> {
-    if let Some(form) = meant_form(alloc, words)? {
-        let operands = words_of(alloc, form)?;
-        return explain_operands(form, operands.as_slice(), words, out);
+    match meant_form(alloc, words)? {
+        Some(form) => explain_form(alloc, form, words, out),
+        None => explain_unknown(alloc, line, words, out),
     }
+}
+
+fn explain_form(
+    alloc: Global,
+    form: &str,
+    words: &[&str],
+    out: &mut String,
+) -> Result<(), OutOfMemory> {
+    let operands = words_of(alloc, form)?;
+    explain_operands(form, operands.as_slice(), words, out)
+}
+
+fn explain_unknown(
+    alloc: Global,
+    line: &str,
+    words: &[&str],
+    out: &mut String,
+) -> Result<(), OutOfMemory> {
     let mut forms = String::new(alloc);
     if let Some(word) = words.first() {
         push_forms(word, &mut forms)?;
     }
-    if forms.is_empty() {
-        forms.push_str("help lists the commands")?;
-    }
-    let line = line.trim();
-    write!(out, "'{line}' is unknown; {forms}")?;
+    let forms = if forms.is_empty() {
+        ALL_COMMANDS
+    } else {
+        forms.as_str()
+    };
+    push_four(out, "'", line.trim(), "' is unknown; ", forms)
+}
+
+/// Appends four parts.
+fn push_four(out: &mut String, a: &str, b: &str, c: &str, d: &str) -> Result<(), OutOfMemory> {
+    out.push_str(a)?;
+    out.push_str(b)?;
+    out.push_str(c)?;
+    out.push_str(d)?;
     Ok(())
 }
 
@@ -141,62 +169,93 @@ fn explain_operands(
     words: &[&str],
     out: &mut String,
 ) -> Result<(), OutOfMemory> {
+    let place = first_wrong(operands, words);
+    match (operands.get(place), words.get(place)) {
+        (Some(name), Some(word)) => push_wrong(form, name, word, out),
+        (Some(name), None) => push_four(out, name, " is missing", "; ", form),
+        (None, Some(word)) => push_four(out, "'", word, "' is too much; ", form),
+        (None, None) => push_four(out, "not possible", " now", "; ", form),
+    }
+}
+
+/// The place of the first operand that is missing or wrong, or the one behind them all.
+fn first_wrong(operands: &[&str], words: &[&str]) -> usize {
     for place in 1..operands.len() {
-        let name = operands[place];
         let Some(word) = words.get(place) else {
-            write!(out, "{name} is missing; {form}")?;
-            return Ok(());
+            return place;
         };
-        if is_operand(name) && !is_in_range(name, word) {
-            return push_wrong(form, name, word, out);
+        if is_operand(operands[place]) && !is_in_range(operands[place], word) {
+            return place;
         }
     }
-    match words.get(operands.len()) {
-        Some(word) => write!(out, "'{word}' is too much; {form}")?,
-        None => write!(out, "not possible now; {form}")?,
-    }
-    Ok(())
+    operands.len()
 }
 
 /// Says what an operand is, and that it is not this word.
 fn push_wrong(form: &str, name: &str, word: &str, out: &mut String) -> Result<(), OutOfMemory> {
     match (name, form_of(word)) {
-        ("CONFIG", _) => write!(out, "CONFIG is as in '{A_CONFIG}'; {form}")?,
-        ("COMMAND", Some(inner)) => write!(out, "COMMAND is not as in '{inner}'; {form}")?,
+        ("CONFIG", _) => push_four(out, "CONFIG is as in '", A_CONFIG, "'; ", form),
+        ("COMMAND", Some(inner)) => push_four(out, "COMMAND is not as in '", inner, "'; ", form),
         _ => {
-            let range = range_of(name);
-            write!(out, "{name} is {range}, not '{word}'; {form}")?;
+            push_four(out, name, " is ", range_of(name), ", not '")?;
+            push_four(out, word, "'", "; ", form)
         }
     }
-    Ok(())
+}
+
+/// Operands that are registers, below 256, below 2^32, and of other kinds.
+const REGISTERS: &str = "D S A B V R FROM TO BASE SPARE";
+
+const BYTES: &str = "MASK ROOM";
+
+const LENGTHS: &str = "FIELDS ELEMENTS SIZE I KEY VALUE THREAD";
+
+const WORDS: &str = "WORD NAME REPLY";
+
+const SEVERAL_WORDS: &str = "CONFIG COMMAND";
+
+fn is_one_of(names: &str, name: &str) -> bool {
+    for other in names.split_whitespace() {
+        if other == name {
+            return true;
+        }
+    }
+    false
 }
 
 /// Whether an operand of this name may be this word.
 fn is_in_range(name: &str, word: &str) -> bool {
-    match name {
-        "D" | "S" | "A" | "B" | "V" | "R" | "FROM" | "TO" | "BASE" | "SPARE" | "MASK" | "ROOM" => {
-            word.parse::<u8>().is_ok()
-        }
-        "FIELDS" | "ELEMENTS" | "SIZE" | "I" | "KEY" | "VALUE" | "THREAD" => {
-            word.parse::<u32>().is_ok()
-        }
-        "WORD" | "NAME" | "REPLY" => true,
-        "CONFIG" | "COMMAND" => false,
-        _ => word.parse::<u64>().is_ok(),
+    if is_one_of(WORDS, name) {
+        return true;
+    }
+    match word.parse::<u64>() {
+        Ok(number) => number <= most_of(name) && !is_one_of(SEVERAL_WORDS, name),
+        Err(_) => false,
+    }
+}
+
+/// The largest number that an operand of this name may be.
+fn most_of(name: &str) -> u64 {
+    if is_one_of(REGISTERS, name) || is_one_of(BYTES, name) {
+        255
+    } else if is_one_of(LENGTHS, name) {
+        4_294_967_295
+    } else {
+        u64::MAX
     }
 }
 
 /// What an operand of this name may be.
 fn range_of(name: &str) -> &'static str {
-    match name {
-        "D" | "S" | "A" | "B" | "V" | "R" | "FROM" | "TO" | "BASE" | "SPARE" => {
-            "a register, 0 to 15"
-        }
-        "MASK" | "ROOM" => "a number from 0 to 255",
-        "FIELDS" | "ELEMENTS" | "SIZE" | "I" | "KEY" | "VALUE" | "THREAD" => {
-            "a number from 0 to 4294967295"
-        }
-        "COMMAND" => "a command as in 'new 1 2'",
-        _ => "a number from 0 to 18446744073709551615",
+    if is_one_of(REGISTERS, name) {
+        "a register, 0 to 15"
+    } else if is_one_of(BYTES, name) {
+        "a number from 0 to 255"
+    } else if is_one_of(LENGTHS, name) {
+        "a number from 0 to 4294967295"
+    } else if name == "COMMAND" {
+        "a command as in 'new 1 2'"
+    } else {
+        "a number from 0 to 18446744073709551615"
     }
 }
