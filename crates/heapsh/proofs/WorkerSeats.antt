@@ -1,7 +1,8 @@
 -- The workers of a shared heap, and the commands that they have begun.
-use Rattle.std.proofs.Common.{◌≡◌, ◌<◌, ◌≤◌, ◌+◌, ℕ, List, [], ◌∷◌, ◌++◌, length, get_or, sym, subst, arith, cases_lt, ⊎_elim, rw}
+use Rattle.std.proofs.Common.{◌≡◌, ◌<◌, ◌≤◌, ◌+◌, ℕ, List, [], ◌∷◌, ◌++◌, length, get_or, sym, subst, arith, ⊎_elim, ◌⊎◌, inl, inr}
 use Rattle.std.specs.Prelude.{slice_index_or, remove}
 use Rattle.std.specs.List.{All}
+use Rattle.std.proofs.lemmas.Bool.{cases_lt}
 use Rattle.std.proofs.lemmas.List.Edits.{length-remove, get_or-remove_below, get_or-remove_above}
 use Rattle.std.proofs.lemmas.List.Elements.{All-push}
 use Rattle.atomic_table.specs.Seated.{TableId}
@@ -46,6 +47,13 @@ begun_added id bs more b are all is = subst (All (IsBegunOn id)) (sym are) (All-
 pub has : (ws : List WorkerState) (t j : ℕ) → j < length ws → ((d : WorkerState) → (slice_index_or ws j d).thread.thread ≡ t) → HasWorker t ws
 has ws t j low is = (j, low, is)
 
--- all workers of a heap, or some
+pub each_more : (ws : List WorkerState) (t : ℕ) → ((u : ℕ) → u < t → HasWorker u ws) → HasWorker t ws → (u : ℕ) → u < t + 1 → HasWorker u ws
+each_more ws t each one u low =
+    ⊎_elim
+    (λ below. each u below)
+    (λ above. (let same : t ≡ u = omega arith in subst (λ v. HasWorker v ws) same one))
+    (cases_lt u t)
+
+-- all workers of a heap
 pub each_once : (h : HeapState) (ws : List WorkerState) → length ws ≡ h.config.threads → All (IsOf h.id) ws → ((t : ℕ) → t < h.config.threads → HasWorker t ws) → AreEachOnce h ws
 each_once h ws count own each = record { count = count; own = own; each = each }

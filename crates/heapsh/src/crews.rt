@@ -2,12 +2,14 @@
 
 use crate::crew::{Came, Crew, Deed};
 use crate::heaps::one_command;
-use crate::replies::{push_number, push_refused, push_reply};
-use crate::words::{config_of, numbers_of};
+use crate::replies::{Said, push, push_line, push_number, push_refused, push_reply};
+use crate::words::{config_of, numbers_of, one_number};
 use block_store::OutOfMemory;
 use never_heap::Command;
 use std::alloc::Global;
 use std::fmt::Write;
+
+const AMID: &str = "a worker is amid a command, or lost; close it with some";
 
 /// A command has no more events than this, unless it waits.
 const MOST_EVENTS: u64 = 1_000_000_000;
@@ -27,12 +29,7 @@ impl Crews {
     }
 
     /// Does what words say of the heap. Returns whether they are understood.
-    pub fn shared(
-        &mut self,
-        alloc: Global,
-        words: &[&str],
-        out: &mut String,
-    ) -> Result<bool, OutOfMemory> {
+    pub fn shared(&mut self, alloc: Global, words: &[&str], out: &mut String) -> Said {
         let Some((verb, rest)) = words.split_first() else {
             return Ok(false);
         };
@@ -44,31 +41,20 @@ impl Crews {
         }
     }
 
-    fn open(
-        &mut self,
-        alloc: Global,
-        words: &[&str],
-        out: &mut String,
-    ) -> Result<bool, OutOfMemory> {
+    fn open(&mut self, alloc: Global, words: &[&str], out: &mut String) -> Said {
         let Some(config) = config_of(words) else {
             return Ok(false);
         };
         match Crew::open(alloc, config) {
             Ok(crew) => {
                 hold(&mut self.crew, crew);
-                out.push_str("ok")?;
+                push(out, "ok")
             }
-            Err(fault) => push_refused(out, fault.text())?,
+            Err(fault) => push_refused(out, fault.text()),
         }
-        Ok(true)
     }
 
-    fn close(
-        &mut self,
-        alloc: Global,
-        words: &[&str],
-        out: &mut String,
-    ) -> Result<bool, OutOfMemory> {
+    fn close(&mut self, alloc: Global, words: &[&str], out: &mut String) -> Said {
         let Some((some, threads)) = words.split_first() else {
             return self.close_all(alloc, out);
         };
@@ -81,11 +67,10 @@ impl Crews {
         push_closed(out, crew.close_some(alloc, threads.as_slice())?)
     }
 
-    fn close_all(&mut self, alloc: Global, out: &mut String) -> Result<bool, OutOfMemory> {
+    fn close_all(&mut self, alloc: Global, out: &mut String) -> Said {
         if let Some(crew) = &self.crew {
             if !crew.is_at_rest() {
-                out.push_str("refused: a worker is amid a command, or lost; close it with some")?;
-                return Ok(true);
+                return push_refused(out, AMID);
             }
         }
         match self.crew.take() {
@@ -95,12 +80,7 @@ impl Crews {
     }
 
     /// Lets all workers do a command, an event each in turn, so many times.
-    fn turns(
-        &mut self,
-        alloc: Global,
-        words: &[&str],
-        out: &mut String,
-    ) -> Result<bool, OutOfMemory> {
+    fn turns(&mut self, alloc: Global, words: &[&str], out: &mut String) -> Said {
         let Some((times, rest)) = words.split_first() else {
             return Ok(false);
         };
@@ -118,12 +98,7 @@ impl Crews {
     }
 
     /// Does what words say of a worker. Returns whether they are understood.
-    pub fn worker(
-        &mut self,
-        alloc: Global,
-        words: &[&str],
-        out: &mut String,
-    ) -> Result<bool, OutOfMemory> {
+    pub fn worker(&mut self, alloc: Global, words: &[&str], out: &mut String) -> Said {
         let Some(crew) = &mut self.crew else {
             return no_heap(out);
         };
@@ -142,18 +117,16 @@ impl Crews {
     }
 }
 
-fn no_heap(out: &mut String) -> Result<bool, OutOfMemory> {
-    out.push_str("no shared heap is open")?;
-    Ok(true)
+fn no_heap(out: &mut String) -> Said {
+    push(out, "no shared heap is open")
 }
 
 /// Prints how many cycles a heap had that is closed.
-fn push_closed(out: &mut String, cycles: Option<u64>) -> Result<bool, OutOfMemory> {
+fn push_closed(out: &mut String, cycles: Option<u64>) -> Said {
     match cycles {
-        Some(cycles) => push_number(out, "cycles", cycles)?,
-        None => out.push_str("closed without a worker")?,
+        Some(cycles) => push_number(out, "cycles", cycles),
+        None => push(out, "closed without a worker"),
     }
-    Ok(true)
 }
 
 /// Takes a heap in place of another.
@@ -169,95 +142,87 @@ fn command(
     is_polled: bool,
     words: &[&str],
     out: &mut String,
-) -> Result<bool, OutOfMemory> {
+) -> Said {
     let Some(command) = one_command(alloc, words)? else {
         return Ok(false);
     };
-    let started = crew.act(thread, Deed::Start(command))?;
-    let came = if is_polled && matches!(started, Came::Done) {
-        crew.act(thread, Deed::Poll(MOST_EVENTS))?
-    } else {
-        started
-    };
-    push_came(out, came)?;
-    Ok(true)
+    match crew.act(thread, Deed::Start(command))? {
+        Came::Done if is_polled => act(crew, thread, Deed::Poll(MOST_EVENTS), out),
+        came => push_came(out, came),
+    }
 }
 
-fn poll(
-    crew: &mut Crew,
-    thread: u32,
-    words: &[&str],
-    out: &mut String,
-) -> Result<bool, OutOfMemory> {
-    let [events] = words else {
-        return Ok(false);
-    };
-    let Ok(events) = events.parse::<u64>() else {
-        return Ok(false);
-    };
-    push_came(out, crew.act(thread, Deed::Poll(events))?)?;
-    Ok(true)
+/// Lets a worker act, and prints what came of it.
+fn act(crew: &mut Crew, thread: u32, deed: Deed, out: &mut String) -> Said {
+    push_came(out, crew.act(thread, deed)?)
 }
 
-fn on_worker(
-    crew: &mut Crew,
-    thread: u32,
-    verb: &str,
-    out: &mut String,
-) -> Result<bool, OutOfMemory> {
-    let deed = match verb {
-        "stamp" => Deed::Stamp,
-        "note" => Deed::Note,
-        "learn" => Deed::Learn,
-        "lose" => Deed::Lose,
-        _ => return push_gauge(crew, thread, verb, out),
-    };
-    push_came(out, crew.act(thread, deed)?)?;
-    Ok(true)
+fn poll(crew: &mut Crew, thread: u32, words: &[&str], out: &mut String) -> Said {
+    match one_number(words) {
+        Some(events) => act(crew, thread, Deed::Poll(events), out),
+        None => Ok(false),
+    }
 }
 
-fn push_gauge(crew: &Crew, thread: u32, word: &str, out: &mut String) -> Result<bool, OutOfMemory> {
+fn on_worker(crew: &mut Crew, thread: u32, verb: &str, out: &mut String) -> Said {
+    match verb {
+        "stamp" => act(crew, thread, Deed::Stamp, out),
+        "note" => act(crew, thread, Deed::Note, out),
+        "learn" => act(crew, thread, Deed::Learn, out),
+        "lose" => act(crew, thread, Deed::Lose, out),
+        _ => push_gauge(crew, thread, verb, out),
+    }
+}
+
+fn push_gauge(crew: &Crew, thread: u32, word: &str, out: &mut String) -> Said {
     match crew.gauge(thread, word) {
-        Some(number) => push_number(out, word, number)?,
-        None => return Ok(false),
+        Some(number) => push_number(out, word, number),
+        None => Ok(false),
     }
-    Ok(true)
 }
 
-fn push_came(out: &mut String, came: Came) -> Result<(), OutOfMemory> {
+fn push_came(out: &mut String, came: Came) -> Said {
     match came {
-        Came::Done => out.push_str("ok")?,
-        Came::Waits => out.push_str("not done")?,
-        Came::Replied(reply, work) => push_reply(out, reply, work)?,
-        Came::Refused(refused) => push_refused(out, refused.text())?,
-        Came::Stamp(stamp) => push_number(out, "stamp", stamp)?,
-        Came::NoWorker => out.push_str("its worker is not between two commands")?,
-        Came::NoCommand => out.push_str("no command is under way")?,
-        Came::NoNote => out.push_str("no note was made")?,
-        Came::NoThread => out.push_str("no such thread")?,
+        Came::Replied(reply, work) => push_reply(out, reply, work),
+        Came::Refused(refused) => push_refused(out, refused.text()),
+        Came::Stamp(stamp) => push_number(out, "stamp", stamp),
+        _ => push(out, text_of(came)),
     }
-    Ok(())
+}
+
+fn text_of(came: Came) -> &'static str {
+    match came {
+        Came::Waits => "not done",
+        Came::NoWorker => "its worker is not between two commands",
+        Came::NoCommand => "no command is under way",
+        Came::NoNote => "no note was made",
+        Came::NoThread => "no such thread",
+        _ => "ok",
+    }
 }
 
 /// All workers start a command and make an event each in turn, up to the end of the last. Prints
 /// what came of it, thread by thread.
-fn in_turns(
-    alloc: Global,
-    crew: &mut Crew,
-    command: Command,
-    out: &mut String,
-) -> Result<(), OutOfMemory> {
+fn in_turns(alloc: Global, crew: &mut Crew, command: Command, out: &mut String) -> Said {
+    let mut last = all_started(alloc, crew, command)?;
+    go_round(crew, &mut last)?;
+    push_each(out, last.as_slice())
+}
+
+fn all_started(alloc: Global, crew: &mut Crew, command: Command) -> Result<Vec<Came>, OutOfMemory> {
     let mut last = Vec::new(alloc);
     for thread in 0..crew.threads() {
         last.push(crew.act(thread, Deed::Start(command))?)?;
     }
+    Ok(last)
+}
+
+/// Makes an event of each command under way in turn, until there is none.
+fn go_round(crew: &mut Crew, last: &mut Vec<Came>) -> Result<(), OutOfMemory> {
     for _round in 0..MOST_ROUNDS {
-        if !round(crew, &mut last)? {
+        if !round(crew, last)? {
             break;
         }
-    }
-    for thread in 0..last.len() {
-        push_of_thread(out, thread, last[thread])?;
     }
     Ok(())
 }
@@ -269,18 +234,27 @@ fn round(crew: &mut Crew, last: &mut Vec<Came>) -> Result<bool, OutOfMemory> {
         if crew.is_pending(thread) {
             is_going = true;
             let came = crew.act(thread, Deed::Poll(1))?;
-            if let Some(place) = last.get_mut(thread as usize) {
-                *place = came;
-            }
+            put(last, thread as usize, came);
         }
     }
     Ok(is_going)
 }
 
-fn push_of_thread(out: &mut String, thread: usize, came: Came) -> Result<(), OutOfMemory> {
-    if !out.is_empty() {
-        out.push_str("\n")?;
+fn put(list: &mut Vec<Came>, place: usize, came: Came) {
+    if let Some(item) = list.get_mut(place) {
+        *item = came;
     }
+}
+
+fn push_each(out: &mut String, last: &[Came]) -> Said {
+    for thread in 0..last.len() {
+        push_of_thread(out, thread, last[thread])?;
+    }
+    Ok(true)
+}
+
+fn push_of_thread(out: &mut String, thread: usize, came: Came) -> Said {
+    push_line(out, "")?;
     write!(out, "{thread} ")?;
     push_came(out, came)
 }

@@ -1,10 +1,12 @@
 //! An interactive heap: reads commands, one a line, and prints the reply to each.
 #![tactic(auto)]
 
+mod calls;
 mod crew;
 mod crews;
 mod heaps;
 mod help;
+mod one_heap;
 mod pieces;
 mod recording;
 mod replies;
@@ -28,7 +30,7 @@ use std::process::ExitCode;
 use trace_text::{StdSink, put_line};
 
 /// Why the shell stops before the end of its input.
-#[derive(Clone, Copy, Debug, PartialEq, Eq)]
+#[derive(Clone, Copy)]
 enum Stop {
     Usage,
     ReadFault,
@@ -61,7 +63,7 @@ impl Stop {
 
 /// What a line of the input is. Only where lines are plain, a line that is not understood is named by
 /// its number: the others show the line.
-#[derive(Clone, Copy, Debug, PartialEq, Eq)]
+#[derive(Clone, Copy)]
 enum Form {
     /// A command.
     Plain,
@@ -138,7 +140,7 @@ fn tell_next(
     number: u64,
     input: &mut impl BufRead,
 ) -> Result<bool, Stop> {
-    if form == Form::Prompted {
+    if matches!(form, Form::Prompted) {
         say(rt, "> ")?;
     }
     let mut line = String::new(rt.alloc());

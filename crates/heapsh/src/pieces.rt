@@ -1,12 +1,11 @@
 //! A heap that is read, planned and copied in pieces, while it goes on.
 
-use crate::replies::push_refused;
+use crate::replies::{Said, push, push_number, push_refused};
 use block_store::OutOfMemory;
 use control_heap::ControlHeap;
 use never_heap::{Command, Reply};
 use saved_heap::{NotBegun, Planning, Reading, Renewal};
 use std::alloc::Global;
-use std::fmt::Write;
 
 /// What is read or planned of a heap, and its commands since then.
 #[derive(Drop)]
@@ -29,17 +28,11 @@ impl Pieces {
     }
 
     /// Begins to read a heap.
-    pub fn begin(
-        &mut self,
-        alloc: Global,
-        heap: &ControlHeap,
-        out: &mut String,
-    ) -> Result<bool, OutOfMemory> {
+    pub fn begin(&mut self, alloc: Global, heap: &ControlHeap, out: &mut String) -> Said {
         let reading = Reading::of(alloc, heap)?;
         self.forget();
         self.reading = Some(reading);
-        out.push_str("ok")?;
-        Ok(true)
+        push(out, "ok")
     }
 
     fn forget(&mut self) {
@@ -59,42 +52,33 @@ impl Pieces {
     }
 
     /// Reads so many objects.
-    pub fn read(
-        &mut self,
-        alloc: Global,
-        n: &[u64],
-        out: &mut String,
-    ) -> Result<bool, OutOfMemory> {
+    pub fn read(&mut self, alloc: Global, n: &[u64], out: &mut String) -> Said {
         let ([most], Some(reading)) = (n, &mut self.reading) else {
-            out.push_str("nothing is read")?;
+            push(out, "nothing is read")?;
             return Ok(n.len() == 1);
         };
         let is_done = reading.step(alloc, *most as usize)?;
-        let (read, rest) = (
-            reading.read(),
-            if is_done { "and that is all" } else { "so far" },
-        );
-        write!(out, "read {read} {rest}")?;
-        Ok(true)
+        push_number(out, "read", reading.read() as u64)?;
+        push(
+            out,
+            if is_done {
+                " and that is all"
+            } else {
+                " so far"
+            },
+        )
     }
 
     /// Plans so many turns of the copy of what was read.
-    pub fn plan(
-        &mut self,
-        alloc: Global,
-        n: &[u64],
-        out: &mut String,
-    ) -> Result<bool, OutOfMemory> {
+    pub fn plan(&mut self, alloc: Global, n: &[u64], out: &mut String) -> Said {
         if let Some(reading) = self.reading.take() {
             self.turn_to_planning(alloc, reading);
         }
         let ([most], Some(planning)) = (n, &mut self.planning) else {
-            out.push_str("not all is read")?;
+            push(out, "not all is read")?;
             return Ok(n.len() == 1);
         };
-        let left = planning.step(*most as usize)?;
-        write!(out, "left {left}")?;
-        Ok(true)
+        push_number(out, "left", planning.step(*most as usize)? as u64)
     }
 
     fn turn_to_planning(&mut self, alloc: Global, reading: Reading) {
@@ -117,14 +101,13 @@ impl Pieces {
         out: &mut String,
     ) -> Result<Result<Renewal, ControlHeap>, OutOfMemory> {
         let Some(commands) = self.take_plan() else {
-            out.push_str("not all is planned")?;
+            push(out, "not all is planned")?;
             return Ok(Err(spare));
         };
         match begun(spare, commands) {
             Ok(renewal) => {
                 let renewal = self.followed(renewal, room)?;
-                let left = renewal.left();
-                write!(out, "left {left}")?;
+                push_number(out, "left", renewal.left() as u64)?;
                 Ok(Ok(renewal))
             }
             Err(

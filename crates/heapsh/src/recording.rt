@@ -1,7 +1,7 @@
 //! A heap that writes down its commands as the text of a job.
 
 use crate::heaps::one_command;
-use crate::replies::{push_number, push_refused, push_reply};
+use crate::replies::{Said, push, push_number, push_refused, push_reply};
 use crate::words::config_of;
 use block_store::{Config, OutOfMemory};
 use control_heap::{ControlHeap, OpenFault};
@@ -26,12 +26,7 @@ impl Recording {
     }
 
     /// Does what words say of a record. Returns whether they are understood.
-    pub fn answer(
-        &mut self,
-        alloc: Global,
-        words: &[&str],
-        out: &mut String,
-    ) -> Result<bool, OutOfMemory> {
+    pub fn answer(&mut self, alloc: Global, words: &[&str], out: &mut String) -> Said {
         let Some((verb, rest)) = words.split_first() else {
             return Ok(false);
         };
@@ -42,12 +37,7 @@ impl Recording {
         }
     }
 
-    fn open_failing(
-        &mut self,
-        alloc: Global,
-        words: &[&str],
-        out: &mut String,
-    ) -> Result<bool, OutOfMemory> {
+    fn open_failing(&mut self, alloc: Global, words: &[&str], out: &mut String) -> Said {
         let Some((call, rest)) = words.split_first() else {
             return Ok(false);
         };
@@ -63,53 +53,54 @@ impl Recording {
         failing: Option<u64>,
         words: &[&str],
         out: &mut String,
-    ) -> Result<bool, OutOfMemory> {
+    ) -> Said {
         let Some(config) = config_of(words) else {
             return Ok(false);
         };
         let sink = sink(alloc, failing)?;
         match opened(alloc, config, sink) {
             Ok(recorder) => {
-                self.recorder = Some(recorder);
-                out.push_str("ok")?;
+                hold(&mut self.recorder, recorder);
+                push(out, "ok")
             }
-            Err(fault) => push_refused(out, fault.text())?,
+            Err(fault) => push_refused(out, fault.text()),
         }
-        Ok(true)
     }
 
-    fn on_recorder(
-        &mut self,
-        alloc: Global,
-        words: &[&str],
-        out: &mut String,
-    ) -> Result<bool, OutOfMemory> {
+    fn on_recorder(&mut self, alloc: Global, words: &[&str], out: &mut String) -> Said {
         let Some(recorder) = &mut self.recorder else {
-            out.push_str("no record is open")?;
-            return Ok(true);
+            return push(out, "no record is open");
         };
         if let [word] = words {
             return push_count(recorder, word, out);
         }
         match one_command(alloc, words)? {
-            Some(command) => ask(recorder, command, out)?,
-            None => return Ok(false),
+            Some(command) => ask(recorder, command, out),
+            None => Ok(false),
         }
-        Ok(true)
     }
 
     /// Prints the record and returns its heap, if a record is open.
     pub fn end(&mut self, out: &mut String) -> Result<Option<ControlHeap>, OutOfMemory> {
-        let Some(recorder) = self.recorder.take() else {
-            return Ok(None);
-        };
-        let Ended { heap, sink, whole } = recorder.end();
-        if let Ok(text) = str::from_utf8(sink.bytes()) {
-            out.push_str(text)?;
+        match self.recorder.take() {
+            Some(recorder) => Ok(Some(ended(recorder, out)?)),
+            None => Ok(None),
         }
-        out.push_str(if whole { "whole" } else { "not whole" })?;
-        Ok(Some(heap))
     }
+}
+
+/// Takes a recorder in place of another.
+fn hold(place: &mut Option<Recorder<MemSink>>, recorder: Recorder<MemSink>) {
+    *place = Some(recorder);
+}
+
+fn ended(recorder: Recorder<MemSink>, out: &mut String) -> Result<ControlHeap, OutOfMemory> {
+    let Ended { heap, sink, whole } = recorder.end();
+    if let Ok(text) = str::from_utf8(sink.bytes()) {
+        push(out, text)?;
+    }
+    push(out, if whole { "whole" } else { "not whole" })?;
+    Ok(heap)
 }
 
 /// A sink of which one write may fail.
@@ -126,32 +117,37 @@ fn opened(alloc: Global, config: Config, sink: MemSink) -> Result<Recorder<MemSi
     Ok(Recorder::new(heap, sink))
 }
 
-fn push_count(
-    recorder: &Recorder<MemSink>,
-    word: &str,
-    out: &mut String,
-) -> Result<bool, OutOfMemory> {
+fn push_count(recorder: &Recorder<MemSink>, word: &str, out: &mut String) -> Said {
     match word {
-        "asked" => push_number(out, word, recorder.heap().asked())?,
-        "recorded" => push_number(out, word, u64::from(recorder.recorded()))?,
-        _ => return Ok(false),
+        "asked" => push_number(out, word, commands(recorder)),
+        "recorded" => push_number(out, word, recorded(recorder)),
+        _ => Ok(false),
     }
-    Ok(true)
 }
 
-fn ask(
-    recorder: &mut Recorder<MemSink>,
-    command: Command,
-    out: &mut String,
-) -> Result<(), OutOfMemory> {
-    let before = recorder.heap().units_made();
+fn commands(recorder: &Recorder<MemSink>) -> u64 {
+    recorder.heap().asked()
+}
+
+fn recorded(recorder: &Recorder<MemSink>) -> u64 {
+    u64::from(recorder.recorded())
+}
+
+fn units(recorder: &Recorder<MemSink>) -> u64 {
+    recorder.heap().units_made()
+}
+
+fn ask(recorder: &mut Recorder<MemSink>, command: Command, out: &mut String) -> Said {
+    let before = units(recorder);
     match asked(recorder, command) {
-        Ok(reply) => {
-            let work = recorder.heap().units_made().saturating_sub(before);
-            push_reply(out, reply, work)
-        }
-        Err(fault) => Ok(write!(out, "refused: {fault}")?),
+        Ok(reply) => push_reply(out, reply, units(recorder).saturating_sub(before)),
+        Err(fault) => push_fault(out, fault),
     }
+}
+
+fn push_fault(out: &mut String, fault: RecordFault) -> Said {
+    write!(out, "refused: {fault}")?;
+    Ok(true)
 }
 
 fn asked(recorder: &mut Recorder<MemSink>, command: Command) -> Result<Reply, RecordFault> {

@@ -1,17 +1,25 @@
 //! What words say of a job whose threads make their events one by one.
 
 use crate::heaps::commands_of;
-use crate::replies::{push_number, push_refused, push_reply, push_yes};
-use crate::system::{Held, Made, NotOpened, system_of};
+use crate::replies::{
+    Said, push, push_line, push_next, push_number, push_refused, push_reply, push_yes,
+};
+use crate::system::{Held, NotOpened, system_of};
 use crate::words::{config_of, numbers_of};
 use block_store::{Config, OutOfMemory, Width};
 use heap_machine::Op;
 use heap_system::Turn;
-use never_heap::{Entry, Item, Logs};
-use rtheap_core::Schedule;
+use never_heap::{Entry, Item};
+use rtheap_core::schedules::Schedule;
 use std::alloc::Global;
 use std::fmt::Write;
 use trace_text::TraceFault;
+
+const NO_THREAD: &str = "no such thread";
+
+const NOT_BEGUN: &str = "no system has begun";
+
+const DONE_OR_NONE: &str = "done, or no such thread";
 
 /// The most threads of a heap.
 const MOST_THREADS: u32 = 16;
@@ -37,12 +45,7 @@ impl Stepper {
     }
 
     /// Does what words say of a system. Returns whether they are understood.
-    pub fn answer(
-        &mut self,
-        alloc: Global,
-        words: &[&str],
-        out: &mut String,
-    ) -> Result<bool, OutOfMemory> {
+    pub fn answer(&mut self, alloc: Global, words: &[&str], out: &mut String) -> Said {
         let Some((verb, rest)) = words.split_first() else {
             return Ok(false);
         };
@@ -55,34 +58,25 @@ impl Stepper {
         }
     }
 
-    fn open(
-        &mut self,
-        alloc: Global,
-        words: &[&str],
-        out: &mut String,
-    ) -> Result<bool, OutOfMemory> {
+    fn open(&mut self, alloc: Global, words: &[&str], out: &mut String) -> Said {
         let Some(config) = config_of(words) else {
             return Ok(false);
         };
         self.header = Some(config);
         self.traces.clear();
-        for thread in 0..config.threads {
-            if thread >= MOST_THREADS {
-                break;
-            }
+        let threads = if config.threads < MOST_THREADS {
+            config.threads
+        } else {
+            MOST_THREADS
+        };
+        for _thread in 0..threads {
             self.traces.push(String::new(alloc))?;
         }
-        out.push_str("ok")?;
-        Ok(true)
+        push(out, "ok")
     }
 
     /// Appends commands to the trace of a thread.
-    fn write(
-        &mut self,
-        alloc: Global,
-        words: &[&str],
-        out: &mut String,
-    ) -> Result<bool, OutOfMemory> {
+    fn write(&mut self, alloc: Global, words: &[&str], out: &mut String) -> Said {
         let Some((thread, times, rest)) = thread_and_times(words) else {
             return Ok(false);
         };
@@ -90,77 +84,78 @@ impl Stepper {
             return Ok(false);
         }
         match self.traces.get_mut(thread) {
-            Some(trace) => push_round(trace, times, rest, out)?,
-            None => out.push_str("no such thread")?,
+            Some(trace) => push_rounds(trace, times, rest, out),
+            None => push(out, NO_THREAD),
         }
-        Ok(true)
     }
 
-    fn begin(
-        &mut self,
-        alloc: Global,
-        words: &[&str],
-        out: &mut String,
-    ) -> Result<bool, OutOfMemory> {
+    fn begin(&mut self, alloc: Global, words: &[&str], out: &mut String) -> Said {
         let Some(config) = &self.header else {
-            out.push_str("no job is open")?;
-            return Ok(true);
+            return push(out, "no job is open");
         };
         let text = text_of(alloc, config, &self.traces)?;
         match system_of(alloc, text) {
             Ok(held) => {
-                self.held = Some(held);
-                out.push_str("ok")?;
+                hold(&mut self.held, held);
+                push(out, "ok")?;
             }
-            Err(fault) => push_not_opened(out, fault)?,
+            Err(fault) => {
+                push_not_opened(out, fault)?;
+            }
         }
         Ok(words.is_empty())
     }
 
-    fn on_held(
-        &mut self,
-        alloc: Global,
-        verb: &str,
-        words: &[&str],
-        out: &mut String,
-    ) -> Result<bool, OutOfMemory> {
+    fn on_held(&mut self, alloc: Global, verb: &str, words: &[&str], out: &mut String) -> Said {
         let Some(held) = &mut self.held else {
-            out.push_str("no system has begun")?;
-            return Ok(true);
+            return push(out, NOT_BEGUN);
         };
         match verb {
-            "replay" => return replay(held, words, out),
-            "count" => return count(alloc, held, words, out),
-            _ => {}
-        }
-        let Some(numbers) = numbers_of(alloc, words)? else {
-            return Ok(false);
-        };
-        match (verb, numbers.as_slice()) {
-            ("turn", [thread]) => push_event(out, held, number(*thread)),
-            ("turns", [thread, turns]) => push_turns(out, held, number(*thread), *turns),
-            ("until", [thread, entries]) => push_until(out, held, number(*thread), *entries),
-            ("black", [thread]) => push_black(alloc, out, held, number(*thread)),
-            (_, numbers) => push_seen(out, held, verb, numbers),
+            "replay" => replay(held, words, out),
+            "count" => count(alloc, held, words, out),
+            _ => with_numbers(alloc, held, verb, words, out),
         }
     }
 
-    fn finish(&mut self, words: &[&str], out: &mut String) -> Result<bool, OutOfMemory> {
+    fn finish(&mut self, words: &[&str], out: &mut String) -> Said {
         let Some(held) = self.held.take() else {
-            out.push_str("no system has begun")?;
-            return Ok(true);
+            return push(out, NOT_BEGUN);
         };
         match held.finish() {
-            Ok(run) => {
-                let (cycles, units) = (run.cycles(), run.units());
-                write!(out, "cycles {cycles} units {units}")?;
+            Ok((cycles, units)) => {
+                push_number(out, "cycles", cycles)?;
+                push_number(out, " units", units)?;
             }
             Err(held) => {
-                self.held = Some(held);
-                out.push_str("not all threads are done")?;
+                hold(&mut self.held, held);
+                push(out, "not all threads are done")?;
             }
         }
         Ok(words.is_empty())
+    }
+}
+
+/// Takes a system in place of another.
+fn hold(place: &mut Option<Held>, held: Held) {
+    *place = Some(held);
+}
+
+fn with_numbers(
+    alloc: Global,
+    held: &mut Held,
+    verb: &str,
+    words: &[&str],
+    out: &mut String,
+) -> Said {
+    let Some(numbers) = numbers_of(alloc, words)? else {
+        return Ok(false);
+    };
+    match (verb, numbers.as_slice()) {
+        ("turn", [thread]) => push_event(out, held, number(*thread)),
+        ("turns", [thread, turns]) => push_turns(out, held, number(*thread), *turns),
+        ("until", [thread, entries]) => push_until(out, held, number(*thread), *entries),
+        ("black", [thread]) => push_black(alloc, out, held, number(*thread)),
+        (_, numbers) => push_seen(out, held, verb, numbers),
     }
 }
 
@@ -176,34 +171,29 @@ fn thread_and_times<'a>(words: &'a [&'a str]) -> Option<(usize, u32, &'a [&'a st
 }
 
 /// Appends lines of commands to a trace, so many times.
-fn push_round(
-    trace: &mut String,
-    times: u32,
-    words: &[&str],
-    out: &mut String,
-) -> Result<(), OutOfMemory> {
+fn push_rounds(trace: &mut String, times: u32, words: &[&str], out: &mut String) -> Said {
     for _time in 0..times {
         if trace.len() > LONGEST {
-            out.push_str("refused: the trace is too long")?;
-            return Ok(());
+            return push_refused(out, "the trace is too long");
         }
-        for command in words.split(|word| *word == ";") {
-            for word in command {
-                trace.push_str(word)?;
-                trace.push_str(" ")?;
-            }
-            push_line_end(trace)?;
-        }
+        push_round(trace, words)?;
     }
-    out.push_str("ok")?;
-    Ok(())
+    push(out, "ok")
 }
 
-/// Ends a line, in place of the blank behind its last word.
-fn push_line_end(trace: &mut String) -> Result<(), OutOfMemory> {
-    let _blank = trace.pop();
-    trace.push_str("\n")?;
-    Ok(())
+/// Appends a line for each command; `;` stands between two.
+fn push_round(trace: &mut String, words: &[&str]) -> Said {
+    let mut mark = "";
+    for word in words {
+        if *word == ";" {
+            mark = "\n";
+        } else {
+            trace.push_str(mark)?;
+            trace.push_str(word)?;
+            mark = " ";
+        }
+    }
+    push(trace, "\n")
 }
 
 /// The text of a job.
@@ -225,26 +215,32 @@ fn text_of(alloc: Global, c: &Config, traces: &[String]) -> Result<Vec<u8>, OutO
     Ok(text.into_bytes())
 }
 
-fn push_not_opened(out: &mut String, fault: NotOpened) -> Result<(), OutOfMemory> {
+fn push_not_opened(out: &mut String, fault: NotOpened) -> Said {
     match fault {
         NotOpened::NoMemory => Err(OutOfMemory),
-        NotOpened::Text(TraceFault::BadLine { line, why }) => {
-            let why = why.text();
-            Ok(write!(out, "refused: line {line} of the job: {why}")?)
-        }
+        NotOpened::Text(TraceFault::BadLine { line, why }) => push_bad_line(out, line, why.text()),
         NotOpened::Text(_) => push_refused(out, "the job can't be read"),
         NotOpened::Plan(text) => push_refused(out, text),
     }
 }
 
-fn replay(held: &mut Held, words: &[&str], out: &mut String) -> Result<bool, OutOfMemory> {
+fn push_bad_line(out: &mut String, line: u64, why: &str) -> Said {
+    write!(out, "refused: line {line} of the job: {why}")?;
+    Ok(true)
+}
+
+fn replay(held: &mut Held, words: &[&str], out: &mut String) -> Said {
     let Some((schedule, turns)) = schedule_of(words) else {
         return Ok(false);
     };
     match held.replay(schedule, turns) {
-        Some(thread) => write!(out, "thread {thread} is not done")?,
-        None => out.push_str("all are done")?,
+        Some(thread) => push_not_done(out, thread),
+        None => push(out, "all are done"),
     }
+}
+
+fn push_not_done(out: &mut String, thread: u32) -> Said {
+    write!(out, "thread {thread} is not done")?;
     Ok(true)
 }
 
@@ -260,31 +256,51 @@ fn schedule_of(words: &[&str]) -> Option<(Schedule, u64)> {
 }
 
 /// Makes an event and prints it.
-fn push_event(out: &mut String, held: &mut Held, thread: u32) -> Result<bool, OutOfMemory> {
+fn push_event(out: &mut String, held: &mut Held, thread: u32) -> Said {
     match held.event(thread) {
-        Some(Made { op, found, turn }) => {
-            push_operation(out, op)?;
-            write!(out, " finds {found}")?;
-            if turn == Turn::Waited {
-                out.push_str(", waits")?;
-            }
+        Some(made) => {
+            push_operation(out, made.op)?;
+            push_number(out, " finds", made.found)?;
+            push(
+                out,
+                if matches!(made.turn, Turn::Waited) {
+                    ", waits"
+                } else {
+                    ""
+                },
+            )
         }
-        None => out.push_str("done, or no such thread")?,
+        None => push(out, DONE_OR_NONE),
     }
-    Ok(true)
 }
 
-fn push_operation(out: &mut String, op: Op) -> Result<(), OutOfMemory> {
-    match op {
-        Op::Load { place } => write!(out, "load {place}")?,
-        Op::Exchange { place, new } => write!(out, "exchange {place} {new}")?,
-        Op::CompareExchange { place, old, new } => {
-            write!(out, "compare_exchange {place} {old} {new}")?;
-        }
-        Op::FetchAdd { place, by } => write!(out, "add {place} {by}")?,
-        Op::FetchSub { place, by } => write!(out, "subtract {place} {by}")?,
+/// Prints the next event, and does not make it.
+fn push_want(out: &mut String, held: &Held, thread: u32) -> Said {
+    match held.next(thread) {
+        Some(op) => push_operation(out, op),
+        None => push(out, DONE_OR_NONE),
     }
-    Ok(())
+}
+
+fn push_operation(out: &mut String, op: Op) -> Said {
+    match op {
+        Op::Load { place } => push_number(out, "load", place as u64),
+        Op::Exchange { place, new } => push_words(out, "exchange", &[place as u64, new]),
+        Op::CompareExchange { place, old, new } => {
+            push_words(out, "compare_exchange", &[place as u64, old, new])
+        }
+        Op::FetchAdd { place, by } => push_words(out, "add", &[place as u64, by]),
+        Op::FetchSub { place, by } => push_words(out, "subtract", &[place as u64, by]),
+    }
+}
+
+/// A name and numbers behind it.
+fn push_words(out: &mut String, name: &str, numbers: &[u64]) -> Said {
+    push(out, name)?;
+    for number in numbers {
+        push_next(out, *number)?;
+    }
+    Ok(true)
 }
 
 /// The number of a thread or block, or one that none has.
@@ -293,37 +309,23 @@ fn number(number: u64) -> u32 {
 }
 
 /// Gives a thread so many turns, and prints what the last was.
-fn push_turns(
-    out: &mut String,
-    held: &mut Held,
-    thread: u32,
-    turns: u64,
-) -> Result<bool, OutOfMemory> {
-    let mut last = None;
-    for _turn in 0..turns {
-        last = held.turn(thread);
-        if last.is_none() {
-            break;
-        }
-    }
-    out.push_str(match last {
+fn push_turns(out: &mut String, held: &mut Held, thread: u32, turns: u64) -> Said {
+    push(out, turn_text(held.turns(thread, turns)))
+}
+
+fn turn_text(turn: Option<Turn>) -> &'static str {
+    match turn {
         Some(Turn::Went) => "went",
         Some(Turn::Waited) => "waits",
         Some(Turn::Done) => "done",
         None => "no turn",
-    })?;
-    Ok(true)
+    }
 }
 
 /// Gives a thread turns until its log has so many entries or it is done.
-fn push_until(
-    out: &mut String,
-    held: &mut Held,
-    thread: u32,
-    entries: u64,
-) -> Result<bool, OutOfMemory> {
+fn push_until(out: &mut String, held: &mut Held, thread: u32, entries: u64) -> Said {
     for _turn in 0..1_000_000_u32 {
-        if has_so_many(held, thread, entries) || held.turn(thread).is_none() {
+        if held.has_so_many(thread, entries) || held.turn(thread).is_none() {
             break;
         }
     }
@@ -331,164 +333,132 @@ fn push_until(
 }
 
 /// Gives a thread turns until it is done, and prints which blocks became black, in this order.
-fn push_black(
-    alloc: Global,
-    out: &mut String,
-    held: &mut Held,
-    thread: u32,
-) -> Result<bool, OutOfMemory> {
+fn push_black(alloc: Global, out: &mut String, held: &mut Held, thread: u32) -> Said {
     let mut blocks = Vec::new(alloc);
     for _turn in 0..100_000_u32 {
-        if has_so_many(held, thread, u64::MAX) {
+        if held.has_so_many(thread, u64::MAX) {
             break;
         }
         held.blacken(alloc, thread, &mut blocks)?;
     }
     for block in blocks.iter() {
-        push_blank(out)?;
-        write!(out, "{block}")?;
-    }
-    Ok(true)
-}
-
-/// A blank behind what was printed.
-fn push_blank(out: &mut String) -> Result<(), OutOfMemory> {
-    if !out.is_empty() {
-        out.push_str(" ")?;
-    }
-    Ok(())
-}
-
-fn has_so_many(held: &Held, thread: u32, entries: u64) -> bool {
-    match held.local(thread) {
-        Some(local) => local.done() || local.log().len() as u64 >= entries,
-        None => true,
-    }
-}
-
-fn push_next(out: &mut String, held: &Held, thread: u32) -> Result<bool, OutOfMemory> {
-    match held.next(thread) {
-        Some(op) => push_operation(out, op)?,
-        None => out.push_str("done, or no such thread")?,
+        push_next(out, u64::from(*block))?;
     }
     Ok(true)
 }
 
 /// The order: `start`, and the thread of each entry.
-fn push_order(out: &mut String, held: &Held) -> Result<bool, OutOfMemory> {
+fn push_order(out: &mut String, held: &Held) -> Said {
     for item in held.order() {
-        push_blank(out)?;
-        match item {
-            Item::Start => out.push_str("start")?,
-            Item::Entry(thread) => write!(out, "{thread}")?,
-        }
+        push_item(out, *item)?;
     }
     Ok(true)
 }
 
-fn push_seen(out: &mut String, held: &Held, verb: &str, n: &[u64]) -> Result<bool, OutOfMemory> {
+/// The first item is a start.
+fn push_item(out: &mut String, item: Item) -> Said {
+    match item {
+        Item::Start if out.is_empty() => push(out, "start"),
+        Item::Start => push(out, " start"),
+        Item::Entry(thread) => push_next(out, u64::from(thread)),
+    }
+}
+
+fn push_seen(out: &mut String, held: &Held, verb: &str, n: &[u64]) -> Said {
     match (verb, n) {
-        ("size", []) => push_number(out, verb, held.size() as u64)?,
-        ("order", []) => return push_order(out, held),
-        ("words", [first, count]) => push_words(out, held, *first, *count)?,
-        ("colours", [first, count]) => push_colours(out, held, *first, *count)?,
-        ("entry", [thread, place]) => push_entry(out, held, number(*thread), *place)?,
-        (_, [thread]) => return push_local(out, held, verb, number(*thread)),
-        _ => return Ok(false),
+        ("size", []) => push_number(out, verb, held.size() as u64),
+        ("order", []) => push_order(out, held),
+        ("words", [first, count]) => push_each(out, held, *first, *count, false),
+        ("colours", [first, count]) => push_each(out, held, *first, *count, true),
+        ("entry", [thread, place]) => push_entry(out, held, number(*thread), *place),
+        (_, [thread]) => push_local(out, held, verb, number(*thread)),
+        _ => Ok(false),
+    }
+}
+
+/// So many words from a place on, or colour words from a block on, as far as there are.
+fn push_each(out: &mut String, held: &Held, first: u64, count: u64, are_colours: bool) -> Said {
+    for place in first..first.saturating_add(count) {
+        let word = if are_colours {
+            held.colour(number(place))
+        } else {
+            held.word(place as usize)
+        };
+        match word {
+            Some(word) => push_next(out, word)?,
+            None => return Ok(true),
+        };
     }
     Ok(true)
 }
 
-/// So many words from a place on, as far as there are.
-fn push_words(out: &mut String, held: &Held, first: u64, count: u64) -> Result<(), OutOfMemory> {
-    for place in first..first.saturating_add(count) {
-        match held.word(place as usize) {
-            Some(word) => push_word(out, word)?,
-            None => break,
-        }
-    }
-    Ok(())
-}
-
-/// The colour words of so many blocks, as far as there are.
-fn push_colours(out: &mut String, held: &Held, first: u64, count: u64) -> Result<(), OutOfMemory> {
-    for block in first..first.saturating_add(count) {
-        match held.colour(number(block)) {
-            Some(word) => push_word(out, word)?,
-            None => break,
-        }
-    }
-    Ok(())
-}
-
-fn push_word(out: &mut String, word: u64) -> Result<(), OutOfMemory> {
-    push_blank(out)?;
-    write!(out, "{word}")?;
-    Ok(())
-}
-
-fn push_entry(out: &mut String, held: &Held, thread: u32, place: u64) -> Result<(), OutOfMemory> {
+fn push_entry(out: &mut String, held: &Held, thread: u32, place: u64) -> Said {
     match held.entry(thread, place as usize) {
         Some(entry) => push_reply(out, entry.reply, entry.work),
-        None => Ok(out.push_str("none")?),
+        None => push(out, "none"),
     }
 }
 
-fn push_local(out: &mut String, held: &Held, verb: &str, thread: u32) -> Result<bool, OutOfMemory> {
-    let Some(local) = held.local(thread) else {
-        out.push_str("no such thread")?;
-        return Ok(true);
-    };
+fn push_local(out: &mut String, held: &Held, verb: &str, thread: u32) -> Said {
+    if !held.has_thread(thread) {
+        return push(out, NO_THREAD);
+    }
     match verb {
-        "entries" => push_number(out, verb, local.log().len() as u64)?,
-        "log" => push_log(out, local.log())?,
-        "paid" => push_number(out, verb, local.paid())?,
-        "rest" => return push_yes(out, local.at_rest()),
-        "next" => return push_next(out, held, thread),
-        _ => return Ok(false),
+        "entries" => push_number(out, verb, held.entries(thread)),
+        "log" => push_log(out, held, thread),
+        "paid" => push_number(out, verb, held.paid(thread)),
+        "rest" => push_yes(out, held.is_at_rest(thread)),
+        "next" => push_want(out, held, thread),
+        _ => Ok(false),
+    }
+}
+
+fn push_log(out: &mut String, held: &Held, thread: u32) -> Said {
+    for place in 0..usize::MAX {
+        match held.entry(thread, place) {
+            Some(entry) => push_logged(out, entry)?,
+            None => break,
+        };
     }
     Ok(true)
 }
 
-fn push_log(out: &mut String, log: &[Entry]) -> Result<(), OutOfMemory> {
-    for entry in log {
-        if !out.is_empty() {
-            out.push_str("\n")?;
-        }
-        push_reply(out, entry.reply, entry.work)?;
-    }
-    Ok(())
+fn push_logged(out: &mut String, entry: Entry) -> Said {
+    push_line(out, "")?;
+    push_reply(out, entry.reply, entry.work)
 }
 
 /// How many entries of a thread have a reply that is printed as these words.
-fn count(
-    alloc: Global,
-    held: &Held,
-    words: &[&str],
-    out: &mut String,
-) -> Result<bool, OutOfMemory> {
+fn count(alloc: Global, held: &Held, words: &[&str], out: &mut String) -> Said {
     let Some((thread, reply)) = words.split_first() else {
         return Ok(false);
     };
-    let Ok(thread) = thread.parse::<u32>() else {
+    let Ok(thread) = thread.parse::<u64>() else {
         return Ok(false);
     };
     let wanted = joined(alloc, reply)?;
+    push_number(
+        out,
+        "count",
+        counted(alloc, held, number(thread), wanted.as_str())?,
+    )
+}
+
+fn counted(alloc: Global, held: &Held, thread: u32, wanted: &str) -> Result<u64, OutOfMemory> {
     let mut found = 0u64;
     for place in 0..usize::MAX {
         let Some(entry) = held.entry(thread, place) else {
             break;
         };
-        if is_printed_so(alloc, entry, wanted.as_str())? {
+        if is_printed_so(alloc, entry, wanted)? {
             found = found.saturating_add(1);
         }
     }
-    push_number(out, "count", found)?;
-    Ok(true)
+    Ok(found)
 }
 
 /// Whether an entry is printed like this.
-fn is_printed_so(alloc: Global, entry: Entry, wanted: &str) -> Result<bool, OutOfMemory> {
+fn is_printed_so(alloc: Global, entry: Entry, wanted: &str) -> Said {
     let mut printed = String::new(alloc);
     push_reply(&mut printed, entry.reply, entry.work)?;
     Ok(printed.as_str() == wanted)
@@ -497,9 +467,11 @@ fn is_printed_so(alloc: Global, entry: Entry, wanted: &str) -> Result<bool, OutO
 /// Words with blanks between them.
 fn joined(alloc: Global, words: &[&str]) -> Result<String, OutOfMemory> {
     let mut text = String::new(alloc);
+    let mut mark = "";
     for word in words {
-        push_blank(&mut text)?;
+        text.push_str(mark)?;
         text.push_str(word)?;
+        mark = " ";
     }
     Ok(text)
 }

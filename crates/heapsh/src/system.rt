@@ -7,7 +7,7 @@ ghost use Rattle.trace_text.specs.Jobs.{IsJobInBounds};
 use block_store::{OutOfMemory, Places};
 use heap_machine::Op;
 use heap_system::{Finished, Local, System, Turn};
-use never_heap::{Entry, Item};
+use never_heap::{Entry, Item, Logs};
 use rate_plan::plan;
 use rtheap_core::schedules::{Schedule, replay};
 use std::alloc::Global;
@@ -39,7 +39,7 @@ impl Model for Held {
 }
 
 /// Why a job has no system.
-#[derive(Clone, Copy, Debug, PartialEq, Eq)]
+#[derive(Clone, Copy)]
 pub enum NotOpened {
     NoMemory,
     /// The text is no job.
@@ -114,9 +114,59 @@ impl Held {
         }
     }
 
+    /// Makes so many turns of a thread, and returns what the last was.
+    pub fn turns(&mut self, thread: u32, turns: u64) -> Option<Turn> {
+        let mut last = None;
+        for _turn in 0..turns {
+            last = self.turn(thread);
+            if last.is_none() {
+                break;
+            }
+        }
+        last
+    }
+
+    pub fn has_thread(&self, thread: u32) -> bool {
+        thread < self.system.config().threads
+    }
+
+    /// How many entries the log of a thread has.
+    pub fn entries(&self, thread: u32) -> u64 {
+        match self.local(thread) {
+            Some(local) => entries(local),
+            None => 0,
+        }
+    }
+
+    /// The units that are paid for the command in hand.
+    pub fn paid(&self, thread: u32) -> u64 {
+        match self.local(thread) {
+            Some(local) => local.paid(),
+            None => 0,
+        }
+    }
+
+    pub fn is_at_rest(&self, thread: u32) -> bool {
+        match self.local(thread) {
+            Some(local) => local.at_rest(),
+            None => true,
+        }
+    }
+
+    /// Whether a thread has so many entries, or is done.
+    pub fn has_so_many(&self, thread: u32, entries: u64) -> bool {
+        match self.local(thread) {
+            Some(local) => local.done() || self.entries(thread) >= entries,
+            None => true,
+        }
+    }
+
     /// The operation of a thread's next event. `None` where the thread is done, or none.
     pub fn next(&self, thread: u32) -> Option<Op> {
-        want(self.local(thread)?)
+        match self.local(thread) {
+            Some(local) => want(local),
+            None => None,
+        }
     }
 
     /// Makes a turn of a thread that is not done.
@@ -186,7 +236,10 @@ impl Held {
 
     /// An entry of a thread's log.
     pub fn entry(&self, thread: u32, number: usize) -> Option<Entry> {
-        self.local(thread)?.log().get(number).copied()
+        match self.local(thread) {
+            Some(local) => local.log().get(number).copied(),
+            None => None,
+        }
     }
 
     /// The order so far.
@@ -194,17 +247,25 @@ impl Held {
         self.system.order().unwrap_or(&[])
     }
 
-    /// Ends a run whose threads are done.
-    pub fn finish(self) -> Result<Finished, Held> {
+    /// Ends a run whose threads are done, and returns its cycles and units.
+    pub fn finish(self) -> Result<(u64, u64), Held> {
         let left = self.left;
         match self.system.finish() {
-            Ok(finished) => Ok(finished),
+            Ok(finished) => Ok(ended(&finished)),
             Err(unfinished) => Err(Held {
                 system: unfinished.system,
                 left,
             }),
         }
     }
+}
+
+fn ended(run: &Finished) -> (u64, u64) {
+    (run.cycles(), run.units())
+}
+
+fn entries(local: &Local) -> u64 {
+    local.log().len() as u64
 }
 
 fn want(local: &Local) -> Option<Op> {

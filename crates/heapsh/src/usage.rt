@@ -1,6 +1,7 @@
 //! What is said of a line that is not understood, and of a command by its first word.
 
 use crate::help::{COMMANDS, FORMS};
+use crate::replies::{Said, push};
 use crate::words::words_of;
 use block_store::OutOfMemory;
 use std::alloc::Global;
@@ -10,46 +11,31 @@ const ALL_COMMANDS: &str = "help lists the commands";
 const A_CONFIG: &str = "2 blocks 64 live 20 object 2 shared 0";
 
 /// Answers `help` and `help WORD`.
-pub fn help(words: &[&str], out: &mut String) -> Result<bool, OutOfMemory> {
-    let Some((word, rest)) = words.split_first() else {
-        out.push_str(COMMANDS)?;
-        return Ok(true);
-    };
-    if is_known(word) {
-        push_lines(word, out)?;
-    } else {
-        push_four(out, "'", word, "' is unknown; ", ALL_COMMANDS)?;
+pub fn help(words: &[&str], out: &mut String) -> Said {
+    match words {
+        [] => push(out, COMMANDS),
+        [word] if is_known(word) => push_forms(word, "\n", true, out),
+        [word] => push_four(out, "'", word, "' is unknown; ", ALL_COMMANDS),
+        _ => Ok(false),
     }
-    Ok(rest.is_empty())
 }
 
-/// The lines of the forms that begin with a word.
-fn push_lines(word: &str, out: &mut String) -> Result<(), OutOfMemory> {
+/// The forms that begin with a word, with what they are for or without.
+fn push_forms(word: &str, mark: &str, with_use: bool, out: &mut String) -> Said {
     for line in FORMS.lines() {
         if begins_with(line, word) {
-            push_part(out, "\n", line)?;
+            push_part(out, mark, if with_use { line } else { form_in(line) })?;
         }
     }
-    Ok(())
-}
-
-/// The forms that begin with a word.
-fn push_forms(word: &str, out: &mut String) -> Result<(), OutOfMemory> {
-    for line in FORMS.lines() {
-        if begins_with(line, word) {
-            push_part(out, ", ", form_in(line))?;
-        }
-    }
-    Ok(())
+    Ok(true)
 }
 
 /// A part, with a mark between it and what was printed.
-fn push_part(out: &mut String, mark: &str, part: &str) -> Result<(), OutOfMemory> {
+fn push_part(out: &mut String, mark: &str, part: &str) -> Said {
     if !out.is_empty() {
         out.push_str(mark)?;
     }
-    out.push_str(part)?;
-    Ok(())
+    push(out, part)
 }
 
 /// Whether a command begins with this word.
@@ -83,37 +69,22 @@ fn form_in(line: &str) -> &str {
 }
 
 /// Says what of a line is not understood, and what is expected.
-pub fn explain(
-    alloc: Global,
-    line: &str,
-    words: &[&str],
-    out: &mut String,
-) -> Result<(), OutOfMemory> {
+pub fn explain(alloc: Global, line: &str, words: &[&str], out: &mut String) -> Said {
     match meant_form(alloc, words)? {
         Some(form) => explain_form(alloc, form, words, out),
         None => explain_unknown(alloc, line, words, out),
     }
 }
 
-fn explain_form(
-    alloc: Global,
-    form: &str,
-    words: &[&str],
-    out: &mut String,
-) -> Result<(), OutOfMemory> {
+fn explain_form(alloc: Global, form: &str, words: &[&str], out: &mut String) -> Said {
     let operands = words_of(alloc, form)?;
     explain_operands(form, operands.as_slice(), words, out)
 }
 
-fn explain_unknown(
-    alloc: Global,
-    line: &str,
-    words: &[&str],
-    out: &mut String,
-) -> Result<(), OutOfMemory> {
+fn explain_unknown(alloc: Global, line: &str, words: &[&str], out: &mut String) -> Said {
     let mut forms = String::new(alloc);
     if let Some(word) = words.first() {
-        push_forms(word, &mut forms)?;
+        push_forms(word, ", ", false, &mut forms)?;
     }
     let forms = if forms.is_empty() {
         ALL_COMMANDS
@@ -124,12 +95,11 @@ fn explain_unknown(
 }
 
 /// Appends four parts.
-fn push_four(out: &mut String, a: &str, b: &str, c: &str, d: &str) -> Result<(), OutOfMemory> {
+fn push_four(out: &mut String, a: &str, b: &str, c: &str, d: &str) -> Said {
     out.push_str(a)?;
     out.push_str(b)?;
     out.push_str(c)?;
-    out.push_str(d)?;
-    Ok(())
+    push(out, d)
 }
 
 /// The first form whose words, apart from operands, are these.
@@ -163,12 +133,7 @@ fn is_operand(word: &str) -> bool {
 }
 
 /// Says which operand is wrong.
-fn explain_operands(
-    form: &str,
-    operands: &[&str],
-    words: &[&str],
-    out: &mut String,
-) -> Result<(), OutOfMemory> {
+fn explain_operands(form: &str, operands: &[&str], words: &[&str], out: &mut String) -> Said {
     let place = first_wrong(operands, words);
     match (operands.get(place), words.get(place)) {
         (Some(name), Some(word)) => push_wrong(form, name, word, out),
@@ -192,7 +157,7 @@ fn first_wrong(operands: &[&str], words: &[&str]) -> usize {
 }
 
 /// Says what an operand is, and that it is not this word.
-fn push_wrong(form: &str, name: &str, word: &str, out: &mut String) -> Result<(), OutOfMemory> {
+fn push_wrong(form: &str, name: &str, word: &str, out: &mut String) -> Said {
     match (name, form_of(word)) {
         ("CONFIG", _) => push_four(out, "CONFIG is as in '", A_CONFIG, "'; ", form),
         ("COMMAND", Some(inner)) => push_four(out, "COMMAND is not as in '", inner, "'; ", form),

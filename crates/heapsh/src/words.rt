@@ -25,6 +25,14 @@ pub fn numbers_of(alloc: Global, words: &[&str]) -> Result<Option<Vec<u64>>, Out
     Ok(Some(numbers))
 }
 
+/// The number that the only word spells.
+pub fn one_number(words: &[&str]) -> Option<u64> {
+    match words {
+        [word] => word.parse::<u64>().ok(),
+        _ => None,
+    }
+}
+
 /// The number of a register, which may be none of a heap.
 pub fn register(number: u64) -> Option<u8> {
     u8::try_from(number).ok()
@@ -104,8 +112,14 @@ pub fn command_of(word: &str, n: &[u64]) -> Option<Command> {
     let (c, e) = (register_at(n, 2), register_at(n, 3));
     let (x, y, z) = (number_at(n, 0), number_at(n, 1), number_at(n, 2));
     Some(match word {
-        "new" => Command::New { d: a, fields: length_at(n, 1) },
-        "arr" => Command::Arr { d: a, elements: length_at(n, 1) },
+        "new" => Command::New {
+            d: a,
+            fields: length_at(n, 1),
+        },
+        "arr" => Command::Arr {
+            d: a,
+            elements: length_at(n, 1),
+        },
         "set" => Command::Set { d: a, value: y },
         "nil" => Command::Nil { d: a },
         "mov" => Command::Mov { d: a, s: b },
@@ -115,7 +129,12 @@ pub fn command_of(word: &str, n: &[u64]) -> Option<Command> {
         "same" => Command::Same { a, b },
         "say" => Command::Say { s: a },
         "swap" => Command::Swap { s: a, i: y, v: c },
-        "cas" => Command::Cas { s: a, i: y, a: c, v: e },
+        "cas" => Command::Cas {
+            s: a,
+            i: y,
+            a: c,
+            v: e,
+        },
         _ => Command::Idle { units: x },
     })
 }
