@@ -2,11 +2,6 @@
 use Rattle.std.proofs.Common.{◌≡◌, ℕ, zero, suc, ◌<◌, arith, subst, sym, ap, ◌∙◌, List, [], ◌∷◌, length, get_or, inl, inr}
 use Rattle.std.proofs.lemmas.Bool.{cases_eq}
 use Rattle.std.specs.List.{SwappedAt}
-use Rattle.std.specs.Prelude.{Result, Ok, Err, OnOk}
-use Rattle.block_store.specs.declared.Config.{Config}
-use Rattle.never_heap.specs.declared.Command.{Command}
-use Rattle.shared_heap.specs.declared.rules.Span.{Span}
-use Rattle.shared_heap.specs.Spans.{AreWithin, IsInTime}
 use Rattle.shared_heap.proofs.Stamps.{drawn_same}
 use Rattle.live_tables.specs.tags.Live.{TagWorkerState}
 use Rattle.live_tables.specs.rows.Workers.{HasDrawn, IsOf}
@@ -96,9 +91,3 @@ exchanged h hs ys a b are swap al bl long = record {
 -- a worker of a table that has drawn a stamp
 pub of_drawn : (t : HeapState) (a b : TagWorkerState) (n : ℕ) → IsOf t a → HasDrawn a n b → IsOf t b
 of_drawn t a b n is drawn = of_same t a b is (drawn_same a.worker b.worker n drawn.drawn)
-
--- a command of a heap with one worker
-pub lone_turns : {T E : Type 0} (r : Result T E) (c : Config) (k : Command) (s : Span) → c.threads ≡ 1
-    → OnOk r (IsInTime c k s) → OnOk r (AreWithin c k s.own)
-lone_turns (Ok x) c k s one few = few (inr one)
-lone_turns (Err x) c k s one few = tt

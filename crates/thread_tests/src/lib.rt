@@ -1,5 +1,5 @@
-//! Tests that need threads, or several workers: of `shared_heap`, of the live tables, and of
-//! `rt_mail`.
+//! Tests that need threads, or several workers: of `shared_heap`, of the live tables, and of the
+//! crates of `mailrun`.
 #![tactic(auto)]
 
 #[cfg(test)]

@@ -1,10 +1,9 @@
 //! Calls of `shared_heap`.
 
-ghost use Rattle.std.specs.Prelude.{◌≡◌, ◌<◌, ◌∷◌, length, IfOk, OnOk};
-ghost use Rattle.shared_heap.specs.Spans.{AreWithin};
+ghost use Rattle.std.specs.Prelude.{◌≡◌, ◌<◌, ◌∷◌, length, IfOk};
 ghost use Rattle.shared_heap.specs.Workers.{AreEachOnce, AreInOrder, IsSame, IsWorkerOf};
 
-use block_store::{Config, Name, OutOfMemory, Value, Width};
+use block_store::{Config, OutOfMemory, Value, Width};
 use never_heap::{Command, Reply};
 use shared_heap::{Fault, OpenFault, Pending, Refused, SharedHeap, Worker};
 use std::alloc::Global;
@@ -77,41 +76,6 @@ pub fn stamps(heap: &SharedHeap, first: &mut Worker, second: &mut Worker) -> (u6
     ensures second { second.new.heap ≡ heap.now.id }
 {
     (heap.stamp(first), heap.stamp(second))
-}
-
-// Gives a worker a stamp.
-#[tactic(auto, using(shared_heap::proofs::Stamps::followed_same))]
-pub fn follow(heap: &SharedHeap, who: &mut Worker, stamp: u64) -> bool
-    requires { who.old.heap ≡ heap.now.id }
-    ensures { who.new.heap ≡ heap.now.id }
-{
-    heap.follow(who, stamp)
-}
-
-// Opens a heap with one worker.
-pub fn open_one(alloc: Global) -> Result<(SharedHeap, Worker), OpenFault>
-    ensures own { IfOk result (λ r. r.1.heap ≡ r.0.id) }
-    ensures single { IfOk result (λ r. r.1.thread.config.threads ≡ 1) }
-{
-    let (heap, workers) = SharedHeap::open(alloc, heap_of(1))?;
-    let (first, _none) = first_and_rest(workers);
-    Ok((heap, first))
-}
-
-// Executes a command of a heap with one worker, in at most the turns of a thread that runs alone.
-#[tactic(auto, using(crate::proofs::Crews::lone_turns))]
-pub fn ask_alone<R: Wait>(
-    rt: &R,
-    heap: &SharedHeap,
-    who: &mut Worker,
-    command: Command,
-) -> Result<Reply, Refused>
-    requires own { who.old.heap ≡ heap.now.id }
-    requires single { who.old.thread.config.threads ≡ 1 }
-    ensures same { IsSame who.old who.new }
-    ensures few { OnOk result (AreWithin who.old.thread.config command who.new.span.own) }
-{
-    heap.ask(rt, who, command)
 }
 
 // The first of the workers, and the others.
@@ -256,121 +220,56 @@ impl<'h> Seat<'h> {
         }
     }
 
-    /// Makes a command by its own call.
-    pub fn call<R: Wait>(&mut self, rt: &R, command: Command) -> Told {
-        match command {
-            Command::New { d, fields } => self.record(rt, d, fields),
-            Command::Arr { d, elements } => self.array(rt, d, elements),
-            Command::Get { d, s, i } => self.get(rt, d, s, i),
-            Command::Put { s, i, v } => self.put(rt, s, i, v),
-            Command::Swap { s, i, v } => self.swap(rt, s, i, v),
-            Command::Cas { s, i, a, v } => self.cas(rt, s, i, a, v),
-            Command::Set { d, value } => self.set(rt, d, value),
-            Command::Nil { d } => self.nil(rt, d),
-            Command::Mov { d, s } => self.mov(rt, d, s),
-            Command::Len { s } => self.len(rt, s),
-            Command::Same { a, b } => self.same(rt, a, b),
-            Command::Say { s } => self.say(rt, s),
-            Command::Idle { units } => self.idle(rt, units),
-        }
+    pub fn record<R: Wait>(&mut self, rt: &R, d: u8, fields: u32) -> bool {
+        self.heap.record(rt, &mut self.who, d, fields).is_ok()
     }
 
-    fn record<R: Wait>(&mut self, rt: &R, d: u8, fields: u32) -> Told {
-        made(self.heap.record(rt, &mut self.who, d, fields))
+    pub fn array<R: Wait>(&mut self, rt: &R, d: u8, elements: u32) -> bool {
+        self.heap.array(rt, &mut self.who, d, elements).is_ok()
     }
 
-    fn array<R: Wait>(&mut self, rt: &R, d: u8, elements: u32) -> Told {
-        made(self.heap.array(rt, &mut self.who, d, elements))
+    pub fn get<R: Wait>(&mut self, rt: &R, d: u8, s: u8, i: u64) -> Result<Value, Fault> {
+        self.heap.get(rt, &mut self.who, d, s, i)
     }
 
-    fn get<R: Wait>(&mut self, rt: &R, d: u8, s: u8, i: u64) -> Told {
-        shown(self.heap.get(rt, &mut self.who, d, s, i))
+    pub fn put<R: Wait>(&mut self, rt: &R, s: u8, i: u64, v: u8) -> Result<(), Fault> {
+        self.heap.put(rt, &mut self.who, s, i, v)
     }
 
-    fn put<R: Wait>(&mut self, rt: &R, s: u8, i: u64, v: u8) -> Told {
-        done(self.heap.put(rt, &mut self.who, s, i, v))
+    pub fn swap<R: Wait>(&mut self, rt: &R, s: u8, i: u64, v: u8) -> Result<Value, Fault> {
+        self.heap.swap(rt, &mut self.who, s, i, v)
     }
 
-    fn swap<R: Wait>(&mut self, rt: &R, s: u8, i: u64, v: u8) -> Told {
-        shown(self.heap.swap(rt, &mut self.who, s, i, v))
+    pub fn cas<R: Wait>(&mut self, rt: &R, s: u8, i: u64, a: u8, v: u8) -> Result<bool, Fault> {
+        self.heap.cas(rt, &mut self.who, s, i, a, v)
     }
 
-    fn cas<R: Wait>(&mut self, rt: &R, s: u8, i: u64, a: u8, v: u8) -> Told {
-        compared(self.heap.cas(rt, &mut self.who, s, i, a, v))
+    pub fn set<R: Wait>(&mut self, rt: &R, d: u8, value: u64) -> Result<(), Fault> {
+        self.heap.set(rt, &mut self.who, d, value)
     }
 
-    fn set<R: Wait>(&mut self, rt: &R, d: u8, value: u64) -> Told {
-        done(self.heap.set(rt, &mut self.who, d, value))
+    pub fn nil<R: Wait>(&mut self, rt: &R, d: u8) -> Result<(), Fault> {
+        self.heap.nil(rt, &mut self.who, d)
     }
 
-    fn nil<R: Wait>(&mut self, rt: &R, d: u8) -> Told {
-        done(self.heap.nil(rt, &mut self.who, d))
+    pub fn mov<R: Wait>(&mut self, rt: &R, d: u8, s: u8) -> Result<(), Fault> {
+        self.heap.mov(rt, &mut self.who, d, s)
     }
 
-    fn mov<R: Wait>(&mut self, rt: &R, d: u8, s: u8) -> Told {
-        done(self.heap.mov(rt, &mut self.who, d, s))
+    pub fn len<R: Wait>(&mut self, rt: &R, s: u8) -> Result<u64, Fault> {
+        self.heap.len(rt, &mut self.who, s)
     }
 
-    fn len<R: Wait>(&mut self, rt: &R, s: u8) -> Told {
-        counted(self.heap.len(rt, &mut self.who, s))
+    pub fn same<R: Wait>(&mut self, rt: &R, a: u8, b: u8) -> Result<bool, Fault> {
+        self.heap.same(rt, &mut self.who, a, b)
     }
 
-    fn same<R: Wait>(&mut self, rt: &R, a: u8, b: u8) -> Told {
-        compared(self.heap.same(rt, &mut self.who, a, b))
+    pub fn say<R: Wait>(&mut self, rt: &R, s: u8) -> Result<Value, Fault> {
+        self.heap.say(rt, &mut self.who, s)
     }
 
-    fn say<R: Wait>(&mut self, rt: &R, s: u8) -> Told {
-        shown(self.heap.say(rt, &mut self.who, s))
-    }
-
-    fn idle<R: Wait>(&mut self, rt: &R, units: u64) -> Told {
-        done(self.heap.idle(rt, &mut self.who, units))
-    }
-}
-
-/// What the call of a command returned.
-#[derive(Clone, Copy, Debug, PartialEq, Eq)]
-pub enum Told {
-    Made,
-    Done,
-    Shown(Value),
-    Counted(u64),
-    Compared(bool),
-    Fault(Fault),
-}
-
-fn made(told: Result<Name, Fault>) -> Told {
-    match told {
-        Ok(_) => Told::Made,
-        Err(fault) => Told::Fault(fault),
-    }
-}
-
-fn done(told: Result<(), Fault>) -> Told {
-    match told {
-        Ok(()) => Told::Done,
-        Err(fault) => Told::Fault(fault),
-    }
-}
-
-fn shown(told: Result<Value, Fault>) -> Told {
-    match told {
-        Ok(value) => Told::Shown(value),
-        Err(fault) => Told::Fault(fault),
-    }
-}
-
-fn counted(told: Result<u64, Fault>) -> Told {
-    match told {
-        Ok(count) => Told::Counted(count),
-        Err(fault) => Told::Fault(fault),
-    }
-}
-
-fn compared(told: Result<bool, Fault>) -> Told {
-    match told {
-        Ok(yes) => Told::Compared(yes),
-        Err(fault) => Told::Fault(fault),
+    pub fn idle<R: Wait>(&mut self, rt: &R, units: u64) -> Result<(), Fault> {
+        self.heap.idle(rt, &mut self.who, units)
     }
 }
 
