@@ -6,7 +6,7 @@
    starts as a reference to the one shared array. A thread of the program attaches a worker to a
    handle and gives it one command at a time: rtheap_worker_start announces the command, and
    rtheap_worker_poll carries it out, at most so many steps in a call. No call takes a lock or
-   starts a thread; only rtheap_worker_ask waits; only rtheap_group_open and rtheap_group_attach
+   starts a thread; only rtheap_worker_ask waits; only rtheap_group_open, _attach and _return
    allocate.
 
        rtheap_group group = RTHEAP_GROUP_CLOSED;
@@ -105,8 +105,8 @@ RTHEAP_CHECKED static inline rtheap_status rtheap_group_return(rtheap_group *gro
 /* Closes the heap with the workers that its group has, and the group's handle; the number of cycles
    of collection that were started is written unless `cycles` is NULL. Then there was one order of
    all commands. In it the commands of each of these workers are those that it was given, in their
-   order, with the replies that it had. Of a worker whose handle was closed it has the first of the
-   commands that it was given. A command that had its effect before another was started comes before
+   order, with the replies that it had. Of a worker whose handle was closed it has some of the
+   commands that it was given, in their order. A command that had its effect before another was started comes before
    it. Or, and nothing has changed: RTHEAP_NO_HEAP (the group is closed), RTHEAP_NO_WORKER (it has
    none), RTHEAP_IN_USE (a worker's handle is open). */
 RTHEAP_CHECKED static inline rtheap_status rtheap_group_finish(rtheap_group *group,
