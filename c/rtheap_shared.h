@@ -106,9 +106,9 @@ RTHEAP_CHECKED static inline rtheap_status rtheap_group_return(rtheap_group *gro
    of collection that were started is written unless `cycles` is NULL. Then there was one order of
    all commands. In it the commands of each of these workers are those that it was given, in their
    order, with the replies that it had. Of a worker whose handle was closed it has some of the
-   commands that it was given, in their order. A command that had its effect before another was started comes before
-   it. Or, and nothing has changed: RTHEAP_NO_HEAP (the group is closed), RTHEAP_NO_WORKER (it has
-   none), RTHEAP_IN_USE (a worker's handle is open). */
+   commands that it was given, in their order. A command that had its effect before another was
+   started comes before it. Or, and nothing has changed: RTHEAP_NO_HEAP (the group is closed),
+   RTHEAP_NO_WORKER (it has none), RTHEAP_IN_USE (a worker's handle is open). */
 RTHEAP_CHECKED static inline rtheap_status rtheap_group_finish(rtheap_group *group,
                                                                uint64_t *cycles) {
     uint64_t told = 0;
