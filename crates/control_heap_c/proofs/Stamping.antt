@@ -10,7 +10,7 @@ use Rattle.control_heap_c.specs.declared.owned.Owned.{Owned}
 use Rattle.control_heap_c.specs.declared.shared.stamps.StampRefusal.{StampRefusal}
 use Rattle.control_heap_c.specs.declared.shared.stamps.StampRefusal.TheVariants as stamping
 
-the : WorkerState → Option WorkerState → WorkerState
+abbrev the : WorkerState → Option WorkerState → WorkerState
 the d None = d
 the d (Some w) = w
 
