@@ -17,7 +17,8 @@ use Rattle.live_tables.proofs.rows.Crews.{of_same}
 use Rattle.live_tables.proofs.tags.FewOperations.{few_leave_life}
 use Rattle.live_tables.proofs.tags.Opening.{can_open}
 use Rattle.plantrun_core.specs.declared.calls.Done.{Done}
-use Rattle.plantrun_core.specs.Logs.{AllStamped, HasAsked, IsLog, IsOfPlant, answer_of, operation_of}
+use Rattle.plantrun_core.specs.declared.hand.Hand.{Hand}
+use Rattle.plantrun_core.specs.Logs.{AllStamped, HasAsked, IsHandOf, IsLog, IsOfPlant, answer_of, operation_of}
 
 pub plant_same : (t : HeapState) (a b : TagWorkerState) → IsOfPlant t a → IsSameWorker a b
     → IsOfPlant t b
@@ -36,6 +37,14 @@ has_life t w log op is log_is few =
     (subst CanOpen (sym config)
     (can_open 48 4 record { few_tags = omega arith; some_thread = omega arith; few_threads = omega arith }))
     (omega (arith, ap length log_is.operations, length-map log operation_of, few))
+
+pub hand_same : (t : HeapState) (a b : Hand) → IsHandOf t a → b.who ≡ a.who → b.calls ≡ a.calls
+    → IsHandOf t b
+hand_same t a b is who calls = record {
+  of = subst (IsOfPlant t) (sym who) is.of;
+  log = subst (λ (w : TagWorkerState). IsLog w b.calls.items) (sym who)
+      (subst (λ v. IsLog a.who v.items) (sym calls) is.log);
+}
 
 -- a worker that has drawn its first stamp has an empty log
 pub first_log : (old new : TagWorkerState) (n : ℕ) → IsFresh old → HasDrawn old n new

@@ -1,5 +1,5 @@
 -- The four workers of a plant, what they leave, and how a plant ends.
-use Rattle.std.specs.Prelude.{ℕ, ◌+◌, ◌≡◌, ◌≤◌, [], ◌∷◌, map, List, Option, Some, None, IfSome}
+use Rattle.std.specs.Prelude.{ℕ, ◌+◌, ◌≡◌, ◌<◌, ◌≤◌, [], ◌∷◌, map, List, Option, Some, None, IfSome}
 use Rattle.std.specs.List.{AllByRecursion}
 use Rattle.std.specs.Vec.{vec_capacity}
 use Rattle.shared_heap.specs.Shared.{stamps_in}
@@ -10,12 +10,13 @@ use Rattle.plantrun_core.specs.declared.calls.Logs.{Logs}
 use Rattle.plantrun_core.specs.declared.crew.Crew.{Crew}
 use Rattle.plantrun_core.specs.declared.crew.Ends.{Ends}
 use Rattle.plantrun_core.specs.declared.crew.Works.{Works}
+use Rattle.plantrun_core.specs.declared.hand.Hand.{Hand}
 use Rattle.plantrun_core.specs.declared.readings.Reading.{Reading}
 use Rattle.plantrun_core.specs.declared.roles.Role.{Role}
 use Rattle.plantrun_core.specs.declared.roles.Role.TheVariants.{Alarms, History}
 use Rattle.plantrun_core.specs.declared.stops.Stop.{Stop}
 use Rattle.plantrun_core.specs.declared.stops.Stop.TheVariants as stops
-use Rattle.plantrun_core.specs.Logs.{IsLog, IsOfPlant, operation_of}
+use Rattle.plantrun_core.specs.Logs.{IsHandOf, IsLog, operation_of}
 use Rattle.plantrun_core.specs.Orders.{IsPlainOrder, KeepsStamps}
 use Rattle.plantrun_core.specs.Readings.{IsTaken, IsBadAt, HasTooMany, FailsBehind, puts, room}
 use Rattle.plantrun_core.specs.Roles.{AfterTicks, closed}
@@ -25,12 +26,16 @@ use Rattle.plantrun_core.specs.Works.{HasGone, HasKeptAll, IsAtWork, first_of, m
 abbrev pub IsWorker : HeapState → ℕ → TagWorkerState → Type 0
 IsWorker table t w = IsOf table w × (thread_of w ≡ t)
 
--- the workers of all four threads
+-- the worker of thread t of the table of a plant, with its log
+abbrev pub IsHandAt : HeapState → ℕ → Hand → Type 0
+IsHandAt table t h = IsHandOf table h × (thread_of h.who ≡ t)
+
+-- the workers of all four threads, with their logs
 pub record IsCrew (table : HeapState) (c : Crew) : Type 0 where
-  pub input : IsWorker table 0 c.input.who
-  pub control : IsWorker table 1 c.control.who
-  pub alarms : IsWorker table 2 c.alarms.who
-  pub history : IsWorker table 3 c.history.who
+  pub input : IsHandAt table 0 c.input
+  pub control : IsHandAt table 1 c.control
+  pub alarms : IsHandAt table 2 c.alarms
+  pub history : IsHandAt table 3 c.history
 
 -- a crew that has done nothing, with room in its logs for so many ticks
 pub record IsNew (ticks : ℕ) (c : Crew) : Type 0 where
@@ -102,9 +107,9 @@ pub record AreAtWork (count : ℕ) (w : Works) : Type 0 where
   pub history : IsAtWork count w.history
 
 pub record AreOfTable (table : HeapState) (w : Works) : Type 0 where
-  pub control : IsOfPlant table w.control.hand.who
-  pub alarms : IsOfPlant table w.alarms.hand.who
-  pub history : IsOfPlant table w.history.hand.who
+  pub control : IsHandOf table w.control.hand
+  pub alarms : IsHandOf table w.alarms.hand
+  pub history : IsHandOf table w.history.hand
 
 -- the threads at ticks when each has ended or was halted
 pub record HaveEnded (ticks : ℕ) (w : Works) : Type 0 where
@@ -116,10 +121,10 @@ pub record HaveEnded (ticks : ℕ) (w : Works) : Type 0 where
 
 -- the workers of the threads
 pub record AreTheirs (table : HeapState) (e : Ends) : Type 0 where
-  pub input : IsWorker table 0 e.input.who
-  pub control : IsWorker table 1 e.works.control.hand.who
-  pub alarms : IsWorker table 2 e.works.alarms.hand.who
-  pub history : IsWorker table 3 e.works.history.hand.who
+  pub input : IsHandAt table 0 e.input
+  pub control : IsHandAt table 1 e.works.control.hand
+  pub alarms : IsHandAt table 2 e.works.alarms.hand
+  pub history : IsHandAt table 3 e.works.history.hand
 
 -- these are the logs of a crew
 pub record HasLogs (c : Crew) (l : Logs) : Type 0 where

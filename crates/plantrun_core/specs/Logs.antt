@@ -10,6 +10,7 @@ use Rattle.live_tables.specs.tags.Live.{HasDone, TagWorkerState, opened_config, 
 use Rattle.live_tables.specs.rows.Workers.{HasDrawn, HasSeenAll, IsOf, thread_of}
 use Rattle.plantrun_core.specs.declared.calls.Done.{Done}
 use Rattle.plantrun_core.specs.declared.calls.Step.{Step}
+use Rattle.plantrun_core.specs.declared.hand.Hand.{Hand}
 
 abbrev pub operation_of : Done → Operation
 operation_of d = d.operation
@@ -47,6 +48,11 @@ pub record IsLog (w : TagWorkerState) (log : List Done) : Type 0 where
 -- a worker of the table of a plant
 abbrev pub IsOfPlant : HeapState → TagWorkerState → Type 0
 IsOfPlant table w = IsOf table w × (table.config ≡ opened_config 4 48)
+
+-- a worker of the table of a plant, with its log
+pub record IsHandOf (table : HeapState) (h : Hand) : Type 0 where
+  pub of : IsOfPlant table h.who
+  pub log : IsLog h.who h.calls.items
 
 -- the worker did this operation, and then drew its stamp
 pub record HasAsked (old : TagWorkerState) (d : Done) (new : TagWorkerState) : Type 0 where

@@ -5,8 +5,8 @@ ghost use Rattle.std.specs.Prelude.{ℕ, List, Option, ◌≡◌, ◌+◌, ◌�
 ghost use Rattle.std.specs.Vec.{vec_capacity};
 ghost use Rattle.live_tables.specs.tags.Live.{HaveOneTable, opened_config};
 ghost use Rattle.live_tables.specs.rows.Workers.{AreFresh, AreInOrder, IsFresh, IsOf, IsSameWorker};
-ghost use Rattle.plantrun_core.specs.Crews.{AreAtWork, AreOfTable, AreTheirs, HasLogs, HaveEnded, HaveGone, IsCrew, IsGone, IsNew, IsPlantOf, IsWorker};
-ghost use Rattle.plantrun_core.specs.Logs.{IsOfPlant};
+ghost use Rattle.plantrun_core.specs.Crews.{AreAtWork, AreOfTable, AreTheirs, HasLogs, HaveEnded, HaveGone, IsCrew, IsGone, IsHandAt, IsNew, IsPlantOf, IsWorker};
+ghost use Rattle.plantrun_core.specs.Logs.{IsHandOf};
 ghost use Rattle.plantrun_core.specs.Readings.{room};
 ghost use Rattle.plantrun_core.specs.Roles.{IsFine};
 ghost use Rattle.plantrun_core.specs.Works.{CountsInput, HasGone, HasInput, IsAtWork, first_of, most_in};
@@ -72,9 +72,10 @@ pub struct Closed {
 
 /// A worker that has done nothing, with room in its log for so many operations.
 fn hand_of(alloc: Global, table: &LiveTags, thread: u32, who: TagWorker, most: u64) -> Option<Hand>
+    requires config { table.now.config ≡ opened_config 4 48 }
     requires own { IsWorker table.now thread who }
     requires fresh { IsFresh who }
-    ensures worker { IfSome result (λ h. IsWorker table.now thread h.who) }
+    ensures worker { IfSome result (λ h. IsHandAt table.now thread h) }
     ensures none { IfSome result (λ h. h.calls.items ≡ []) }
     ensures room { IfSome result (λ h. most ≤ vec_capacity h.calls) }
 {
@@ -187,10 +188,11 @@ fn before_ticks(hand: Hand, role: Role, _ticks: u64) -> Work
 
 /// Runs a thread until it ends or is halted.
 fn shift<R: Wait + Clock>(rt: &R, table: &LiveTags, ticks: Ticks, halt: &AtomicU64, work: &mut Work)
-    requires own { IsOfPlant table.now work.old.hand.who }
+    requires own { IsHandOf table.now work.old.hand }
     requires count { ticks.count ≤ 1048576 }
     requires work { IsAtWork ticks.count work.old }
-    ensures { HasGone ticks.count work.old work.new }
+    ensures own { IsHandOf table.now work.new.hand }
+    ensures gone { HasGone ticks.count work.old work.new }
 {
     works(rt, table, ticks, Some(halt), work);
 }
@@ -204,10 +206,10 @@ fn both<R: Threads + Wait + Clock + Sync>(
     alarms: &mut Work,
     history: &mut Work,
 )
-    requires own { IsOfPlant table.now alarms.old.hand.who
-        × IsOfPlant table.now history.old.hand.who }
+    requires own { IsHandOf table.now alarms.old.hand × IsHandOf table.now history.old.hand }
     requires count { ticks.count ≤ 1048576 }
     requires at { IsAtWork ticks.count alarms.old × IsAtWork ticks.count history.old }
+    ensures own { IsHandOf table.now alarms.new.hand × IsHandOf table.now history.new.hand }
     ensures alarms { HasGone ticks.count alarms.old alarms.new }
     ensures history { HasGone ticks.count history.old history.new }
 {
@@ -229,7 +231,8 @@ fn at_ticks<R: Threads + Wait + Clock + Sync>(
     requires own { AreOfTable table.now works.old }
     requires count { ticks.count ≤ 1048576 }
     requires at { AreAtWork ticks.count works.old }
-    ensures { HaveGone ticks.count works.old works.new }
+    ensures own { AreOfTable table.now works.new }
+    ensures gone { HaveGone ticks.count works.old works.new }
 {
     let Works {
         control,
@@ -240,8 +243,7 @@ fn at_ticks<R: Threads + Wait + Clock + Sync>(
         rt,
         &mut || shift(rt, table, ticks, halt, control),
         &mut ||
-            requires { (IsOfPlant table.now alarms.now.hand.who
-                × IsOfPlant table.now history.now.hand.who)
+            requires { (IsHandOf table.now alarms.now.hand × IsHandOf table.now history.now.hand)
                 × (ticks.count ≤ 1048576)
                 × (IsAtWork ticks.count alarms.now × IsAtWork ticks.count history.now) }
         { both(rt, table, ticks, halt, alarms, history) },
@@ -259,11 +261,12 @@ fn together<R: Threads + Wait + Clock + Sync, S: Source>(
     input: &mut Hand,
 ) -> Option<Stop>
     requires own { AreOfTable table.now works.old }
-    requires input { IsOfPlant table.now input.old.who }
+    requires input { IsHandOf table.now input.old }
     requires count { ticks.count ≤ 1048576 }
     requires at { AreAtWork ticks.count works.old }
     requires fresh { input.old.calls.items ≡ [] }
     requires room { room ticks.count ≤ vec_capacity input.old.calls }
+    ensures own { AreOfTable table.now works.new × IsHandOf table.now input.new }
     ensures works { HaveGone ticks.count works.old works.new }
     ensures same { IsSameWorker input.old.who input.new.who }
     ensures input { HasInput ticks.count (S.left source.old) (S.left source.new) input.new result }
@@ -361,9 +364,10 @@ pub(crate) fn finished<R: Wait + Clock>(rt: &R, table: &LiveTags, ticks: Ticks, 
 
 /// Lets a thread do what is left of its ticks.
 fn finishes<R: Wait + Clock>(rt: &R, table: &LiveTags, ticks: Ticks, work: Work) -> Work
-    requires own { IsOfPlant table.now work.hand.who }
+    requires own { IsHandOf table.now work.hand }
     requires count { ticks.count ≤ 1048576 }
     requires work { IsAtWork ticks.count work }
+    ensures own { IsHandOf table.now result.hand }
     ensures gone { HasGone ticks.count work result }
     ensures whole { result.ticks ≡ ticks.count }
 {

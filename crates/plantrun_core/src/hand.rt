@@ -1,11 +1,12 @@
 //! A worker of the table with a log of what it did.
 
-ghost use Rattle.std.specs.Prelude.{◌≡◌, ◌<◌, ◌^◌, ◌×◌, length, IfErr, IfOk, OnErr, OnOk};
+ghost use Rattle.std.specs.Prelude.{◌≡◌, ◌<◌, ◌^◌, length, IfErr, IfOk, OnErr, OnOk};
 ghost use Rattle.std.specs.Vec.{vec_capacity};
 ghost use Rattle.array_tables.specs.tag_table.Tables.{IsOperationInRange};
 ghost use Rattle.live_tables.specs.tags.Live.{CanDo, HasDone, HasLife, IsRefused};
 ghost use Rattle.live_tables.specs.rows.Workers.{HasDrawn, IsOf, IsSameWorker, places_of};
-ghost use Rattle.plantrun_core.specs.Logs.{HasAsked, HasLogged, IsLog, IsOfPlant};
+ghost use Rattle.shared_heap.specs.Workers.{HeapState};
+ghost use Rattle.plantrun_core.specs.Logs.{HasAsked, HasLogged, IsHandOf};
 
 use crate::calls::Done;
 use crate::clock::nanoseconds;
@@ -21,7 +22,6 @@ pub(crate) struct Hand {
     pub(crate) who: TagWorker,
     pub(crate) calls: Vec<Done>,
     pub(crate) figures: Figures,
-    pub(crate) ghost log: { IsLog who calls.items },
 }
 
 /// Asks the table to do an operation.
@@ -87,10 +87,11 @@ impl Hand {
         table: &LiveTags,
         op: Operation,
     ) -> Option<(u64, u64)>
-        requires own { IsOfPlant table.now self.old.who }
+        requires own { IsHandOf table.now self.old }
         requires range { IsOperationInRange 48 op }
         requires few { length self.old.calls.items < 2 ^ 24 }
         requires room { length self.old.calls.items < vec_capacity self.old.calls }
+        ensures own { IsHandOf table.now self.new }
         ensures same { IsSameWorker self.old.who self.new.who }
         ensures capacity { vec_capacity self.new.calls ≡ vec_capacity self.old.calls }
         ensures did { HasLogged op result self.old.calls.items self.new.calls.items }
@@ -107,6 +108,7 @@ impl Hand {
     pub(crate) fn counts(&mut self, now: u64, next: u64)
         ensures who { self.new.who ≡ self.old.who }
         ensures calls { self.new.calls ≡ self.old.calls }
+        ensures own { (t : HeapState) → IsHandOf t self.old → IsHandOf t self.new }
     {
         self.figures.end(now, next);
     }

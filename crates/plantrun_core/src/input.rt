@@ -4,7 +4,7 @@
 ghost use Rattle.std.specs.Prelude.{◌≡◌, ◌≤◌, ◌<◌, ◌+◌, ◌∷◌, ◌++◌, ◌^◌, [], length, map};
 ghost use Rattle.std.specs.Vec.{vec_capacity};
 ghost use Rattle.live_tables.specs.rows.Workers.{IsSameWorker};
-ghost use Rattle.plantrun_core.specs.Logs.{IsOfPlant, operation_of};
+ghost use Rattle.plantrun_core.specs.Logs.{IsHandOf, operation_of};
 ghost use Rattle.plantrun_core.specs.Readings.{puts, room};
 ghost use Rattle.plantrun_core.specs.Works.{CountsInput, HasInput};
 
@@ -23,12 +23,13 @@ use trace_text::Source;
 /// Writes a reading, that of the line of this number from 1, into its tag. The word of the tag tells
 /// the line.
 fn put<R: Wait + Clock>(rt: &R, table: &LiveTags, hand: &mut Hand, reading: Reading, number: u64)
-    requires own { IsOfPlant table.now hand.old.who }
+    requires own { IsHandOf table.now hand.old }
     requires tag { reading.tag < INPUTS }
     requires value { reading.value < 2 ^ 32 }
     requires number { number < 2 ^ 32 }
     requires few { length hand.old.calls.items < 2 ^ 24 }
     requires room { length hand.old.calls.items < vec_capacity hand.old.calls }
+    ensures own { IsHandOf table.now hand.new }
     ensures same { IsSameWorker hand.old.who hand.new.who }
     ensures capacity { vec_capacity hand.new.calls ≡ vec_capacity hand.old.calls }
     ensures did { map operation_of hand.new.calls.items
@@ -53,10 +54,11 @@ fn reads<R: Wait + Clock, S: Source>(
     source: &mut S,
     hand: &mut Hand,
 ) -> Option<Stop>
-    requires own { IsOfPlant table.now hand.old.who }
+    requires own { IsHandOf table.now hand.old }
     requires count { ticks.count ≤ 1048576 }
     requires fresh { hand.old.calls.items ≡ [] }
     requires room { room ticks.count ≤ vec_capacity hand.old.calls }
+    ensures own { IsHandOf table.now hand.new }
     ensures same { IsSameWorker hand.old.who hand.new.who }
     ensures input { HasInput ticks.count (S.left source.old) (S.left source.new) hand.new result }
     ensures counted { CountsInput (S.faults source.old) (S.faults source.new) result }
@@ -88,10 +90,11 @@ pub(crate) fn reads_or_halts<R: Wait + Clock, S: Source>(
     source: &mut S,
     hand: &mut Hand,
 ) -> Option<Stop>
-    requires own { IsOfPlant table.now hand.old.who }
+    requires own { IsHandOf table.now hand.old }
     requires count { ticks.count ≤ 1048576 }
     requires fresh { hand.old.calls.items ≡ [] }
     requires room { room ticks.count ≤ vec_capacity hand.old.calls }
+    ensures own { IsHandOf table.now hand.new }
     ensures same { IsSameWorker hand.old.who hand.new.who }
     ensures input { HasInput ticks.count (S.left source.old) (S.left source.new) hand.new result }
     ensures counted { CountsInput (S.faults source.old) (S.faults source.new) result }

@@ -5,7 +5,7 @@ ghost use Rattle.std.specs.Prelude.{◌≡◌, ◌≤◌, ◌<◌, ◌+◌, ◌^
 ghost use Rattle.std.specs.Vec.{vec_capacity};
 ghost use Rattle.live_tables.specs.rows.Workers.{IsSameWorker};
 ghost use Rattle.plantrun_core.specs.Roles.{HasControlled, HasKept, HasScanned, HasScannedTo, HasRecorded, HasTicked, HasWatched, IsFine};
-ghost use Rattle.plantrun_core.specs.Logs.{IsOfPlant};
+ghost use Rattle.plantrun_core.specs.Logs.{IsHandOf};
 ghost use Rattle.plantrun_core.specs.Works.{at_scan, most_at};
 
 use crate::alarms::{Limits, act_of, limits_of, move_of};
@@ -28,12 +28,13 @@ fn control<R: Wait + Clock>(
     before: Loop,
     tick: u64,
 ) -> Loop
-    requires own { IsOfPlant table.now hand.old.who }
+    requires own { IsHandOf table.now hand.old }
     requires tick { tick < 1048576 }
     requires integral { before.integral ≤ 16384000 }
     requires output { before.output ≤ 1000 }
     requires few { length hand.old.calls.items + 3 ≤ 2 ^ 24 }
     requires room { length hand.old.calls.items + 3 ≤ vec_capacity hand.old.calls }
+    ensures own { IsHandOf table.now hand.new }
     ensures same { IsSameWorker hand.old.who hand.new.who }
     ensures capacity { vec_capacity hand.new.calls ≡ vec_capacity hand.old.calls }
     ensures integral { result.integral ≤ 16384000 }
@@ -55,10 +56,11 @@ fn control<R: Wait + Clock>(
 
 /// Looks at an alarm, and changes the list where it is to be changed.
 fn scan<R: Wait + Clock>(rt: &R, table: &LiveTags, hand: &mut Hand, limits: &Limits, alarm: u32)
-    requires own { IsOfPlant table.now hand.old.who }
+    requires own { IsHandOf table.now hand.old }
     requires alarm { alarm < ALARMS }
     requires few { length hand.old.calls.items + 4 ≤ 2 ^ 24 }
     requires room { length hand.old.calls.items + 4 ≤ vec_capacity hand.old.calls }
+    ensures own { IsHandOf table.now hand.new }
     ensures same { IsSameWorker hand.old.who hand.new.who }
     ensures capacity { vec_capacity hand.new.calls ≡ vec_capacity hand.old.calls }
     ensures did { HasScanned limits.now alarm hand.old.calls.items hand.new.calls.items }
@@ -88,9 +90,10 @@ fn scan<R: Wait + Clock>(rt: &R, table: &LiveTags, hand: &mut Hand, limits: &Lim
 
 /// Looks at all alarms.
 fn scan_all<R: Wait + Clock>(rt: &R, table: &LiveTags, hand: &mut Hand)
-    requires own { IsOfPlant table.now hand.old.who }
+    requires own { IsHandOf table.now hand.old }
     requires few { length hand.old.calls.items + 16 ≤ 2 ^ 24 }
     requires room { length hand.old.calls.items + 16 ≤ vec_capacity hand.old.calls }
+    ensures own { IsHandOf table.now hand.new }
     ensures same { IsSameWorker hand.old.who hand.new.who }
     ensures capacity { vec_capacity hand.new.calls ≡ vec_capacity hand.old.calls }
     ensures did { HasScannedTo 4 hand.old.calls.items hand.new.calls.items }
@@ -102,9 +105,10 @@ fn scan_all<R: Wait + Clock>(rt: &R, table: &LiveTags, hand: &mut Hand)
 
 /// Puts the measured tag into a place of the ring, where there is one.
 fn keep<R: Wait + Clock>(rt: &R, table: &LiveTags, hand: &mut Hand, number: u64)
-    requires own { IsOfPlant table.now hand.old.who }
+    requires own { IsHandOf table.now hand.old }
     requires few { length hand.old.calls.items + 2 ≤ 2 ^ 24 }
     requires room { length hand.old.calls.items + 2 ≤ vec_capacity hand.old.calls }
+    ensures own { IsHandOf table.now hand.new }
     ensures same { IsSameWorker hand.old.who hand.new.who }
     ensures capacity { vec_capacity hand.new.calls ≡ vec_capacity hand.old.calls }
     ensures did { HasKept number hand.old.calls.items hand.new.calls.items }
@@ -122,9 +126,10 @@ fn keep<R: Wait + Clock>(rt: &R, table: &LiveTags, hand: &mut Hand, number: u64)
 
 /// Looks at all alarms, if it is time for it.
 fn watch<R: Wait + Clock>(rt: &R, table: &LiveTags, hand: &mut Hand, due: bool)
-    requires own { IsOfPlant table.now hand.old.who }
+    requires own { IsHandOf table.now hand.old }
     requires few { length hand.old.calls.items + at_scan due 16 ≤ 2 ^ 24 }
     requires room { length hand.old.calls.items + at_scan due 16 ≤ vec_capacity hand.old.calls }
+    ensures own { IsHandOf table.now hand.new }
     ensures same { IsSameWorker hand.old.who hand.new.who }
     ensures capacity { vec_capacity hand.new.calls ≡ vec_capacity hand.old.calls }
     ensures did { HasWatched due hand.old.calls.items hand.new.calls.items }
@@ -136,9 +141,10 @@ fn watch<R: Wait + Clock>(rt: &R, table: &LiveTags, hand: &mut Hand, due: bool)
 
 /// Keeps a reading with this number, if it is time for it.
 fn kept<R: Wait + Clock>(rt: &R, table: &LiveTags, hand: &mut Hand, number: u64, due: bool)
-    requires own { IsOfPlant table.now hand.old.who }
+    requires own { IsHandOf table.now hand.old }
     requires few { length hand.old.calls.items + at_scan due 2 ≤ 2 ^ 24 }
     requires room { length hand.old.calls.items + at_scan due 2 ≤ vec_capacity hand.old.calls }
+    ensures own { IsHandOf table.now hand.new }
     ensures same { IsSameWorker hand.old.who hand.new.who }
     ensures capacity { vec_capacity hand.new.calls ≡ vec_capacity hand.old.calls }
     ensures did { HasRecorded due number hand.old.calls.items hand.new.calls.items }
@@ -165,11 +171,12 @@ impl Role {
         hand: &mut Hand,
         tick: u64,
     ) -> Role
-        requires own { IsOfPlant table.now hand.old.who }
+        requires own { IsHandOf table.now hand.old }
         requires tick { tick < 1048576 }
         requires fine { IsFine self }
         requires few { length hand.old.calls.items + most_at self tick ≤ 2 ^ 24 }
         requires room { length hand.old.calls.items + most_at self tick ≤ vec_capacity hand.old.calls }
+        ensures own { IsHandOf table.now hand.new }
         ensures same { IsSameWorker hand.old.who hand.new.who }
         ensures capacity { vec_capacity hand.new.calls ≡ vec_capacity hand.old.calls }
         ensures fine { IsFine result }

@@ -5,7 +5,7 @@ ghost use Rattle.std.specs.Prelude.{◌≡◌, ◌≤◌, ◌<◌, ◌+◌, IsNo
 ghost use Rattle.std.specs.Vec.{vec_capacity};
 ghost use Rattle.plantrun_core.specs.declared.roles.Role.TheVariants.{History};
 ghost use Rattle.live_tables.specs.rows.Workers.{IsSameWorker};
-ghost use Rattle.plantrun_core.specs.Logs.{IsOfPlant};
+ghost use Rattle.plantrun_core.specs.Logs.{IsHandOf};
 ghost use Rattle.plantrun_core.specs.Works.{HasGone, HasKeptAll, IsAtWork, first_of, most_in};
 
 use crate::clock::{Ticks, nanoseconds};
@@ -31,10 +31,11 @@ pub(crate) struct Work {
 impl Work {
     /// Does what is due at the next tick.
     fn tick<R: Wait + Clock>(&mut self, rt: &R, table: &LiveTags, ticks: Ticks)
-        requires own { IsOfPlant table.now self.old.hand.who }
+        requires own { IsHandOf table.now self.old.hand }
         requires count { ticks.count ≤ 1048576 }
         requires more { self.old.ticks < ticks.count }
         requires work { IsAtWork ticks.count self.old }
+        ensures own { IsHandOf table.now self.new.hand }
         ensures gone { HasGone ticks.count self.old self.new }
         ensures one { self.new.ticks ≡ self.old.ticks + 1 }
     {
@@ -62,9 +63,10 @@ pub(crate) fn works<R: Wait + Clock>(
     halt: Option<&AtomicU64>,
     work: &mut Work,
 )
-    requires own { IsOfPlant table.now work.old.hand.who }
+    requires own { IsHandOf table.now work.old.hand }
     requires count { ticks.count ≤ 1048576 }
     requires work { IsAtWork ticks.count work.old }
+    ensures own { IsHandOf table.now work.new.hand }
     ensures gone { HasGone ticks.count work.old work.new }
     ensures whole { IsNone halt.entry → work.new.ticks ≡ ticks.count }
 {
@@ -79,12 +81,13 @@ pub(crate) fn works<R: Wait + Clock>(
 
 /// Reads all places of the ring, in the order of places, once the history did all its ticks.
 pub(crate) fn rereads<R: Wait + Clock>(rt: &R, table: &LiveTags, count: u64, work: Work) -> Hand
-    requires own { IsOfPlant table.now work.hand.who }
+    requires own { IsHandOf table.now work.hand }
     requires count { count ≤ 1048576 }
     requires work { IsAtWork count work }
     requires history { first_of work.role ≡ History }
     requires whole { work.ticks ≡ count }
     requires room { most_in History count + RING ≤ vec_capacity work.hand.calls }
+    ensures own { IsHandOf table.now result }
     ensures same { IsSameWorker work.hand.who result.who }
     ensures kept { HasKeptAll count result.calls.items }
 {
