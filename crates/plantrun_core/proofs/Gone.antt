@@ -3,9 +3,7 @@ use Rattle.std.proofs.Common.{◌≡◌, ℕ, ◌+◌, ◌≤◌, List, map, Opt
 use Rattle.std.specs.Prelude.{IsSome, IsNone}
 use Rattle.std.specs.Vec.{vec_capacity}
 use Rattle.shared_heap.specs.Workers.{HeapState}
-use Rattle.live_tables.specs.tags.Live.{TagWorkerState}
-use Rattle.live_tables.specs.rows.Workers.{IsSameWorker}
-use Rattle.live_tables.proofs.rows.Crews.{of_same}
+use Rattle.live_tables.specs.rows.Workers.{thread_of}
 use Rattle.plantrun_core.specs.declared.calls.Done.{Done}
 use Rattle.plantrun_core.specs.declared.calls.Logs.{Logs}
 use Rattle.plantrun_core.specs.declared.crew.Crew.{Crew}
@@ -17,15 +15,11 @@ use Rattle.plantrun_core.specs.declared.roles.Role.TheVariants.{Control, Alarms,
 use Rattle.plantrun_core.specs.declared.stops.Stop.{Stop}
 use Rattle.plantrun_core.specs.declared.stops.Stop.TheVariants as stops
 use Rattle.plantrun_core.specs.declared.work.Work.{Work}
-use Rattle.plantrun_core.specs.Crews.{CrewHasWorked, HasLogs, HaveEnded, HaveGone, HaveWorked, IsGone, IsStop, IsWorker}
-use Rattle.plantrun_core.specs.Logs.{operation_of}
+use Rattle.plantrun_core.specs.Crews.{CrewHasWorked, HasLogs, HaveEnded, HaveGone, HaveWorked, IsGone, IsHandAt, IsStop}
+use Rattle.plantrun_core.specs.Logs.{IsHandOf, operation_of}
 use Rattle.plantrun_core.specs.Readings.{CountsRead}
 use Rattle.plantrun_core.specs.Roles.{AfterTicks, closed}
 use Rattle.plantrun_core.specs.Works.{CountsInput, HasGone, HasInput, HasKeptAll, first_of, most_in}
-
-pub worker_on : (table : HeapState) (t : ℕ) (a b : TagWorkerState) → IsWorker table t a
-    → IsSameWorker a b → IsWorker table t b
-worker_on table t a b is same = (of_same table a b is.0 same, same.thread ∙ is.1)
 
 -- the ticks of a thread that is through
 pub through : (count : ℕ) (old new : Work) (first : Role) → HasGone count old new
@@ -53,11 +47,10 @@ have_ended ticks old new l gone control alarms history room = record {
 }
 
 pub theirs_on : (table : HeapState) (t count : ℕ) (hand : Hand) (old new : Work)
-    → old.hand ≡ hand → IsWorker table t hand.who → HasGone count old new
-    → IsWorker table t new.hand.who
-theirs_on table t count hand old new same is gone =
-    worker_on table t old.hand.who new.hand.who
-    (subst (λ (h : Hand). IsWorker table t h.who) (sym same) is) gone.same
+    → old.hand ≡ hand → IsHandAt table t hand → IsHandOf table new.hand → HasGone count old new
+    → IsHandAt table t new.hand
+theirs_on table t count hand old new same is own gone =
+    (own, gone.same.thread ∙ ap (λ (h : Hand). thread_of h.who) same ∙ is.1)
 
 -- where the input stopped
 pub halted_gone : (ticks : ℕ) (all left : Option (List ℕ)) (c : Crew) (hand : Hand)

@@ -141,7 +141,6 @@ pub read_stop : (ticks : ℕ) (all left new : Option (List ℕ)) (rs : List Read
     → IsInputEnd ticks all new hand rs (Some stop)
 read_stop ticks all left new rs number stops.TooMany hand a b few same counts read next =
     absurd counts
-    absurd counts
 read_stop ticks all left new rs number stops.NoMemory hand a b few same counts read next =
     absurd counts
 read_stop ticks None left new rs number (stops.BadLine k) hand a b few same counts read next = tt

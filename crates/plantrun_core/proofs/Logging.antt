@@ -8,7 +8,9 @@ use Rattle.shared_heap.specs.declared.rules.Moment.{Moment}
 use Rattle.shared_heap.specs.declared.rules.Moment.TheVariants as moments
 use Rattle.shared_heap.specs.Shared.{IsStartOf}
 use Rattle.shared_heap.specs.Workers.{CanOpen, HeapState}
+use Rattle.shared_heap.proofs.Stamps.{drawn_same}
 use Rattle.shared_heap.proofs.Views.{starts_on}
+use Rattle.live_tables.specs.rows.Rows.{IsRowHeap}
 use Rattle.live_tables.specs.rows.Stamped.{IsStampAfter}
 use Rattle.live_tables.specs.tags.Live.{HasLife, TagWorkerState, opened_config, tags}
 use Rattle.live_tables.specs.rows.Workers.{HasDrawn, HasSeenAll, IsFresh, IsOf, IsSameWorker, places_of, thread_of}
@@ -18,6 +20,7 @@ use Rattle.live_tables.proofs.tags.FewOperations.{few_leave_life}
 use Rattle.live_tables.proofs.tags.Opening.{can_open}
 use Rattle.plantrun_core.specs.declared.calls.Done.{Done}
 use Rattle.plantrun_core.specs.declared.hand.Hand.{Hand}
+use Rattle.plantrun_core.specs.Crews.{IsHandAt, IsWorker}
 use Rattle.plantrun_core.specs.Logs.{AllStamped, HasAsked, IsHandOf, IsLog, IsOfPlant, answer_of, operation_of}
 
 pub plant_same : (t : HeapState) (a b : TagWorkerState) → IsOfPlant t a → IsSameWorker a b
@@ -27,13 +30,16 @@ plant_same t a b is same = (of_same t a b is.0 same, is.1)
 pub places_in : (t : HeapState) (w : TagWorkerState) → IsOfPlant t w → places_of w ≡ 48
 places_in t w is = ap (λ (c : Config). c.shared) (is.0.1 ∙ is.1)
 
+opened : IsRowHeap tags (opened_config 4 48)
+opened = refl
+
 -- a worker with a log that is not too long has life left
 pub has_life : (t : HeapState) (w : TagWorkerState) (log : List Done) (op : Operation)
     → IsOfPlant t w → IsLog w log → length log < 2 ^ 24 → HasLife w op
 has_life t w log op is log_is few =
     let config : w.worker.thread.config ≡ opened_config 4 48 = is.0.1 ∙ is.1 in
     few_leave_life w op log_is.sound log_is.seen
-    (subst (λ (c : Config). c ≡ opened_config c.threads c.shared) (sym config) refl)
+    (subst (IsRowHeap tags) (sym config) opened)
     (subst CanOpen (sym config)
     (can_open 48 4 record { few_tags = omega arith; some_thread = omega arith; few_threads = omega arith }))
     (omega (arith, ap length log_is.operations, length-map log operation_of, few))
@@ -56,6 +62,19 @@ first_log old new n fresh drew all = record {
   sound = drew.drawn.sound;
   seen = all;
 }
+
+-- and is of its table
+pub first_hand : (table : HeapState) (t n : ℕ) (old : TagWorkerState) (h : Hand)
+    → table.config ≡ opened_config 4 48 → IsWorker table t old → IsFresh old
+    → HasDrawn old n h.who → HasSeenAll tags h.who → h.calls.items ≡ [] → IsHandAt table t h
+first_hand table t n old h config is fresh drew all none =
+    let same : IsSameWorker old h.who = drawn_same old.worker h.who.worker n drew.drawn in (
+      record {
+        of = plant_same table old h.who (is.0, config) same;
+        log = subst (IsLog h.who) (sym none) (first_log old h.who n fresh drew all);
+      },
+      same.thread ∙ is.1,
+    )
 
 stamps_later : (timeline more : List Moment) (t : ℕ) (before : List Operation) (log : List Done)
     → IsStartOf timeline more → AllStamped timeline t before log → AllStamped more t before log

@@ -1,5 +1,5 @@
 -- The log of a role after its ticks: how long it is, and that its operations are at home.
-use Rattle.std.proofs.Common.{◌≡◌, ℕ, zero, suc, ◌+◌, ◌*◌, ◌/◌, ◌%◌, ◌<◌, ◌≤◌, ◌==◌, Bool, true, false, inl, inr, List, [], ◌∷◌, ◌++◌, length, length-append, Option, Some, None, Result, Ok, Err, IfOk, OnOk, sym, refl, ap, ◌∙◌, subst, eq-eqb, ne_eqb, arith}
+use Rattle.std.proofs.Common.{◌≡◌, ℕ, zero, suc, ◌+◌, ◌*◌, ◌/◌, ◌%◌, ◌<◌, ◌≤◌, ◌^◌, ◌==◌, Bool, true, false, inl, inr, List, [], ◌∷◌, ◌++◌, length, length-append, append_assoc, Option, Some, None, Result, Ok, Err, IfOk, OnOk, sym, refl, ap, ◌∙◌, subst, eq-eqb, ne_eqb, arith}
 use Rattle.std.proofs.Math.Numerals.{add-one}
 use Rattle.std.proofs.lemmas.Bool.{cases_eq}
 use Rattle.std.specs.Result.{is_err}
@@ -8,14 +8,16 @@ use Rattle.live_tables.specs.rows.Workers.{IsSameWorker}
 use Rattle.live_tables.proofs.rows.Crews.{same_first, same_then}
 use Rattle.array_tables.specs.tag_table.Tables.{Tag}
 use Rattle.array_tables.specs.declared.tag_table.operation.Operation.{Operation}
-use Rattle.array_tables.specs.declared.tag_table.operation.Operation.TheVariants.{Read}
+use Rattle.array_tables.specs.declared.tag_table.operation.Operation.TheVariants.{Read, Write}
 use Rattle.plantrun_core.specs.declared.alarms.Limits.{Limits}
 use Rattle.plantrun_core.specs.declared.calls.Done.{Done}
+use Rattle.plantrun_core.specs.declared.law.Loop.{Loop}
 use Rattle.plantrun_core.specs.declared.roles.Role.{Role}
 use Rattle.plantrun_core.specs.declared.roles.Role.TheVariants.{Control, Alarms, History}
 use Rattle.plantrun_core.specs.declared.work.Work.{Work}
 use Rattle.plantrun_core.specs.Alarms.{act_of, move_of}
-use Rattle.plantrun_core.specs.Roles.{AfterTicks, HasKept, HasRecorded, HasReread, HasScanned, HasScannedTo, HasTicked, HasWatched, IsFine, acted, did, limits_of, put_in_ring}
+use Rattle.plantrun_core.specs.Roles.{AfterTicks, HasControlled, HasKept, HasRecorded, HasReread, HasScanned, HasScannedTo, HasTicked, HasWatched, IsFine, acted, are_there, did, limits_of, put_in_ring, word}
+use Rattle.plantrun_core.specs.Laws.{loop_after, value_of}
 use Rattle.plantrun_core.specs.Logs.{HasLogged}
 use Rattle.plantrun_core.specs.Works.{HasGone, IsAtWork, at_scan, first_of, most_at, most_in}
 
@@ -23,6 +25,33 @@ pub scanned_more : (i : ℕ) (old mid new : List Done) → HasScannedTo i old mi
     → HasScanned (limits_of i) i mid new → HasScannedTo (i + 1) old new
 scanned_more i old mid new so_far here =
     subst (λ (k : ℕ). HasScannedTo k old new) (sym (add-one i)) (mid, so_far, here)
+
+pub three_more : {X : Type 0} (old a b new : List X) (x y z : X) → a ≡ old ++ x ∷ []
+    → b ≡ a ++ y ∷ [] → new ≡ b ++ z ∷ [] → new ≡ old ++ x ∷ y ∷ z ∷ []
+three_more {X} old a b new x y z first second third =
+    third ∙ ap (λ (l : List X). l ++ z ∷ []) (second ∙ ap (λ (l : List X). l ++ y ∷ []) first)
+    ∙ append_assoc (old ++ x ∷ []) (y ∷ []) (z ∷ []) ∙ append_assoc old (x ∷ []) (y ∷ z ∷ [])
+
+-- the controller read both tags, and wrote its output with this quality
+pub controlled : (before after : Loop) (tick q : ℕ) (old a b new : List Done)
+    (measured set replaced : Tag) → after ≡ loop_after before (value_of measured) (value_of set)
+    → q ≡ word tick (are_there (value_of measured) (value_of set))
+    → HasLogged (Read 0) measured old a → HasLogged (Read 4) set a b
+    → HasLogged (Write 9 after.output q) replaced b new → HasControlled before tick old new after
+controlled before after tick q old a b new measured set replaced law quality first second third =
+    record {
+      measured = measured;
+      set = set;
+      replaced = replaced;
+      first = first.0;
+      second = second.0;
+      third = third.0;
+      law = law;
+      log = subst (λ (n : ℕ). new ≡ old ++ did (Read 0) measured first.0 ∷ did (Read 4) set second.0 ∷ did (Write 9 after.output n) replaced third.0 ∷ [])
+          quality
+          (three_more old a b new (did (Read 0) measured first.0) (did (Read 4) set second.0)
+          (did (Write 9 after.output q) replaced third.0) first.1 second.1 third.1);
+    }
 
 reread_more : (k : ℕ) (old mid new : List Done) (tag : Tag) → HasReread k old mid
     → HasLogged (Read (14 + k)) tag mid new → HasReread (k + 1) old new

@@ -9,6 +9,7 @@ use Rattle.plantrun_core.proofs.input.reads.Goals as goal
 
 pub loop-taken-init : goal.loop-taken-init
 loop-taken-init g c = record {
+  own = c.requires.own;
   same = same_first c.args.hand.now.who;
   capacity = refl;
   read = read_first c.args.ticks.count (g.S.Source.left c.args.source.now)
@@ -53,6 +54,7 @@ loop-taken-preserved g c =
     let did : map operation_of put.calls.items
     ≡ map operation_of mid.calls.items ++ puts (n + 1) (r ∷ []) = c.put.ensures.did in
     record {
+      own = c.counts.ensures.own c.args.table.now c.put.ensures.own;
       same = same_then old.who mid.who new.who c.loop-taken.invariant.same
           (same_then mid.who put.who new.who c.put.ensures.same
           (subst (λ w. IsSameWorker put.who w) (sym c.counts.ensures.who) (same_first put.who)));

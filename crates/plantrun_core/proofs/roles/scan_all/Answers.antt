@@ -30,6 +30,7 @@ loop-alarm-preserved g c =
     let mid = c.loop-alarm.hand in
     let new = c.scan.new.hand in
     record {
+      own = c.scan.ensures.own;
       same = same_then old.who mid.who new.who c.loop-alarm.invariant.same c.scan.ensures.same;
       capacity = c.scan.ensures.capacity ∙ c.loop-alarm.invariant.capacity;
       scanned = scanned_more i old.calls.items mid.calls.items new.calls.items

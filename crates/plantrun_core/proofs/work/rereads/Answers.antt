@@ -35,6 +35,7 @@ loop-k-preserved g c =
     let more = reread_on c.loop-k.k old.calls.items mid.calls.items new.calls.items c.does.result
     c.does.ensures.did c.loop-k.invariant.read in
     record {
+      own = c.does.ensures.own;
       same = same_then old.who mid.who new.who c.loop-k.invariant.same c.does.ensures.same;
       capacity = c.does.ensures.capacity ∙ c.loop-k.invariant.capacity;
       read = more.0;

@@ -4,13 +4,13 @@ use Rattle.plantrun_core.specs.Logs.{IsLog}
 use Rattle.plantrun_core.proofs.Logging.{has_life, log_more, places_in, plant_same}
 use Rattle.plantrun_core.proofs.hand.Hand.does.Goals as goal
 
-pub stamped-requires-clause-range : goal.stamped-requires-clause-range
-stamped-requires-clause-range g c =
+pub stamped-call-requires-clause-range : goal.stamped-call-requires-clause-range
+stamped-call-requires-clause-range g c =
     subst (λ n. IsOperationInRange n c.args.op)
     (sym (places_in c.args.table.now c.args.self.now.who c.requires.own.of)) c.requires.range
 
-pub stamped-requires-clause-life : goal.stamped-requires-clause-life
-stamped-requires-clause-life g c =
+pub stamped-call-requires-clause-life : goal.stamped-call-requires-clause-life
+stamped-call-requires-clause-life g c =
     has_life c.args.table.now c.args.self.now.who c.args.self.now.calls.items c.args.op
     c.requires.own.of c.requires.own.log c.requires.few
 
