@@ -10,7 +10,7 @@ use Rattle.plantrun_core.proofs.Gone.{have_ended, theirs_on}
 use Rattle.plantrun_core.proofs.crew.ran.Goals as goal
 
 pub together-stop-requires-clause-own : goal.together-stop-requires-clause-own
-together-stop-requires-clause-own g c =
+together-stop-requires-clause-own g c κs within =
     let of = IsHandOf c.args.table.now in
     let works : Works = record {
       control = c.before_ticks.result;
