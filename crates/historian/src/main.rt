@@ -40,6 +40,8 @@ fn report_readings<K: Sink>(
     }
     let input = BufReader::new(rt.alloc(), rt.stdin()).map_err(|_| AllocError)?;
     let mut source = StdSource::new(input);
-    let mut heap = start(rt.alloc()).map_err(|_| AllocError)?;
+    let Ok(mut heap) = start(rt.alloc()) else {
+        return Err(AllocError);
+    };
     Ok(report_with_status(&mut heap, &mut source, sink))
 }
