@@ -35,7 +35,7 @@ static void expect(const char *what, rtheap_status status, rtheap_status wanted)
 }
 
 static uint64_t get(rtheap_worker *worker, uint64_t place) {
-    rtheap_reply reply;
+    rtheap_reply reply = {0, 0, 0};
     must(rtheap_worker_ask(worker, rtheap_cmd_get(NUMBER, TABLE, place), give_way, &reply));
     return reply.value;
 }
