@@ -32,14 +32,14 @@ static void fail(const char *why) {
    by their fields 1. */
 enum { TABLE, OLDEST, NEWEST, MADE, NUMBER };
 
-static rtheap heap = RTHEAP_CLOSED;
+static rtheap heap = RTHEAP_INIT;
 
 static void must(rtheap_status status) {
-    if (status) fail(rtheap_text(status));
+    if (status) fail(rtheap_status_text(status));
 }
 
 static void add(uint64_t value) {
-    must(rtheap_new(&heap, MADE, 2));
+    must(rtheap_record(&heap, MADE, 2));
     must(rtheap_set(&heap, NUMBER, value));
     must(rtheap_put(&heap, MADE, 0, NUMBER));
     must(rtheap_put(&heap, NEWEST, 1, MADE));
@@ -55,7 +55,7 @@ static void drop(void) {
 }
 
 static void report(uint64_t tick) {
-    must(rtheap_new(&heap, MADE, 2));
+    must(rtheap_record(&heap, MADE, 2));
     must(rtheap_set(&heap, NUMBER, tick));
     must(rtheap_put(&heap, MADE, 0, NUMBER));
     must(rtheap_set(&heap, NUMBER, sum));
@@ -65,8 +65,10 @@ static void report(uint64_t tick) {
 
 static void begin(void) {
     /* reachable: a block each for the readings, one more and the report, and 3 for registers */
-    must(rtheap_open(&heap, 2, 65000, KEPT + 100, 1, 1));
-    must(rtheap_new(&heap, OLDEST, 2));
+    rtheap_config config = RTHEAP_CONFIG(65000, KEPT + 100);
+    config.shared = 1;
+    must(rtheap_open(&heap, &config));
+    must(rtheap_record(&heap, OLDEST, 2));
     must(rtheap_set(&heap, NUMBER, 0));
     must(rtheap_put(&heap, OLDEST, 0, NUMBER));
     must(rtheap_mov(&heap, NEWEST, OLDEST));

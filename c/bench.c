@@ -37,17 +37,17 @@ static void boehm_new(void) {
 
 #else
 
-static rtheap heap = RTHEAP_CLOSED;
+static rtheap heap = RTHEAP_INIT;
 
 /* Ends the program if a command was not done. */
 static void must(rtheap_status status) {
     if (status == RTHEAP_OK) return;
-    fprintf(stderr, "bench: %s\n", rtheap_text(status));
+    fprintf(stderr, "bench: %s\n", rtheap_status_text(status));
     exit(1);
 }
 
 /* Register 1 has the newest record, and 2 the first of a list through fields 0. */
-static void heap_new(void) { must(rtheap_new(&heap, 1, 2)); }
+static void heap_new(void) { must(rtheap_record(&heap, 1, 2)); }
 
 static void heap_get(void) { must(rtheap_get(&heap, 3, 2, 0, NULL)); }
 
@@ -56,8 +56,11 @@ static void heap_put(void) { must(rtheap_put(&heap, 1, 1, 2)); }
 static void heap_set(void) { must(rtheap_set(&heap, 4, 7)); }
 
 static void open_heap(void) {
+    rtheap_config config = RTHEAP_CONFIG(4096, 1024);
     int i;
-    must(rtheap_open(&heap, 2, 4096, 1024, 32, 40));
+    config.object = 32;
+    config.shared = 40;
+    must(rtheap_open(&heap, &config));
     for (i = 0; i < LIVE; i++) {
         heap_new();
         must(rtheap_put(&heap, 1, 0, 2));

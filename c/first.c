@@ -10,15 +10,17 @@ enum { TABLE = 0, RECORD = 1, NUMBER = 2 }; /* registers */
 /* Ends the program if a call was refused or failed. */
 static void must(rtheap_status status) {
     if (status == RTHEAP_OK) return;
-    fprintf(stderr, "%s\n", rtheap_text(status));
+    fprintf(stderr, "%s\n", rtheap_status_text(status));
     exit(1);
 }
 
 int main(void) {
     rtheap heap = RTHEAP_CLOSED;
+    rtheap_config config = RTHEAP_CONFIG(512, 128); /* 512 blocks, 128 live */
     rtheap_value value;
-    must(rtheap_open(&heap, 2, 512, 128, 1, 80)); /* 512 blocks, 128 live */
-    must(rtheap_new(&heap, RECORD, 2));
+    config.shared = 80;
+    must(rtheap_open(&heap, &config));
+    must(rtheap_record(&heap, RECORD, 2));
     must(rtheap_set(&heap, NUMBER, 1250));
     must(rtheap_put(&heap, RECORD, 0, NUMBER));
     must(rtheap_put(&heap, TABLE, 7, RECORD));

@@ -12,17 +12,17 @@ enum { KEPT = 40 };
 /* Registers. Elements 0 to 39 of the table are the readings, and 40 to 79 the alarms among them. */
 enum { TABLE = 0, RECORD = 1, NUMBER = 2, FOUND = 3, NONE = 4 };
 
-static rtheap heap = RTHEAP_CLOSED;
+static rtheap heap = RTHEAP_INIT;
 
 /* Ends the program if a command was not done. */
 static void must(rtheap_status status) {
     if (status == RTHEAP_OK) return;
-    fprintf(stderr, "historian: %s\n", rtheap_text(status));
+    fprintf(stderr, "historian: %s\n", rtheap_status_text(status));
     exit(9);
 }
 
 static void keep(uint64_t count, uint64_t reading, bool alarm) {
-    must(rtheap_new(&heap, RECORD, 1));
+    must(rtheap_record(&heap, RECORD, 1));
     must(rtheap_set(&heap, NUMBER, reading));
     must(rtheap_put(&heap, RECORD, 0, NUMBER));
     must(rtheap_put(&heap, TABLE, count % KEPT, RECORD));
@@ -44,9 +44,12 @@ static bool is_alarm(uint64_t i) {
 
 int main(void) {
     uint64_t low, high, reading, count = 0;
-    rtheap_status status = rtheap_open(&heap, 2, 512, 128, 1, 2 * KEPT);
+    rtheap_config config = RTHEAP_CONFIG(512, 128);
+    rtheap_status status;
+    config.shared = 2 * KEPT;
+    status = rtheap_open(&heap, &config);
     if (status != RTHEAP_OK) {
-        fprintf(stderr, "historian: %s\n", rtheap_text(status));
+        fprintf(stderr, "historian: %s\n", rtheap_status_text(status));
         return 7;
     }
     if (scanf("%" SCNu64 " %" SCNu64, &low, &high) != 2) return 3;

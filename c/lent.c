@@ -11,8 +11,8 @@ enum { MARGIN = 8 };
 static const uint64_t UNTOUCHED = UINT64_C(0x5a5a5a5a5a5a5a5a);
 
 /* Lent words between words that no call may touch. */
-static uint64_t room[MARGIN + RTHEAP_WORDS(2, 2048, 1024) + 1 + MARGIN];
-static uint64_t other_room[RTHEAP_WORDS(1, 64, 1)];
+static uint64_t room[MARGIN + RTHEAP_WORDS(8, 2048, 1024) + 1 + MARGIN];
+static uint64_t other_room[RTHEAP_WORDS(4, 64, 1)];
 
 static int wrong;
 
@@ -22,6 +22,22 @@ static void is(const char *what, unsigned long long number, unsigned long long f
         printf("lent: %s (%llu): %llu, wanted %llu\n", what, number, found, wanted);
         wrong = 1;
     }
+}
+
+static rtheap_config config_of(uint32_t width, uint32_t blocks, uint32_t live, uint32_t object,
+                               uint32_t shared) {
+    const rtheap_config config = {sizeof config, width, 1, blocks, live, object, shared};
+    return config;
+}
+
+static rtheap_status open_in(rtheap *heap, uint64_t *memory, uint64_t words, rtheap_config config) {
+    return rtheap_open_in(heap, &config, memory, 8 * words);
+}
+
+static uint64_t asked(const rtheap *heap) {
+    uint64_t commands = 0;
+    is("asked", 0, rtheap_asked(heap, &commands), RTHEAP_OK);
+    return commands;
 }
 
 static void fill(void) {
@@ -41,10 +57,10 @@ static void margins_are_untouched(size_t first, size_t end) {
 
 /* Commands through some cycles of collection. */
 static void work(rtheap *heap, uint32_t fields) {
-    uint64_t n, length = 0, before = rtheap_asked(heap);
+    uint64_t n, length = 0, before = asked(heap);
     rtheap_value value = {RTHEAP_NIL, 0, 0};
     for (n = 0; n < 2000; n++) {
-        rtheap_status status = rtheap_new(heap, 1, fields);
+        rtheap_status status = rtheap_record(heap, 1, fields);
         if (!status) status = rtheap_set(heap, 2, n);
         if (!status) status = rtheap_put(heap, 1, fields - 1, 2);
         if (!status) status = rtheap_put(heap, 0, n % 3, 1);
@@ -56,49 +72,50 @@ static void work(rtheap *heap, uint32_t fields) {
         is("length", n, length, fields);
         is("number", n, value.number, n);
     }
-    is("asked", n, rtheap_asked(heap), before + 8 * n);
+    is("asked", n, asked(heap), before + 8 * n);
+}
+
+static void no_words(void) {
+    rtheap_config config = config_of(2, 64, 20, 1, 0);
+    is("bytes of width 2", 0, rtheap_bytes(&config), 0);
+    config = config_of(8, 64, 20, 1, 0);
+    config.size = 4;
+    is("bytes of a wrong size", 0, rtheap_bytes(&config), 0);
+    is("bytes of NULL", 0, rtheap_bytes(NULL), 0);
 }
 
 /* The header and the library count the same words. */
 static void try_counts(void) {
-    uint32_t version, blocks;
-    for (version = 1; version <= 2; version++) {
-        for (blocks = 1; blocks <= 65535; blocks++) {
-            uint32_t object = blocks % 1024 + 1;
-            is("words", blocks, rtheap_raw_words(version, blocks, object),
-               RTHEAP_WORDS(version, blocks, object));
-        }
+    uint32_t blocks;
+    for (blocks = 1; blocks <= 65535; blocks++) {
+        uint32_t object = blocks % 1024 + 1;
+        rtheap_config four = config_of(4, blocks, 0, object, 0);
+        rtheap_config eight = config_of(8, blocks, 0, object, 0);
+        is("bytes", blocks, rtheap_bytes(&four), 8 * RTHEAP_WORDS(4, blocks, object));
+        is("bytes", blocks, rtheap_bytes(&eight), 8 * RTHEAP_WORDS(8, blocks, object));
     }
-    is("words of version 3", 0, rtheap_raw_words(3, 64, 1), 0);
+    no_words();
 }
 
 /* A heap in the words from `first` on. */
-static void try_heap(uint32_t version, uint32_t blocks, uint32_t live, uint32_t object,
-                     size_t first) {
+static void try_heap(rtheap_config config, size_t first) {
     rtheap heap = RTHEAP_CLOSED;
-    uint32_t shared = 3, payloads = version == 1 ? 3 : 7;
-    uint64_t words = RTHEAP_WORDS(version, blocks, object);
+    const uint32_t blocks = config.blocks;
+    const uint64_t words = rtheap_bytes(&config) / 8;
     uint64_t *memory = room + first;
     fill();
-    is("one word fewer", blocks,
-       rtheap_open_in(&heap, memory, words - 1, version, blocks, live, object, shared),
-       RTHEAP_TOO_FEW_WORDS);
-    is("no memory", blocks,
-       rtheap_open_in(&heap, NULL, words, version, blocks, live, object, shared),
-       RTHEAP_TOO_FEW_WORDS);
-    is("not opened", blocks, rtheap_close(&heap), RTHEAP_NO_HEAP);
+    is("one word fewer", blocks, open_in(&heap, memory, words - 1, config), RTHEAP_ERR_TOO_SMALL);
+    is("no memory", blocks, open_in(&heap, NULL, words, config), RTHEAP_ERR_TOO_SMALL);
+    is("not opened", blocks, rtheap_close(&heap), RTHEAP_ERR_CLOSED);
     margins_are_untouched(0, 0);
-    is("open", blocks,
-       rtheap_open_in(&heap, memory, words, version, blocks, live, object, shared), RTHEAP_OK);
-    work(&heap, object * payloads);
-    is("open again", blocks,
-       rtheap_open_in(&heap, memory, words, version, blocks, live, object, shared),
-       RTHEAP_IS_OPEN);
-    is("asked after it", blocks, rtheap_asked(&heap), 16000);
+    is("open", blocks, open_in(&heap, memory, words, config), RTHEAP_OK);
+    work(&heap, config.object * (config.width - 1));
+    is("open again", blocks, open_in(&heap, memory, words, config), RTHEAP_ERR_OPEN);
+    is("asked after it", blocks, asked(&heap), 16000);
     margins_are_untouched(first, first + words);
     is("close", blocks, rtheap_close(&heap), RTHEAP_OK);
     fill();
-    is("closed", blocks, rtheap_new(&heap, 1, 2), RTHEAP_NO_HEAP);
+    is("closed", blocks, rtheap_record(&heap, 1, 2), RTHEAP_ERR_CLOSED);
     margins_are_untouched(0, 0);
 }
 
@@ -107,9 +124,9 @@ static void try_two(void) {
     rtheap one = RTHEAP_CLOSED, two = RTHEAP_CLOSED;
     rtheap_value value = {RTHEAP_NIL, 0, 0};
     fill();
-    is("one", 0, rtheap_open_in(&one, room, RTHEAP_WORDS(2, 512, 2), 2, 512, 128, 2, 3), RTHEAP_OK);
-    is("two", 0,
-       rtheap_open_in(&two, other_room, sizeof other_room / sizeof *other_room, 1, 64, 20, 1, 3),
+    is("one", 0, open_in(&one, room, RTHEAP_WORDS(8, 512, 2), config_of(8, 512, 128, 2, 3)),
+       RTHEAP_OK);
+    is("two", 0, open_in(&two, other_room, sizeof other_room / 8, config_of(4, 64, 20, 1, 3)),
        RTHEAP_OK);
     is("set one", 0, rtheap_set(&one, 5, 1), RTHEAP_OK);
     is("set two", 0, rtheap_set(&two, 5, 2), RTHEAP_OK);
@@ -123,33 +140,35 @@ static void try_two(void) {
     is("close two", 0, rtheap_close(&two), RTHEAP_OK);
 }
 
-/* Other refusals, and rtheap_open, which has no memory between two calls. */
+/* Other refusals, and rtheap_open, for which there is no malloc here. */
 static void try_refusals(void) {
     rtheap heap = RTHEAP_CLOSED;
     const uint64_t words = sizeof room / sizeof *room;
-    is("no handle", 0, rtheap_open_in(NULL, room, words, 2, 64, 20, 1, 0), RTHEAP_NULL_HANDLE);
-    is("version 3", 0, rtheap_open_in(&heap, room, words, 3, 64, 20, 1, 0),
-       RTHEAP_NO_SUCH_VERSION);
-    is("no blocks", 0, rtheap_open_in(&heap, room, words, 2, 0, 20, 1, 0), RTHEAP_OUT_OF_BOUNDS);
-    is("live 2", 0, rtheap_open_in(&heap, room, words, 2, 64, 2, 1, 0), RTHEAP_LIVE_TOO_SMALL);
-    is("no rate", 0, rtheap_open_in(&heap, room, words, 2, 25, 20, 2, 0), RTHEAP_NO_RATE);
-    is("the largest numbers", 0,
-       rtheap_open_in(&heap, room, words, 2, UINT32_MAX, UINT32_MAX, UINT32_MAX, UINT32_MAX),
-       RTHEAP_TOO_FEW_WORDS);
-    is("rtheap_open", 0, rtheap_open(&heap, 2, 64, 20, 1, 0), RTHEAP_NO_MEMORY);
-    is("not opened", 0, rtheap_close(&heap), RTHEAP_NO_HEAP);
+    rtheap_config config = config_of(8, 64, 20, 1, 0), most;
+    memset(&most, 0xff, sizeof most);
+    most.size = sizeof most;
+    most.threads = 1;
+    most.width = 8;
+    is("no handle", 0, open_in(NULL, room, words, config), RTHEAP_ERR_NULL_HANDLE);
+    is("width 3", 0, open_in(&heap, room, words, config_of(3, 64, 20, 1, 0)), RTHEAP_ERR_WIDTH);
+    is("no blocks", 0, open_in(&heap, room, words, config_of(8, 0, 20, 1, 0)), RTHEAP_ERR_BOUNDS);
+    is("live 2", 0, open_in(&heap, room, words, config_of(8, 64, 2, 1, 0)), RTHEAP_ERR_LIVE);
+    is("no rate", 0, open_in(&heap, room, words, config_of(8, 25, 20, 2, 0)), RTHEAP_ERR_RATE);
+    is("the largest numbers", 0, open_in(&heap, room, words, most), RTHEAP_ERR_TOO_SMALL);
+    is("rtheap_open", 0, rtheap_open(&heap, &config), RTHEAP_ERR_MEMORY);
+    is("not opened", 0, rtheap_close(&heap), RTHEAP_ERR_CLOSED);
 }
 
 int main(void) {
     size_t odd;
     for (odd = 0; odd < 2; odd++) { /* also words of which the first is not aligned to 16 bytes */
-        try_heap(1, 40, 20, 1, MARGIN + odd);
-        try_heap(2, 40, 20, 1, MARGIN + odd);
-        try_heap(1, 64, 40, 2, MARGIN + odd);
-        try_heap(2, 64, 40, 3, MARGIN + odd);
-        try_heap(2, 2048, 1000, 101, MARGIN + odd);
-        try_heap(1, 2048, 1000, 150, MARGIN + odd);
-        try_heap(2, 2048, 1000, 199, MARGIN + odd);
+        try_heap(config_of(4, 40, 20, 1, 3), MARGIN + odd);
+        try_heap(config_of(8, 40, 20, 1, 3), MARGIN + odd);
+        try_heap(config_of(4, 64, 40, 2, 3), MARGIN + odd);
+        try_heap(config_of(8, 64, 40, 3, 3), MARGIN + odd);
+        try_heap(config_of(8, 2048, 1000, 101, 3), MARGIN + odd);
+        try_heap(config_of(4, 2048, 1000, 150, 3), MARGIN + odd);
+        try_heap(config_of(8, 2048, 1000, 199, 3), MARGIN + odd);
     }
     try_counts();
     try_two();

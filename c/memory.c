@@ -52,18 +52,19 @@ static void check(int holds, const char *what, unsigned long number) {
 
 /* Opens a heap with the first, second, third .. allocation failing until none fails. */
 static void open_with_failures(rtheap *heap) {
+    const rtheap_config config = {sizeof config, 8, 1, 2048, 512, 4, 40};
     unsigned long n;
     for (n = 1; n < 1000; n++) {
         rtheap_status status;
         budget = n;
-        status = rtheap_open(heap, 2, 2048, 512, 4, 40);
+        status = rtheap_open(heap, &config);
         if (budget > 0) {
             check(status == RTHEAP_OK, "open with memory", n);
             break;
         }
-        check(status == RTHEAP_NO_MEMORY, "open without memory", n);
-        check(rtheap_asked(heap) == 0, "commands of a heap that is not open", n);
-        check(rtheap_close(heap) == RTHEAP_NO_HEAP, "the handle is not closed", n);
+        check(status == RTHEAP_ERR_MEMORY, "open without memory", n);
+        check(rtheap_asked(heap, NULL) == RTHEAP_ERR_CLOSED, "a heap that is not open", n);
+        check(rtheap_close(heap) == RTHEAP_ERR_CLOSED, "the handle is not closed", n);
         check(blocks == 0, "memory lost by an open that failed", n);
     }
     check(n > 1 && n < 1000, "allocations that failed", n - 1);
@@ -72,12 +73,13 @@ static void open_with_failures(rtheap *heap) {
 
 /* Commands of each kind, through some cycles of collection. */
 static void work(rtheap *heap) {
+    uint64_t asked = 0;
     unsigned long n;
     for (n = 0; n < 3000; n++) {
-        rtheap_status status = rtheap_new(heap, 1, 20);
+        rtheap_status status = rtheap_record(heap, 1, 20);
         if (!status) status = rtheap_set(heap, 2, n);
         if (!status) status = rtheap_put(heap, 1, 19, 2);
-        if (!status) status = rtheap_arr(heap, 3, 9);
+        if (!status) status = rtheap_array(heap, 3, 9);
         if (!status) status = rtheap_put(heap, 0, n % 40, 3);
         if (!status) status = rtheap_swap(heap, 0, n % 40, 1, NULL);
         if (!status) status = rtheap_cas(heap, 0, n % 40, 2, 3, NULL);
@@ -89,7 +91,7 @@ static void work(rtheap *heap) {
         if (!status) status = rtheap_nil(heap, 5);
         if (!status) status = rtheap_idle(heap, 10);
         check(status == RTHEAP_OK, "a command failed", n);
-        check(rtheap_asked(heap) == 14 * (n + 1), "commands counted", n);
+        check(rtheap_asked(heap, &asked) == RTHEAP_OK && asked == 14 * (n + 1), "commands", n);
     }
 }
 

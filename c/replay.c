@@ -1,6 +1,6 @@
 /* Carries out the commands of a job of one thread one by one, and prints each reply as `rtheap run`
-   does, with the units of collection that the command did. It takes whole replies, so it calls the
-   exports of the library. */
+   does, with the units of collection that the command did. With the name of a file it writes the
+   commands there as a job, as the library tells them. */
 #include <inttypes.h>
 #include <stdio.h>
 #include <string.h>
@@ -19,8 +19,8 @@ static void print_reply(const rtheap_reply *r, uint64_t work, int pays) {
     case RTHEAP_REPLY_LEN: printf("len %" PRIu64, r->value); break;
     case RTHEAP_REPLY_YES: printf("yes"); break;
     case RTHEAP_REPLY_NO: printf("no"); break;
-    case RTHEAP_REPLY_NULL: printf("null"); break;
-    case RTHEAP_REPLY_KIND: printf("kind"); break;
+    case RTHEAP_REPLY_NIL_REGISTER: printf("null"); break;
+    case RTHEAP_REPLY_NOT_OBJECT: printf("kind"); break;
     case RTHEAP_REPLY_RANGE: printf("range"); break;
     case RTHEAP_REPLY_IDLED: printf("idle"); break;
     default: printf("unknown reply"); break;
@@ -29,51 +29,76 @@ static void print_reply(const rtheap_reply *r, uint64_t work, int pays) {
     printf("\n");
 }
 
-int main(void) {
-    static rtheap heap; /* closed, since all its bytes are zero */
-    uint32_t version, threads, blocks, live, object, shared;
-    uint64_t all = 0;
-    char word[16];
+/* The command of a word and its numbers; for another word one that no heap has. */
+static rtheap_command command_of(const char *word, const uint64_t n[4]) {
+    const rtheap_command none = {UINT32_MAX, 0, 0, 0, 0};
+    uint32_t r[4];
+    int k;
+    for (k = 0; k < 4; k++) r[k] = n[k] > UINT32_MAX ? UINT32_MAX : (uint32_t)n[k];
+    if (!strcmp(word, "new")) return rtheap_cmd_record(r[0], r[1]);
+    if (!strcmp(word, "arr")) return rtheap_cmd_array(r[0], r[1]);
+    if (!strcmp(word, "set")) return rtheap_cmd_set(r[0], n[1]);
+    if (!strcmp(word, "nil")) return rtheap_cmd_nil(r[0]);
+    if (!strcmp(word, "mov")) return rtheap_cmd_mov(r[0], r[1]);
+    if (!strcmp(word, "get")) return rtheap_cmd_get(r[0], r[1], n[2]);
+    if (!strcmp(word, "put")) return rtheap_cmd_put(r[0], n[1], r[2]);
+    if (!strcmp(word, "len")) return rtheap_cmd_len(r[0]);
+    if (!strcmp(word, "same")) return rtheap_cmd_same(r[0], r[1]);
+    if (!strcmp(word, "say")) return rtheap_cmd_say(r[0]);
+    if (!strcmp(word, "swap")) return rtheap_cmd_swap(r[0], n[1], r[2]);
+    if (!strcmp(word, "cas")) return rtheap_cmd_cas(r[0], n[1], r[2], r[3]);
+    if (!strcmp(word, "idle")) return rtheap_cmd_idle(n[0]);
+    return none;
+}
+
+static uint64_t units_left(const rtheap *heap) {
+    uint64_t units = 0;
+    return rtheap_units_left(heap, &units) == RTHEAP_OK ? units : 0;
+}
+
+/* Opens the heap of a job's first line, or returns the status to end with. */
+static int open_heap(rtheap *heap) {
+    rtheap_config config = RTHEAP_CONFIG(0, 0);
+    uint32_t version;
     rtheap_status status;
     if (scanf("rtheap %" SCNu32 " threads %" SCNu32 " blocks %" SCNu32 " live %" SCNu32
               " object %" SCNu32 " shared %" SCNu32 " thread 0",
-              &version, &threads, &blocks, &live, &object, &shared) != 6 || threads != 1)
+              &version, &config.threads, &config.blocks, &config.live, &config.object,
+              &config.shared) != 6 || config.threads != 1)
         return 3;
-    status = rtheap_open(&heap, version, blocks, live, object, shared);
-    if (status != RTHEAP_OK) {
-        printf("open: %s\n", rtheap_text(status));
-        return 4;
-    }
+    config.width = 4 * version;
+    status = rtheap_open(heap, &config);
+    if (status == RTHEAP_OK) return 0;
+    printf("open: %s\n", rtheap_status_text(status));
+    return 4;
+}
+
+static void put_line(void *file, const char *line) { fputs(line, file); }
+
+int main(int words, char **arguments) {
+    static rtheap heap; /* closed, since all its bytes are zero */
+    uint64_t all = 0;
+    char word[16];
+    FILE *job = words == 2 ? fopen(arguments[1], "w") : NULL;
+    int failed = open_heap(&heap);
+    if (failed) return failed;
+    if (job && rtheap_start_job(&heap, put_line, job) != RTHEAP_OK) return 1;
     while (scanf("%15s", word) == 1 && strcmp(word, "end") != 0) {
-        uint64_t n[4] = {0, 0, 0, 0}, before = rtheap_units_left(&heap), work;
+        uint64_t n[4] = {0, 0, 0, 0}, before = units_left(&heap), work;
         int i = 0, pays = !strcmp(word, "new") || !strcmp(word, "arr") || !strcmp(word, "idle");
-        uint32_t done;
-        rtheap_reply r;
+        rtheap_reply r = {UINT32_MAX, 0, 0};
+        rtheap_status status;
         while (i < 4 && scanf("%" SCNu64, &n[i]) == 1) i++;
-#define R(k) (n[k] > UINT32_MAX ? UINT32_MAX : (uint32_t)n[k])
-        if (!strcmp(word, "new")) done = rtheap_raw_new(&heap, R(0), R(1), &r);
-        else if (!strcmp(word, "arr")) done = rtheap_raw_arr(&heap, R(0), R(1), &r);
-        else if (!strcmp(word, "set")) done = rtheap_raw_set(&heap, R(0), n[1], &r);
-        else if (!strcmp(word, "nil")) done = rtheap_raw_nil(&heap, R(0), &r);
-        else if (!strcmp(word, "mov")) done = rtheap_raw_mov(&heap, R(0), R(1), &r);
-        else if (!strcmp(word, "get")) done = rtheap_raw_get(&heap, R(0), R(1), n[2], &r);
-        else if (!strcmp(word, "put")) done = rtheap_raw_put(&heap, R(0), n[1], R(2), &r);
-        else if (!strcmp(word, "len")) done = rtheap_raw_len(&heap, R(0), &r);
-        else if (!strcmp(word, "same")) done = rtheap_raw_same(&heap, R(0), R(1), &r);
-        else if (!strcmp(word, "say")) done = rtheap_raw_say(&heap, R(0), &r);
-        else if (!strcmp(word, "swap")) done = rtheap_raw_swap(&heap, R(0), n[1], R(2), &r);
-        else if (!strcmp(word, "cas")) done = rtheap_raw_cas(&heap, R(0), n[1], R(2), R(3), &r);
-        else if (!strcmp(word, "idle")) done = rtheap_raw_idle(&heap, n[0], &r);
-        else return 3;
-        status = rtheap_status_of(done);
-        if (status != RTHEAP_OK) {
-            printf("%s: %s\n", word, rtheap_text(status));
-            return 5;
+        status = rtheap_ask(&heap, command_of(word, n), &r);
+        if (r.kind == UINT32_MAX) { /* no reply: it was refused */
+            printf("%s: %s\n", word, rtheap_status_text(status));
+            return status == RTHEAP_ERR_NO_SUCH_COMMAND ? 3 : 5;
         }
-        work = before - rtheap_units_left(&heap);
+        work = before - units_left(&heap);
         all += work;
         print_reply(&r, work, pays);
     }
     printf("end work %" PRIu64 "\n", all);
-    return rtheap_close(&heap) == RTHEAP_OK ? 0 : 1;
+    if (rtheap_close(&heap) != RTHEAP_OK) return 1;
+    return job && fclose(job) ? 1 : 0;
 }

@@ -1,41 +1,45 @@
 /* rtheap.h: a garbage-collected heap for one thread of a control program, for C99 and later and
-   C++98 and later. Link with librtheap.a.
+   C++98 and later. Link with librtheap.
 
    A heap has 16 registers, numbered 0 to 15, and objects: records with fields and arrays with
    elements. A register, field or element holds nil, a number below 2^62, or a reference to an
    object. Register 0 starts as a reference to an array of `shared` elements, the others as nil. The
-   heap reclaims the objects that can no longer be reached from the registers.
+   heap reclaims the objects that can no longer be reached from the registers. Signed numbers,
+   floats and doubles go through rtheap_numbers.h.
 
    Collection is incremental, and allocations pay for it: an allocation of k blocks does P*k units
    of marking or sweeping, where the rate P follows from `blocks` and `live`. rtheap_idle does the
    units it is given. No other command does any, so the number of steps of each command is bounded.
 
        rtheap heap = RTHEAP_CLOSED;
-       rtheap_status status = rtheap_open(&heap, 2, 512, 128, 1, 80);
-       if (!status) status = rtheap_new(&heap, 1, 2);    register 1: a new record of 2 fields
+       rtheap_config config = RTHEAP_CONFIG(512, 128);   512 blocks, at most 128 of them live
+       config.shared = 80;
+       rtheap_status status = rtheap_open(&heap, &config);
+       if (!status) status = rtheap_record(&heap, 1, 2); register 1: a new record of 2 fields
        if (!status) status = rtheap_set(&heap, 2, 1250); register 2: the number 1250
        if (!status) status = rtheap_put(&heap, 1, 0, 2); field 0 of the record: that number
-       if (status) ... rtheap_text(status) says why ...
+       if (status) ... rtheap_status_text(status) says why, rtheap_explain which argument ...
        rtheap_close(&heap);
 
-   Every call returns a status. RTHEAP_OK, which is 0, means that the call did what it is for and
-   wrote its result. With any other status it wrote no result. A pointer for a result may be NULL if
-   the result is not wanted. Compilers warn about a status that is ignored.
+   Calls return a status. RTHEAP_OK, which is 0, means that the call did what it is for and wrote
+   its result. With any other status it wrote no result, unless its comment says so. A pointer for a
+   result may be NULL if the result is not wanted. Compilers warn about a status that is ignored.
 
-   The program has to ensure the following. No call can check it.
-   - A handle starts closed: RTHEAP_CLOSED, or all bytes zero. Only these calls write to it. It is
-     not copied. It may be moved: then the old variable is closed by RTHEAP_CLOSED, or not used
-     again. A call detects a closed handle, but not a copy of one that was closed since, nor a heap
-     pointer that was overwritten.
-   - A pointer to a handle is NULL, which is reported, or points to an rtheap. A pointer for a
-     result points to a variable of its type outside of the handle, or is NULL.
-   - One call at a time uses a handle. A handle may pass from one thread to another if the program
-     synchronises them, for example by a mutex, or by starting or joining the thread. Calls on
-     different handles are independent.
-   - No call is made from a signal handler, or in the child of a fork of a process with threads.
+   AFTER RTHEAP_ERR_FULL register d keeps its old object. A program that goes on as if it had a new
+   one changes the old one by its next rtheap_put. So leave out the rest of the step.
+
+   A call refuses, and changes nothing: a NULL handle, a closed one, one of another kind, a copy of
+   a handle, and a handle that a call uses at the time, in another thread or in what a signal
+   handler interrupted. The program has to ensure the following. No call can check it.
+   - A handle starts closed: RTHEAP_CLOSED, or all bytes zero. Only these calls write to it.
+   - A pointer to a handle is NULL, or points to an rtheap. A pointer for a result points to a
+     variable of its type outside of the handle, or is NULL.
+   - A handle may pass from one thread to another if the program synchronises them, for example by a
+     mutex, or by starting or joining the thread. Calls on different handles are independent.
+   - The child of a fork uses no handle that another thread was using at the fork.
    - malloc, realloc and free belong to one allocator. malloc and realloc align a block to every
-     power of two up to 16 that divides its size. Only rtheap_open allocates; only rtheap_close, and
-     an rtheap_open that fails, free.
+     power of two up to 16 that divides its size. Only the calls that open a heap allocate; only
+     rtheap_close, and an opening that fails, free.
    - The processor has the instructions of x86-64-v2.
 */
 #ifndef RTHEAP_H
@@ -58,54 +62,154 @@ extern "C" {
 #include <stdbool.h>
 #endif
 
-/* A handle. The program does not use its fields. */
-typedef struct rtheap {
-    uint64_t open;
-    void *heap;
-} rtheap;
+/* ---- rtheap_version: the version of the library and of its header ---- */
 
-/* The initial value of a handle: rtheap heap = RTHEAP_CLOSED; */
-#define RTHEAP_CLOSED {0, NULL}
+#define RTHEAP_VERSION_MAJOR 0
+#define RTHEAP_VERSION_MINOR 1
+#define RTHEAP_VERSION_PATCH 0
+#define RTHEAP_VERSION "0.1.0"
+#define RTHEAP_VERSION_NUMBER \
+    (RTHEAP_VERSION_MAJOR * 10000 + RTHEAP_VERSION_MINOR * 100 + RTHEAP_VERSION_PATCH)
 
-/* What a call did, or why it did not. 9 is not used. Up to RTHEAP_NULL_HANDLE a status other than
-   RTHEAP_OK means that nothing was done and the heap is unchanged. (A handle without a heap may be
-   set to zero.) From RTHEAP_FULL to RTHEAP_RANGE the heap carried the command out, which failed: it
-   counts as a command, and no register or field has changed. */
+/* The version of the library that the program runs with; the macros have that of this header. A
+   program needs the library with the header's first two numbers, or the first alone from 1.0 on. */
+const char *rtheap_version(void);
+uint32_t rtheap_version_number(void);
+
+/* ---- rtheap_status: what calls return ---- */
+
+/* What a call did, or why it did not. 9 is not used. From RTHEAP_ERR_FULL to RTHEAP_ERR_RANGE the
+   heap carried the command out, which failed: it counts as a command, and no register or field has
+   changed. The others but RTHEAP_OK and RTHEAP_NOT_DONE mean that nothing was done. */
 typedef enum rtheap_status {
-    RTHEAP_OK = 0,              /* done */
-    RTHEAP_NO_HEAP = 1,         /* the handle is closed */
-    RTHEAP_OUT_OF_BOUNDS = 2,   /* a number is out of range, or version 1 lacks the command */
-    RTHEAP_NO_LIFE_LEFT = 3,    /* too little is left of the heap's life; see rtheap_units_left */
-    RTHEAP_IS_OPEN = 4,         /* rtheap_open: the handle already has a heap */
-    RTHEAP_NO_SUCH_VERSION = 5, /* rtheap_open: the version is neither 1 nor 2 */
-    RTHEAP_LIVE_TOO_SMALL = 6,  /* rtheap_open: registers and shared array exceed `live` */
-    RTHEAP_NO_RATE = 7,         /* rtheap_open: `blocks` is below live + 2*object + 2 */
-    RTHEAP_NO_MEMORY = 8,       /* rtheap_open: malloc or realloc failed */
-    RTHEAP_NULL_HANDLE = 10,    /* the handle is NULL */
-    RTHEAP_FULL = 11,           /* no room: more than `live` blocks were reachable */
-    RTHEAP_NULL = 12,           /* register s holds nil, and not a reference */
-    RTHEAP_KIND = 13,           /* register s holds a number, and not a reference */
-    RTHEAP_RANGE = 14,          /* the object in register s has no field or element i */
-    RTHEAP_TOO_FEW_WORDS = 15,  /* rtheap_open_in, which did nothing: too few words, or NULL */
-    RTHEAP_BUSY = 16,           /* these seven: see rtheap_shared.h */
-    RTHEAP_NOT_DONE = 17,
-    RTHEAP_NO_COMMAND = 18,
-    RTHEAP_NO_SUCH_COMMAND = 19,
-    RTHEAP_NO_WORKER = 20,
-    RTHEAP_NOT_SEEN = 21,
-    RTHEAP_IN_USE = 22
+    RTHEAP_OK = 0,                   /* done */
+    RTHEAP_ERR_CLOSED = 1,           /* the handle is closed */
+    RTHEAP_ERR_BOUNDS = 2,           /* a number is out of range, or not for blocks of this width */
+    RTHEAP_ERR_LIFE = 3,             /* too little is left of the heap's life */
+    RTHEAP_ERR_OPEN = 4,             /* the handle to be opened is open */
+    RTHEAP_ERR_WIDTH = 5,            /* `width` is neither 4 nor 8 */
+    RTHEAP_ERR_LIVE = 6,             /* registers and shared array exceed `live` */
+    RTHEAP_ERR_RATE = 7,             /* `blocks` is below live + 2*(1 + threads*object) */
+    RTHEAP_ERR_MEMORY = 8,           /* an allocation failed */
+    RTHEAP_ERR_NULL_HANDLE = 10,     /* the handle is NULL */
+    RTHEAP_ERR_FULL = 11,            /* no room: more than `live` blocks were reachable */
+    RTHEAP_ERR_NIL = 12,             /* register s holds nil, and no reference */
+    RTHEAP_ERR_NOT_OBJECT = 13,      /* register s holds a number, and no reference */
+    RTHEAP_ERR_RANGE = 14,           /* the object in register s has no field or element i */
+    RTHEAP_ERR_TOO_SMALL = 15,       /* the lent memory is too small, or NULL */
+    RTHEAP_ERR_BUSY = 16,            /* the worker's last command is not done */
+    RTHEAP_NOT_DONE = 17,            /* the command is not done yet */
+    RTHEAP_ERR_NO_COMMAND = 18,      /* the worker has no command to carry out */
+    RTHEAP_ERR_NO_SUCH_COMMAND = 19, /* there is no command of this number */
+    RTHEAP_ERR_NO_WORKER = 20,       /* the group has no worker */
+    RTHEAP_ERR_NOT_SEEN = 21,        /* the worker has not seen all that came before the stamp */
+    RTHEAP_ERR_WORKERS_OUT = 22,     /* a handle has a worker of the heap */
+    RTHEAP_ERR_IN_USE = 23,          /* another call uses the handle */
+    RTHEAP_ERR_MOVED = 24,           /* it is a copy of a handle */
+    RTHEAP_ERR_WRONG_HANDLE = 25,    /* it is a handle of another kind */
+    RTHEAP_ERR_WRONG_GROUP = 26,     /* the worker is of another group */
+    RTHEAP_ERR_NULL_POINTER = 27,    /* a pointer that is needed is NULL */
+    RTHEAP_ERR_CONFIG_SIZE = 28,     /* config.size is not one that this library knows */
+    RTHEAP_ERR_NOT_NUMBER = 29,      /* field i holds nil or a reference, and no number */
+    RTHEAP_ERR_USED = 30,            /* the heap has carried out commands */
+    RTHEAP_STATUS_LAST = 0x7fffffff  /* no status: later versions have more of them */
 } rtheap_status;
 
+const char *rtheap_status_name(rtheap_status status); /* "RTHEAP_ERR_FULL" */
+const char *rtheap_status_text(rtheap_status status); /* "no room: more is reachable than ..." */
+
+/* ---- rtheap_open: open, move and close a heap ---- */
+
+/* A handle. The program does not use its words. */
+typedef struct rtheap {
+    uint64_t words[32];
+} rtheap;
+
+/* A closed handle: rtheap heap = RTHEAP_CLOSED; or later heap = RTHEAP_CLOSED; and the initial
+   value of a static one, which may also go without, since all its bytes are zero. */
+#ifdef __cplusplus
+#define RTHEAP_CLOSED (::rtheap())
+#else
+#define RTHEAP_CLOSED ((rtheap)RTHEAP_INIT)
+#endif
+#define RTHEAP_INIT {{0}}
+
+/* What a heap is opened with. Set the others to 0, or begin with RTHEAP_CONFIG. */
+typedef struct rtheap_config {
+    uint32_t size;    /* sizeof(rtheap_config) */
+    uint32_t width;   /* words of a block: 8; or 4, without the commands swap, cas and idle */
+    uint32_t threads; /* 1; for rtheap_group_open 1 to 16 */
+    uint32_t blocks;  /* the size of the heap, 1 to 65,535 blocks */
+    uint32_t live;    /* the most blocks that the program keeps reachable, at most 65,535; while it
+                         keeps to this, no allocation returns RTHEAP_ERR_FULL */
+    uint32_t object;  /* the largest object, 1 to 1,024 blocks */
+    uint32_t shared;  /* the length of the array in register 0, 0 to 1,024 elements */
+} rtheap_config;
+
+/* Blocks of 8 words, one thread, objects of one block, no shared array. A record takes a block for
+   each 7 fields, and for each 3 if the width is 4; c/README.md has the sizes of arrays. */
+#define RTHEAP_CONFIG(blocks, live) {sizeof(rtheap_config), 8, 1, (blocks), (live), 1, 0}
+
+/* An allocator of the program. `allocate` returns NULL if it has no memory, and else a block of
+   `size` bytes at a multiple of `alignment`, a power of two. */
+typedef struct rtheap_memory {
+    void *(*allocate)(void *context, size_t size, size_t alignment);
+    void (*release)(void *context, void *block);
+    void *context;
+} rtheap_memory;
+
+/* Opens a heap in a closed handle. It may return RTHEAP_ERR_OPEN, RTHEAP_ERR_BOUNDS to
+   RTHEAP_ERR_MEMORY, RTHEAP_ERR_CONFIG_SIZE or RTHEAP_ERR_NULL_POINTER. */
+RTHEAP_CHECKED rtheap_status rtheap_open(rtheap *heap, const rtheap_config *config);
+
+/* The same with the memory of this allocator, which has to work until the heap is closed. */
+RTHEAP_CHECKED rtheap_status rtheap_open_with(rtheap *heap, const rtheap_config *config,
+                                              const rtheap_memory *memory);
+
+/* The same in lent memory of so many bytes: no allocator is called. Too few bytes, or NULL, are
+   RTHEAP_ERR_TOO_SMALL. The program has to ensure that nothing else reads or writes them until the
+   heap is closed, or this call has failed. Then they are the program's again.
+
+       static uint64_t memory[RTHEAP_WORDS(8, 512, 1)];
+       status = rtheap_open_in(&heap, &config, memory, sizeof memory); */
+RTHEAP_CHECKED rtheap_status rtheap_open_in(rtheap *heap, const rtheap_config *config, void *memory,
+                                            size_t bytes);
+
+/* The bytes, at a multiple of 8, that a heap takes in lent memory; 0 if the configuration is NULL
+   or has another size or width. */
+size_t rtheap_bytes(const rtheap_config *config);
+
+/* The same in words of 8 bytes: a constant if `width`, `blocks` and `object` are. It does not
+   compile for another width. */
+#define RTHEAP_WORDS(width, blocks, object) \
+    (127u + sizeof(char[(width) == 4 || (width) == 8 ? 1 : -1]) \
+     + ((width) == 4 ? 7u : 11u) * (blocks) + ((object) + 1u) / 2u)
+
+/* Frees the heap and closes the handle. Its status may be ignored by a program that has only this
+   handle: then it is other than RTHEAP_OK only where there is no heap to free. */
+rtheap_status rtheap_close(rtheap *heap);
+
+/* Moves a heap to a closed handle, and closes the other. A handle that was copied otherwise is
+   RTHEAP_ERR_MOVED at its new place. */
+RTHEAP_CHECKED rtheap_status rtheap_move(rtheap *to, rtheap *from);
+
+/* ---- rtheap_ask: commands as values, and whole replies ---- */
+
 /* What a register, field or element holds. */
-typedef enum rtheap_kind { RTHEAP_NIL = 3, RTHEAP_INT = 4, RTHEAP_REF = 5 } rtheap_kind;
+typedef enum rtheap_kind {
+    RTHEAP_NIL = 3,
+    RTHEAP_INT = 4,
+    RTHEAP_REF = 5,
+    RTHEAP_KIND_LAST = 0x7fffffff
+} rtheap_kind;
 
 typedef struct rtheap_value {
     rtheap_kind kind;
-    uint32_t thread; /* RTHEAP_REF: 1 for the shared array; else 0 */
+    uint32_t thread; /* RTHEAP_REF: of the object's name, see rtheap_reply; else 0 */
     uint64_t number; /* RTHEAP_INT: the number. RTHEAP_REF: the object's serial number. Else 0 */
 } rtheap_value;
 
-/* A reply of the heap, as the exports write it. A number that its kind does not use is 0. */
+/* A reply of the heap. A number that its kind does not use is 0. */
 typedef enum rtheap_reply_kind {
     RTHEAP_REPLY_NEW = 0,    /* the new object has the name thread.value */
     RTHEAP_REPLY_FULL = 1,   /* more than `live` blocks were reachable as cycle `value` began */
@@ -116,282 +220,198 @@ typedef enum rtheap_reply_kind {
     RTHEAP_REPLY_LEN = 6,    /* the object has `value` fields or elements */
     RTHEAP_REPLY_YES = 7,
     RTHEAP_REPLY_NO = 8,
-    RTHEAP_REPLY_NULL = 9,   /* failed: the register holds nil */
-    RTHEAP_REPLY_KIND = 10,  /* failed: the register holds a number */
-    RTHEAP_REPLY_RANGE = 11, /* failed: the object has no field or element of this index */
-    RTHEAP_REPLY_IDLED = 12  /* the units are done */
+    RTHEAP_REPLY_NIL_REGISTER = 9, /* failed: the register holds nil */
+    RTHEAP_REPLY_NOT_OBJECT = 10,  /* failed: the register holds a number */
+    RTHEAP_REPLY_RANGE = 11,       /* failed: the object has no field or element of this index */
+    RTHEAP_REPLY_IDLED = 12        /* the units are done */
 } rtheap_reply_kind;
 
 typedef struct rtheap_reply {
     uint32_t kind;   /* an rtheap_reply_kind */
-    uint32_t thread; /* of a name: 0, or 1 for the shared array */
+    uint32_t thread; /* of a name: the thread that made the object, 0 to n-1 of n; or n for the
+                        shared array */
     uint64_t value;  /* the serial number of a name, a number, a length or a cycle */
 } rtheap_reply;
 
-/* The exports of the library, for a program that wants whole replies. They return a status up to
-   RTHEAP_NO_MEMORY, and write a reply if that is RTHEAP_OK. They do not accept NULL. Other programs
-   use the functions below. */
-uint32_t rtheap_raw_open(rtheap *heap, uint32_t version, uint32_t blocks, uint32_t live,
-                         uint32_t object, uint32_t shared);
-uint32_t rtheap_raw_close(rtheap *heap);
-uint64_t rtheap_raw_units_left(rtheap *heap);
-uint64_t rtheap_raw_objects_left(rtheap *heap);
-uint64_t rtheap_raw_asked(rtheap *heap);
-uint32_t rtheap_raw_new(rtheap *heap, uint32_t d, uint32_t fields, rtheap_reply *reply);
-uint32_t rtheap_raw_arr(rtheap *heap, uint32_t d, uint32_t elements, rtheap_reply *reply);
-uint32_t rtheap_raw_set(rtheap *heap, uint32_t d, uint64_t value, rtheap_reply *reply);
-uint32_t rtheap_raw_nil(rtheap *heap, uint32_t d, rtheap_reply *reply);
-uint32_t rtheap_raw_mov(rtheap *heap, uint32_t d, uint32_t s, rtheap_reply *reply);
-uint32_t rtheap_raw_get(rtheap *heap, uint32_t d, uint32_t s, uint64_t i, rtheap_reply *reply);
-uint32_t rtheap_raw_put(rtheap *heap, uint32_t s, uint64_t i, uint32_t v, rtheap_reply *reply);
-uint32_t rtheap_raw_len(rtheap *heap, uint32_t s, rtheap_reply *reply);
-uint32_t rtheap_raw_same(rtheap *heap, uint32_t a, uint32_t b, rtheap_reply *reply);
-uint32_t rtheap_raw_say(rtheap *heap, uint32_t s, rtheap_reply *reply);
-uint32_t rtheap_raw_swap(rtheap *heap, uint32_t s, uint64_t i, uint32_t v, rtheap_reply *reply);
-uint32_t rtheap_raw_cas(rtheap *heap, uint32_t s, uint64_t i, uint32_t a, uint32_t v,
-                        rtheap_reply *reply);
-uint32_t rtheap_raw_idle(rtheap *heap, uint64_t units, rtheap_reply *reply);
+typedef enum rtheap_command_kind {
+    RTHEAP_COMMAND_RECORD = 0,
+    RTHEAP_COMMAND_ARRAY = 1,
+    RTHEAP_COMMAND_SET = 2,
+    RTHEAP_COMMAND_NIL = 3,
+    RTHEAP_COMMAND_MOV = 4,
+    RTHEAP_COMMAND_GET = 5,
+    RTHEAP_COMMAND_PUT = 6,
+    RTHEAP_COMMAND_LEN = 7,
+    RTHEAP_COMMAND_SAME = 8,
+    RTHEAP_COMMAND_SAY = 9,
+    RTHEAP_COMMAND_SWAP = 10,
+    RTHEAP_COMMAND_CAS = 11,
+    RTHEAP_COMMAND_IDLE = 12
+} rtheap_command_kind;
 
-/* The status that an export returned. */
-static inline rtheap_status rtheap_status_of(uint32_t number) {
-#ifdef __cplusplus
-    return static_cast<rtheap_status>(number);
-#else
-    return (rtheap_status)number;
-#endif
-}
+/* A command as a value, made by one of the functions below: rtheap_cmd_get(d, s, i) is the command
+   of rtheap_get(heap, d, s, i, ..). */
+typedef struct rtheap_command {
+    uint32_t kind; /* an rtheap_command_kind */
+    uint32_t a, b, v;
+    uint64_t n;
+} rtheap_command;
 
-/* The status of a command, from that of its export and its reply. */
-static inline rtheap_status rtheap_outcome(uint32_t status, const rtheap_reply *reply) {
-    if (status != 0) return rtheap_status_of(status);
-    switch (reply->kind) {
-    case RTHEAP_REPLY_FULL: return RTHEAP_FULL;
-    case RTHEAP_REPLY_NULL: return RTHEAP_NULL;
-    case RTHEAP_REPLY_KIND: return RTHEAP_KIND;
-    case RTHEAP_REPLY_RANGE: return RTHEAP_RANGE;
-    default: return RTHEAP_OK;
-    }
-}
+rtheap_command rtheap_cmd_record(uint32_t d, uint32_t fields);
+rtheap_command rtheap_cmd_array(uint32_t d, uint32_t elements);
+rtheap_command rtheap_cmd_set(uint32_t d, uint64_t value);
+rtheap_command rtheap_cmd_nil(uint32_t d);
+rtheap_command rtheap_cmd_mov(uint32_t d, uint32_t s);
+rtheap_command rtheap_cmd_get(uint32_t d, uint32_t s, uint64_t i);
+rtheap_command rtheap_cmd_put(uint32_t s, uint64_t i, uint32_t v);
+rtheap_command rtheap_cmd_len(uint32_t s);
+rtheap_command rtheap_cmd_same(uint32_t a, uint32_t b);
+rtheap_command rtheap_cmd_say(uint32_t s);
+rtheap_command rtheap_cmd_swap(uint32_t s, uint64_t i, uint32_t v);
+rtheap_command rtheap_cmd_cas(uint32_t s, uint64_t i, uint32_t a, uint32_t v);
+rtheap_command rtheap_cmd_idle(uint64_t units);
 
-/* The same of a command that returns a value, which is written if there is one. */
-static inline rtheap_status rtheap_valued(uint32_t status, const rtheap_reply *reply,
-                                          rtheap_value *value) {
-    rtheap_status outcome = rtheap_outcome(status, reply);
-    if (outcome == RTHEAP_OK && value) {
-        value->kind = reply->kind == RTHEAP_REPLY_INT ? RTHEAP_INT
-                    : reply->kind == RTHEAP_REPLY_REF ? RTHEAP_REF : RTHEAP_NIL;
-        value->thread = reply->thread;
-        value->number = reply->value;
-    }
-    return outcome;
-}
+/* Carries out a command. The whole reply is written if the heap carried it out: with RTHEAP_OK, and
+   with RTHEAP_ERR_FULL to RTHEAP_ERR_RANGE. It has the name of a new object, or the cycle of a
+   full. */
+RTHEAP_CHECKED rtheap_status rtheap_ask(rtheap *heap, rtheap_command command, rtheap_reply *reply);
 
-/* The same of a command that returns yes or no. */
-static inline rtheap_status rtheap_decided(uint32_t status, const rtheap_reply *reply, bool *yes) {
-    rtheap_status outcome = rtheap_outcome(status, reply);
-    if (outcome == RTHEAP_OK && yes) *yes = reply->kind == RTHEAP_REPLY_YES;
-    return outcome;
-}
+/* Carries out commands one after the other, up to the first whose status is not RTHEAP_OK, and
+   returns that. `done` gets how many were done, whatever the status; `replies`, if not NULL, has
+   room for the replies of all. */
+RTHEAP_CHECKED rtheap_status rtheap_ask_all(rtheap *heap, const rtheap_command *commands,
+                                            size_t count, rtheap_reply *replies, size_t *done);
 
-/* Opens a heap in a closed handle.
-   version: 1, with blocks of 4 words; or 2, with blocks of 8 words and the commands swap, cas and
-       idle. A record takes one block for each 3 fields in version 1, and for each 7 in version 2;
-       c/README.md has the sizes of arrays.
-   blocks: the size of the heap, 1 to 65,535 blocks.
-   live: the most blocks that the program keeps reachable, at most 65,535. While it keeps to this,
-       no allocation returns RTHEAP_FULL.
-   object: the largest object, 1 to 1,024 blocks.
-   shared: the length of the array in register 0, 0 to 1,024 elements. */
-RTHEAP_CHECKED static inline rtheap_status rtheap_open(rtheap *heap, uint32_t version,
-                                                       uint32_t blocks, uint32_t live,
-                                                       uint32_t object, uint32_t shared) {
-    if (!heap) return RTHEAP_NULL_HANDLE;
-    return rtheap_status_of(rtheap_raw_open(heap, version, blocks, live, object, shared));
-}
-
-/* Frees the heap and closes the handle. Its status may be ignored: it is other than RTHEAP_OK where
-   there is no heap to free. */
-static inline rtheap_status rtheap_close(rtheap *heap) {
-    if (!heap) return RTHEAP_NULL_HANDLE;
-    return rtheap_status_of(rtheap_raw_close(heap));
-}
-
-/* What is left of the heap's life: 2^45 units of collection and 2^43 - 1 allocations at first. Each
-   new and arr counts as an allocation, even if it is full. 0 for a closed or NULL handle. */
-static inline uint64_t rtheap_units_left(rtheap *heap) {
-    return heap ? rtheap_raw_units_left(heap) : 0;
-}
-
-static inline uint64_t rtheap_objects_left(rtheap *heap) {
-    return heap ? rtheap_raw_objects_left(heap) : 0;
-}
-
-/* The number of commands so far, of which a life has 2^60. 0 for a closed or NULL handle. */
-static inline uint64_t rtheap_asked(rtheap *heap) {
-    return heap ? rtheap_raw_asked(heap) : 0;
-}
-
-/* The commands. Each may also return RTHEAP_NO_HEAP, RTHEAP_OUT_OF_BOUNDS, RTHEAP_NO_LIFE_LEFT or
-   RTHEAP_NULL_HANDLE. */
+/* ---- rtheap_commands: the commands of a heap ---- */
 
 /* Makes register d refer to a new record of `fields` fields, all nil. May be FULL. */
-RTHEAP_CHECKED static inline rtheap_status rtheap_new(rtheap *heap, uint32_t d, uint32_t fields) {
-    rtheap_reply reply;
-    if (!heap) return RTHEAP_NULL_HANDLE;
-    return rtheap_outcome(rtheap_raw_new(heap, d, fields, &reply), &reply);
-}
+RTHEAP_CHECKED rtheap_status rtheap_record(rtheap *heap, uint32_t d, uint32_t fields);
 
 /* Makes register d refer to a new array of `elements` elements, all nil. May be FULL. */
-RTHEAP_CHECKED static inline rtheap_status rtheap_arr(rtheap *heap, uint32_t d, uint32_t elements) {
-    rtheap_reply reply;
-    if (!heap) return RTHEAP_NULL_HANDLE;
-    return rtheap_outcome(rtheap_raw_arr(heap, d, elements, &reply), &reply);
-}
+RTHEAP_CHECKED rtheap_status rtheap_array(rtheap *heap, uint32_t d, uint32_t elements);
 
 /* Sets register d to a number below 2^62. */
-RTHEAP_CHECKED static inline rtheap_status rtheap_set(rtheap *heap, uint32_t d, uint64_t value) {
-    rtheap_reply reply;
-    if (!heap) return RTHEAP_NULL_HANDLE;
-    return rtheap_outcome(rtheap_raw_set(heap, d, value, &reply), &reply);
-}
+RTHEAP_CHECKED rtheap_status rtheap_set(rtheap *heap, uint32_t d, uint64_t value);
 
 /* Sets register d to nil. */
-RTHEAP_CHECKED static inline rtheap_status rtheap_nil(rtheap *heap, uint32_t d) {
-    rtheap_reply reply;
-    if (!heap) return RTHEAP_NULL_HANDLE;
-    return rtheap_outcome(rtheap_raw_nil(heap, d, &reply), &reply);
-}
+RTHEAP_CHECKED rtheap_status rtheap_nil(rtheap *heap, uint32_t d);
 
 /* Copies register s to register d. */
-RTHEAP_CHECKED static inline rtheap_status rtheap_mov(rtheap *heap, uint32_t d, uint32_t s) {
-    rtheap_reply reply;
-    if (!heap) return RTHEAP_NULL_HANDLE;
-    return rtheap_outcome(rtheap_raw_mov(heap, d, s, &reply), &reply);
-}
+RTHEAP_CHECKED rtheap_status rtheap_mov(rtheap *heap, uint32_t d, uint32_t s);
 
-/* Copies field i of the object in register s to register d, and returns it. May be NULL, KIND or
-   RANGE. */
-RTHEAP_CHECKED static inline rtheap_status rtheap_get(rtheap *heap, uint32_t d, uint32_t s,
-                                                      uint64_t i, rtheap_value *value) {
-    rtheap_reply reply;
-    if (!heap) return RTHEAP_NULL_HANDLE;
-    return rtheap_valued(rtheap_raw_get(heap, d, s, i, &reply), &reply, value);
-}
+/* Copies field i of the object in register s to register d, and returns it. May be NIL, NOT_OBJECT
+   or RANGE. */
+RTHEAP_CHECKED rtheap_status rtheap_get(rtheap *heap, uint32_t d, uint32_t s, uint64_t i,
+                                        rtheap_value *value);
 
-/* Copies register v to field i of the object in register s. May be NULL, KIND or RANGE. */
-RTHEAP_CHECKED static inline rtheap_status rtheap_put(rtheap *heap, uint32_t s, uint64_t i,
-                                                      uint32_t v) {
-    rtheap_reply reply;
-    if (!heap) return RTHEAP_NULL_HANDLE;
-    return rtheap_outcome(rtheap_raw_put(heap, s, i, v, &reply), &reply);
-}
+/* Copies register v to field i of the object in register s. May be NIL, NOT_OBJECT or RANGE. */
+RTHEAP_CHECKED rtheap_status rtheap_put(rtheap *heap, uint32_t s, uint64_t i, uint32_t v);
 
-/* Returns how many fields or elements the object in register s has. May be NULL or KIND. */
-RTHEAP_CHECKED static inline rtheap_status rtheap_len(rtheap *heap, uint32_t s, uint64_t *length) {
-    rtheap_reply reply;
-    rtheap_status status;
-    if (!heap) return RTHEAP_NULL_HANDLE;
-    status = rtheap_outcome(rtheap_raw_len(heap, s, &reply), &reply);
-    if (status == RTHEAP_OK && length) *length = reply.value;
-    return status;
-}
+/* Returns how many fields or elements the object in register s has. May be NIL or NOT_OBJECT. */
+RTHEAP_CHECKED rtheap_status rtheap_len(rtheap *heap, uint32_t s, uint64_t *length);
 
 /* Returns whether registers a and b hold the same: both nil, the same number, or references to the
    same object. */
-RTHEAP_CHECKED static inline rtheap_status rtheap_same(rtheap *heap, uint32_t a, uint32_t b,
-                                                       bool *same) {
-    rtheap_reply reply;
-    if (!heap) return RTHEAP_NULL_HANDLE;
-    return rtheap_decided(rtheap_raw_same(heap, a, b, &reply), &reply, same);
-}
+RTHEAP_CHECKED rtheap_status rtheap_same(rtheap *heap, uint32_t a, uint32_t b, bool *same);
 
 /* Returns the value in register s. */
-RTHEAP_CHECKED static inline rtheap_status rtheap_say(rtheap *heap, uint32_t s,
-                                                      rtheap_value *value) {
-    rtheap_reply reply;
-    if (!heap) return RTHEAP_NULL_HANDLE;
-    return rtheap_valued(rtheap_raw_say(heap, s, &reply), &reply, value);
-}
+RTHEAP_CHECKED rtheap_status rtheap_say(rtheap *heap, uint32_t s, rtheap_value *value);
 
 /* Exchanges field i of the object in register s with register v, and returns what the field held.
-   Version 2. May be NULL, KIND or RANGE. */
-RTHEAP_CHECKED static inline rtheap_status rtheap_swap(rtheap *heap, uint32_t s, uint64_t i,
-                                                       uint32_t v, rtheap_value *old) {
-    rtheap_reply reply;
-    if (!heap) return RTHEAP_NULL_HANDLE;
-    return rtheap_valued(rtheap_raw_swap(heap, s, i, v, &reply), &reply, old);
-}
+   Width 8. May be NIL, NOT_OBJECT or RANGE. */
+RTHEAP_CHECKED rtheap_status rtheap_swap(rtheap *heap, uint32_t s, uint64_t i, uint32_t v,
+                                         rtheap_value *old);
 
 /* If field i of the object in register s holds what register a does, copies register v to it.
-   Returns whether it did. Version 2. May be NULL, KIND or RANGE. */
-RTHEAP_CHECKED static inline rtheap_status rtheap_cas(rtheap *heap, uint32_t s, uint64_t i,
-                                                      uint32_t a, uint32_t v, bool *stored) {
-    rtheap_reply reply;
-    if (!heap) return RTHEAP_NULL_HANDLE;
-    return rtheap_decided(rtheap_raw_cas(heap, s, i, a, v, &reply), &reply, stored);
-}
+   Returns whether it did. Width 8. May be NIL, NOT_OBJECT or RANGE. */
+RTHEAP_CHECKED rtheap_status rtheap_cas(rtheap *heap, uint32_t s, uint64_t i, uint32_t a,
+                                        uint32_t v, bool *stored);
 
-/* Does the given number of units of collection, at most 131,070. Version 2. */
-RTHEAP_CHECKED static inline rtheap_status rtheap_idle(rtheap *heap, uint64_t units) {
-    rtheap_reply reply;
-    if (!heap) return RTHEAP_NULL_HANDLE;
-    return rtheap_outcome(rtheap_raw_idle(heap, units, &reply), &reply);
-}
+/* Does the given number of units of collection, at most 131,070. Width 8. */
+RTHEAP_CHECKED rtheap_status rtheap_idle(rtheap *heap, uint64_t units);
 
-/* ---- A heap in lent memory: only in librtheap_lent.a, which a program links in place of
-   librtheap.a. That library calls neither malloc nor free, and its rtheap_open fails with
-   RTHEAP_NO_MEMORY.
+/* ---- rtheap_get_numbers: several fields in one call ---- */
 
-       static uint64_t memory[RTHEAP_WORDS(2, 512, 1)];
-       status = rtheap_open_in(&heap, memory, RTHEAP_WORDS(2, 512, 1), 2, 512, 128, 1, 80); */
+/* Reads `count` fields, from field `first` of the object in register s on, by way of register d:
+   `count` commands get. It stops at the first whose status is not RTHEAP_OK, and returns that.
+   `done` gets how many were read, whatever the status. With several fields d has to be another
+   register than s. rtheap_get_numbers also stops at a field with nil or a reference, with
+   RTHEAP_ERR_NOT_NUMBER. */
+RTHEAP_CHECKED rtheap_status rtheap_get_values(rtheap *heap, uint32_t d, uint32_t s, uint64_t first,
+                                               rtheap_value *values, size_t count, size_t *done);
+RTHEAP_CHECKED rtheap_status rtheap_get_numbers(rtheap *heap, uint32_t d, uint32_t s,
+                                                uint64_t first, uint64_t *numbers, size_t count,
+                                                size_t *done);
 
-/* The words of 8 bytes that a heap takes, for `version`, `blocks` and `object` as for rtheap_open.
-   It is a constant expression if they are constants. rtheap_raw_words returns the same, or 0 if
-   there is no such version. */
-#define RTHEAP_WORDS(version, blocks, object) \
-    (128u + ((version) == 1 ? 7u : 11u) * (blocks) + ((object) + 1u) / 2u)
+/* Stores numbers in `count` fields, from field `first` of the object in register s on, by way of
+   register v: a command set and a command put for each. It stops as the calls above do. v has to be
+   another register than s. */
+RTHEAP_CHECKED rtheap_status rtheap_put_numbers(rtheap *heap, uint32_t s, uint64_t first,
+                                                uint32_t v, const uint64_t *numbers, size_t count,
+                                                size_t *done);
 
-uint64_t rtheap_raw_words(uint32_t version, uint32_t blocks, uint32_t object);
-uint32_t rtheap_raw_open_in(rtheap *heap, uint64_t words, uint32_t version, uint32_t blocks,
-                            uint32_t live, uint32_t object, uint32_t shared);
+/* ---- rtheap_statistics: gauges, which change nothing, not even the handle ---- */
 
-/* Opens a heap as rtheap_open does, in the `words` words at `memory`. If the version exists, but
-   the words are fewer than RTHEAP_WORDS or `memory` is NULL, it returns RTHEAP_TOO_FEW_WORDS. The
-   program has to ensure that `memory` points to so many words, and that nothing else reads or
-   writes them until the heap is closed, or this call has failed. Then they are the program's
-   again. */
-RTHEAP_CHECKED rtheap_status rtheap_open_in(rtheap *heap, uint64_t *memory, uint64_t words,
-                                            uint32_t version, uint32_t blocks, uint32_t live,
-                                            uint32_t object, uint32_t shared);
+/* What is left of the heap's life: 2^45 units of collection and 2^43 - 1 allocations at first. Each
+   record and array counts as an allocation, even if it is full. */
+RTHEAP_CHECKED rtheap_status rtheap_units_left(const rtheap *heap, uint64_t *units);
+RTHEAP_CHECKED rtheap_status rtheap_objects_left(const rtheap *heap, uint64_t *objects);
 
-/* A status as text. */
-static inline const char *rtheap_text(rtheap_status status) {
-    switch (status) {
-    case RTHEAP_OK: return "done";
-    case RTHEAP_NO_HEAP: return "the handle is closed";
-    case RTHEAP_OUT_OF_BOUNDS: return "a number is out of range, or version 1 lacks the command";
-    case RTHEAP_NO_LIFE_LEFT: return "too little is left of the heap's life";
-    case RTHEAP_IS_OPEN: return "the handle already has a heap";
-    case RTHEAP_NO_SUCH_VERSION: return "the version is neither 1 nor 2";
-    case RTHEAP_LIVE_TOO_SMALL: return "registers and shared array exceed the live limit";
-    case RTHEAP_NO_RATE: return "the heap has too few blocks for the live limit";
-    case RTHEAP_NO_MEMORY: return "out of memory";
-    case RTHEAP_NULL_HANDLE: return "the handle is NULL";
-    case RTHEAP_FULL: return "no room: more is reachable than the live limit";
-    case RTHEAP_NULL: return "the register holds nil, and not a reference";
-    case RTHEAP_KIND: return "the register holds a number, and not a reference";
-    case RTHEAP_RANGE: return "the object has no such field or element";
-    case RTHEAP_TOO_FEW_WORDS: return "the lent memory has too few words";
-    case RTHEAP_BUSY: return "the worker's last command is not done";
-    case RTHEAP_NOT_DONE: return "the command is not done yet";
-    case RTHEAP_NO_COMMAND: return "the worker has no command to carry out";
-    case RTHEAP_NO_SUCH_COMMAND: return "there is no command of this number";
-    case RTHEAP_NO_WORKER: return "the group has no worker";
-    case RTHEAP_NOT_SEEN: return "the worker has not seen all that came before the stamp";
-    case RTHEAP_IN_USE: return "a handle has a worker of the heap";
-    }
-    return "not a status";
-}
+/* The number of commands so far, of which a life has 2^60. */
+RTHEAP_CHECKED rtheap_status rtheap_asked(const rtheap *heap, uint64_t *commands);
+
+typedef struct rtheap_statistics {
+    uint64_t commands, commands_left; /* executed so far; left of the life */
+    uint64_t units, units_left;       /* of collection */
+    uint64_t objects, objects_left;   /* allocations, those that were full included */
+    uint64_t fulls;                   /* allocations that were full */
+    uint64_t full_cycle;              /* the cycle that the last of them named; 0: there was none */
+    uint64_t rate;                    /* the units that an allocation does for each block */
+} rtheap_statistics;
+
+/* Writes all of them; `size` is sizeof(rtheap_statistics). */
+RTHEAP_CHECKED rtheap_status rtheap_read_statistics(const rtheap *heap,
+                                                    rtheap_statistics *statistics, size_t size);
+
+/* Writes what the heap was opened with; `size` is sizeof(rtheap_config). */
+RTHEAP_CHECKED rtheap_status rtheap_read_config(const rtheap *heap, rtheap_config *config,
+                                                size_t size);
+
+/* ---- rtheap_last_error: what was wrong ---- */
+
+/* Why the last call that used the handle, and whose status was an error, was refused or failed. It
+   is kept until the next such call. Calls that could not use the handle leave it: RTHEAP_ERR_MOVED,
+   _IN_USE, _WRONG_HANDLE, _CLOSED, _NULL_HANDLE; and so do gauges. */
+typedef struct rtheap_error {
+    rtheap_status status; /* RTHEAP_OK: there was none */
+    const char *argument; /* the name of what was wrong, such as "blocks" or "d"; or NULL */
+    uint64_t value;       /* its value; of RTHEAP_ERR_FULL the cycle; of _LIFE what is left */
+    uint64_t least, most; /* what it may be, if the library knows, else 0 and 2^64 - 1 */
+} rtheap_error;
+
+/* Writes it, also of a closed handle, whose opening failed; `size` is sizeof(rtheap_error). */
+RTHEAP_CHECKED rtheap_status rtheap_last_error(const rtheap *heap, rtheap_error *error,
+                                               size_t size);
+
+/* Writes an error, or the last one of a heap, as a text of one line, which ends with a zero byte
+   and is cut off after `size` bytes: "the heap has too few blocks for the live limit: blocks is
+   130; at least 134; at most 65535". Returns how many bytes the whole text has without the zero. */
+size_t rtheap_error_text(const rtheap_error *error, char *text, size_t size);
+size_t rtheap_explain(const rtheap *heap, char *text, size_t size);
+
+/* ---- rtheap_start_job: what a program asks of a heap, as a job ---- */
+
+/* From now on each command that the heap carries out is told as a line of a job, which ends with a
+   line feed, by a call of `put` with this context; first come the lines that begin the job. Of a
+   program's job `livelimit` says which live limit and how many blocks it needs. The heap has to be
+   one that has carried out no command: RTHEAP_ERR_USED. `put` makes no call on this heap. */
+RTHEAP_CHECKED rtheap_status rtheap_start_job(rtheap *heap,
+                                              void (*put)(void *context, const char *line),
+                                              void *context);
+
+/* Tells the job's last line, and ends the recording, if there is one. The recording also ends with
+   the heap, and after 131,072 commands, which is as long as a job may be. */
+RTHEAP_CHECKED rtheap_status rtheap_end_job(rtheap *heap);
 
 #ifdef __cplusplus
 }

@@ -1,21 +1,24 @@
-// rtheap.hpp: the heap of rtheap.h for C++17 and later. Link with librtheap.
+// rtheap.hpp: the heaps of rtheap.h and rtheap_shared.h for C++17 and later. Link with librtheap.
 //
 //     control_heap::heap heap; // closed; it closes itself, moves, and never copies
 //     if (auto opened = heap.open({512, 128}); !opened) return fail(opened.text());
-//     if (auto made = heap.record(1, 2); !made) ... made.status() == RTHEAP_FULL ...
+//     if (auto made = heap.record(1, 2); !made) ... made.status() == RTHEAP_ERR_FULL ...
 //     if (auto got = heap.get(2, 1, 0)) use(got.value().number);
+//     if (auto same = heap.same(1, 2); same.ok() && same.value()) ...
 //
 // A call returns an outcome, or a result, which has a value as well if the call succeeded. Both are
-// [[nodiscard]], and true if the call succeeded. Nothing throws, and only open() allocates. What
-// rtheap.h demands of a program holds here too: one call at a time on a heap, and so on.
+// [[nodiscard]], and true if the call succeeded; a result that is a yes or no is not true or false
+// itself, so that a no is not taken for a yes. Nothing throws, and only open() and attach()
+// allocate. What rtheap.h demands of a program holds here too. A group or worker has one thread at
+// a time.
 #ifndef RTHEAP_HPP
 #define RTHEAP_HPP
 
+#include <cstddef>
 #include <cstdint>
 #include <exception>
-#include <utility>
 
-#include "rtheap.h"
+#include "rtheap_shared.h"
 
 namespace control_heap {
 
@@ -23,9 +26,11 @@ namespace control_heap {
 class [[nodiscard]] outcome {
 public:
     outcome(rtheap_status status) noexcept : status_(status) {}
-    explicit operator bool() const noexcept { return status_ == RTHEAP_OK; }
+    explicit operator bool() const noexcept { return ok(); }
+    [[nodiscard]] bool ok() const noexcept { return status_ == RTHEAP_OK; }
     [[nodiscard]] rtheap_status status() const noexcept { return status_; }
-    [[nodiscard]] const char *text() const noexcept { return rtheap_text(status_); }
+    [[nodiscard]] const char *text() const noexcept { return rtheap_status_text(status_); }
+    [[nodiscard]] const char *name() const noexcept { return rtheap_status_name(status_); }
 
 private:
     rtheap_status status_;
@@ -38,93 +43,187 @@ public:
 
     // The value. Ask first whether there is one: without one, this terminates the program.
     [[nodiscard]] T value() const noexcept {
-        if (!*this) std::terminate();
+        if (!ok()) std::terminate();
         return value_;
     }
-    [[nodiscard]] T value_or(T other) const noexcept { return *this ? value_ : other; }
+    [[nodiscard]] T value_or(T other) const noexcept { return ok() ? value_ : other; }
 
 private:
     T value_;
 };
 
-// The numbers of rtheap_open.
+// A yes or no. It does not convert to bool: `ok()` says whether there is one, `value()` which.
+template <> class [[nodiscard]] result<bool> : public outcome {
+public:
+    result(rtheap_status status, bool value) noexcept : outcome(status), value_(value) {}
+    explicit operator bool() const = delete;
+    bool operator!() const = delete;
+
+    [[nodiscard]] bool value() const noexcept {
+        if (!ok()) std::terminate();
+        return value_;
+    }
+    [[nodiscard]] bool value_or(bool other) const noexcept { return ok() ? value_ : other; }
+
+private:
+    bool value_;
+};
+
+// What a heap is opened with, as rtheap_config.
 struct config {
     std::uint32_t blocks;
     std::uint32_t live;
     std::uint32_t object = 1;
     std::uint32_t shared = 0;
-    std::uint32_t version = 2;
+    std::uint32_t width = 8;
+    std::uint32_t threads = 1;
+
+    [[nodiscard]] rtheap_config c() const noexcept {
+        return {sizeof(rtheap_config), width, threads, blocks, live, object, shared};
+    }
 };
 
-// A heap, open or closed. Each call but open() returns RTHEAP_NO_HEAP of a closed one.
-class heap {
+// Calls a function that writes a value.
+template <class T, class Call> [[nodiscard]] result<T> told(Call call) noexcept {
+    T value{};
+    const rtheap_status status = call(&value);
+    return {status, value};
+}
+
+// Handles of one kind: they close themselves and move.
+template <class C, rtheap_status (*Close)(C *), rtheap_status (*Move)(C *, C *)> class handle {
 public:
-    heap() noexcept = default;
-    heap(heap &&other) noexcept : heap_(std::exchange(other.heap_, ::rtheap RTHEAP_CLOSED)) {}
-    heap &operator=(heap &&other) noexcept {
+    handle() noexcept : c_() {}
+    handle(handle &&other) noexcept : c_() { take(other); }
+    handle &operator=(handle &&other) noexcept {
         if (this != &other) {
-            rtheap_close(&heap_);
-            heap_ = std::exchange(other.heap_, ::rtheap RTHEAP_CLOSED);
+            static_cast<void>(close());
+            take(other);
         }
         return *this;
     }
-    heap(const heap &) = delete;
-    heap &operator=(const heap &) = delete;
-    ~heap() { rtheap_close(&heap_); }
+    handle(const handle &) = delete;
+    handle &operator=(const handle &) = delete;
+    ~handle() { static_cast<void>(close()); }
 
-    outcome open(const config &c) noexcept {
-        return rtheap_open(&heap_, c.version, c.blocks, c.live, c.object, c.shared);
-    }
-    void close() noexcept { rtheap_close(&heap_); }
+    // The handle of C, for calls that this header lacks.
+    [[nodiscard]] C *c() noexcept { return &c_; }
+    [[nodiscard]] const C *c() const noexcept { return &c_; }
 
-    [[nodiscard]] std::uint64_t units_left() noexcept { return rtheap_units_left(&heap_); }
-    [[nodiscard]] std::uint64_t objects_left() noexcept { return rtheap_objects_left(&heap_); }
-    [[nodiscard]] std::uint64_t asked() noexcept { return rtheap_asked(&heap_); }
-
-    // The commands of rtheap.h: `record` is rtheap_new, and `array` rtheap_arr.
-    outcome record(std::uint32_t d, std::uint32_t fields) noexcept {
-        return rtheap_new(&heap_, d, fields);
-    }
-    outcome array(std::uint32_t d, std::uint32_t elements) noexcept {
-        return rtheap_arr(&heap_, d, elements);
-    }
-    outcome set(std::uint32_t d, std::uint64_t value) noexcept {
-        return rtheap_set(&heap_, d, value);
-    }
-    outcome nil(std::uint32_t d) noexcept { return rtheap_nil(&heap_, d); }
-    outcome mov(std::uint32_t d, std::uint32_t s) noexcept { return rtheap_mov(&heap_, d, s); }
-    outcome put(std::uint32_t s, std::uint64_t i, std::uint32_t v) noexcept {
-        return rtheap_put(&heap_, s, i, v);
-    }
-    outcome idle(std::uint64_t units) noexcept { return rtheap_idle(&heap_, units); }
-
-    result<rtheap_value> get(std::uint32_t d, std::uint32_t s, std::uint64_t i) noexcept {
-        return told<rtheap_value>([&](auto *value) { return rtheap_get(&heap_, d, s, i, value); });
-    }
-    result<rtheap_value> say(std::uint32_t s) noexcept {
-        return told<rtheap_value>([&](auto *value) { return rtheap_say(&heap_, s, value); });
-    }
-    result<rtheap_value> swap(std::uint32_t s, std::uint64_t i, std::uint32_t v) noexcept {
-        return told<rtheap_value>([&](auto *old) { return rtheap_swap(&heap_, s, i, v, old); });
-    }
-    result<std::uint64_t> len(std::uint32_t s) noexcept {
-        return told<std::uint64_t>([&](auto *length) { return rtheap_len(&heap_, s, length); });
-    }
-    result<bool> same(std::uint32_t a, std::uint32_t b) noexcept {
-        return told<bool>([&](bool *same) { return rtheap_same(&heap_, a, b, same); });
-    }
-    result<bool> cas(std::uint32_t s, std::uint64_t i, std::uint32_t a, std::uint32_t v) noexcept {
-        return told<bool>([&](bool *stored) { return rtheap_cas(&heap_, s, i, a, v, stored); });
-    }
+protected:
+    outcome close() noexcept { return Close(&c_); }
 
 private:
-    template <class T, class Call> static result<T> told(Call call) noexcept {
-        T value{};
-        const rtheap_status status = call(&value);
-        return {status, value};
+    void take(handle &other) noexcept { static_cast<void>(outcome(Move(&c_, &other.c_))); }
+
+    C c_;
+};
+
+// A heap of one thread, open or closed. Each call but open() is refused by a closed one.
+class heap : public handle<::rtheap, rtheap_close, rtheap_move> {
+public:
+    outcome open(const config &c) noexcept {
+        const rtheap_config given = c.c();
+        return rtheap_open(this->c(), &given);
+    }
+    // In memory that the program lends until the heap is closed.
+    outcome open_in(const config &c, void *memory, std::size_t bytes) noexcept {
+        const rtheap_config given = c.c();
+        return rtheap_open_in(this->c(), &given, memory, bytes);
+    }
+    using handle::close;
+
+    [[nodiscard]] result<rtheap_statistics> statistics() const noexcept {
+        return told<rtheap_statistics>(
+            [&](auto *s) { return rtheap_read_statistics(c(), s, sizeof *s); });
+    }
+    [[nodiscard]] result<rtheap_error> last_error() const noexcept {
+        return told<rtheap_error>([&](auto *e) { return rtheap_last_error(c(), e, sizeof *e); });
     }
 
-    ::rtheap heap_ = RTHEAP_CLOSED;
+    // The commands of rtheap.h.
+    outcome record(std::uint32_t d, std::uint32_t fields) noexcept {
+        return rtheap_record(c(), d, fields);
+    }
+    outcome array(std::uint32_t d, std::uint32_t elements) noexcept {
+        return rtheap_array(c(), d, elements);
+    }
+    outcome set(std::uint32_t d, std::uint64_t value) noexcept { return rtheap_set(c(), d, value); }
+    outcome nil(std::uint32_t d) noexcept { return rtheap_nil(c(), d); }
+    outcome mov(std::uint32_t d, std::uint32_t s) noexcept { return rtheap_mov(c(), d, s); }
+    outcome put(std::uint32_t s, std::uint64_t i, std::uint32_t v) noexcept {
+        return rtheap_put(c(), s, i, v);
+    }
+    outcome idle(std::uint64_t units) noexcept { return rtheap_idle(c(), units); }
+
+    result<rtheap_value> get(std::uint32_t d, std::uint32_t s, std::uint64_t i) noexcept {
+        return told<rtheap_value>([&](auto *value) { return rtheap_get(c(), d, s, i, value); });
+    }
+    result<rtheap_value> say(std::uint32_t s) noexcept {
+        return told<rtheap_value>([&](auto *value) { return rtheap_say(c(), s, value); });
+    }
+    result<rtheap_value> swap(std::uint32_t s, std::uint64_t i, std::uint32_t v) noexcept {
+        return told<rtheap_value>([&](auto *old) { return rtheap_swap(c(), s, i, v, old); });
+    }
+    result<std::uint64_t> len(std::uint32_t s) noexcept {
+        return told<std::uint64_t>([&](auto *length) { return rtheap_len(c(), s, length); });
+    }
+    result<bool> same(std::uint32_t a, std::uint32_t b) noexcept {
+        return told<bool>([&](bool *same) { return rtheap_same(c(), a, b, same); });
+    }
+    result<bool> cas(std::uint32_t s, std::uint64_t i, std::uint32_t a, std::uint32_t v) noexcept {
+        return told<bool>([&](bool *stored) { return rtheap_cas(c(), s, i, a, v, stored); });
+    }
+    // A command as a value; the reply is whole.
+    result<rtheap_reply> ask(const rtheap_command &command) noexcept {
+        return told<rtheap_reply>([&](auto *reply) { return rtheap_ask(c(), command, reply); });
+    }
+};
+
+// A worker of a shared heap, for one thread. Its destructor closes it, unless its command is not
+// done: then the worker is lost, and the heap stays. So poll each command to its end.
+class worker : public handle<rtheap_worker, rtheap_worker_close, rtheap_worker_move> {
+public:
+    using handle::close;
+
+    [[nodiscard]] result<std::uint32_t> thread() const noexcept {
+        return told<std::uint32_t>([&](auto *t) { return rtheap_worker_thread(c(), t); });
+    }
+    outcome start(const rtheap_command &command) noexcept {
+        return rtheap_worker_start(c(), command);
+    }
+    result<rtheap_reply> poll(std::uint64_t most) noexcept {
+        return told<rtheap_reply>([&](auto *r) { return rtheap_worker_poll(c(), most, r); });
+    }
+    // Starts a command and polls it to its end; calls `wait` between two polls.
+    template <class Wait> result<rtheap_reply> ask(const rtheap_command &command, Wait wait) {
+        rtheap_reply reply{};
+        rtheap_status status = rtheap_worker_start(c(), command);
+        if (status != RTHEAP_OK) return {status, reply};
+        while ((status = rtheap_worker_poll(c(), 64, &reply)) == RTHEAP_NOT_DONE) wait();
+        return {status, reply};
+    }
+    result<std::uint64_t> stamp() noexcept {
+        return told<std::uint64_t>([&](auto *stamp) { return rtheap_worker_stamp(c(), stamp); });
+    }
+    outcome follow(std::uint64_t stamp) noexcept { return rtheap_worker_follow(c(), stamp); }
+};
+
+// The workers of a shared heap that nobody has.
+class group : public handle<rtheap_group, rtheap_group_close, rtheap_group_move> {
+public:
+    outcome open(const config &c) noexcept {
+        const rtheap_config given = c.c();
+        return rtheap_group_open(this->c(), &given);
+    }
+    using handle::close;
+
+    outcome attach(worker &to) noexcept { return rtheap_group_attach(c(), to.c()); }
+    outcome give_back(worker &from) noexcept { return rtheap_group_return(c(), from.c()); }
+    // Closes the heap with the workers that are here, and returns how many cycles were started.
+    result<std::uint64_t> finish() noexcept {
+        return told<std::uint64_t>([&](auto *cycles) { return rtheap_group_finish(c(), cycles); });
+    }
 };
 
 } // namespace control_heap

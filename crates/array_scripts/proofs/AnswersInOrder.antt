@@ -4,7 +4,7 @@ use Rattle.never_heap.specs.declared.Entry.{Entry}
 use Rattle.never_heap.specs.declared.Reply.{Reply}
 use Rattle.never_heap.specs.Histories.{HistoryItem, parts}
 use Rattle.array_tables.specs.operations.Linearizations.{Call, calls_of, replies_in}
-use Rattle.never_heap.proofs.PartLogs.{logged}
+use Rattle.never_heap.proofs.Lemmas.{logged}
 use Rattle.array_scripts.specs.Answers.{each_from, answers_in, answers_from}
 
 module _ {Op Done Answer T : Type 0} (answer : Call Done Answer → T)

@@ -9,7 +9,7 @@ use Rattle.array_scripts.specs.scripts.Scripts.{Reads}
 use Rattle.trace_text.specs.Jobs.{input_limit}
 use Rattle.trace_text.specs.Streams.{Appends, AppendsPrefix}
 use Rattle.array_scripts.specs.declared.header.Header.{Header}
-use Rattle.array_scripts.specs.Calls.{IsCarriedOut, exit_of}
+use Rattle.array_scripts.specs.ScriptCalls.{IsCarriedOut, exit_of}
 use Rattle.array_scripts.specs.Kinds.{Kind, language, IsHeader, Fits}
 use Rattle.array_scripts.specs.JobsOfScripts.{HasRoom, Causes, IsCause, IsFine, IsReadAs}
 use Rattle.array_scripts.proofs.Apart.{are_apart, script_read}

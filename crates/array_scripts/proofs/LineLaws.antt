@@ -14,7 +14,7 @@ use Rattle.array_scripts.specs.Kinds.{Kind, Tokens, header_line, IsHeader, Fits,
 use Rattle.array_scripts.proofs.TokenLaws.{and_parts, chosen, ranged_sound, ranged_again, none_of, one_of}
 use Rattle.trace_text.proofs.LabelLaws.{behind_complete, behind_sound, labelled_complete, labelled_sound}
 
--- What a kind owes: of its operations each is read as it is spelled, where it can stand, and no
+-- What a kind owes: of its operations each is read as it is spelled, where it may come, and no
 -- line of one begins as that of a thread or the end does.
 pub record ReadsOps {Op : Type 0} (kind : Kind Op) : Type 0 where
   pub few_places : kind.most_places < 10 ^ 19

@@ -52,7 +52,7 @@ module _ {Op : Type 0} (kind : Kind Op) where
     tells = turned.tells ∙ front_turn h 0 before before line others turn;
   }
 
-  -- what is begun behind scripts is one script more
+  -- what is begun after scripts is one script more
   one_more : (before : List Op) (scripts : List (List Op)) (ops : List Op) (o : Found)
       → ((r : List Op × List (List Op)) → o ≡ Some r → r.0 ≡ [])
       → with_scripts before scripts (begin_thread (with_front ops o))
@@ -141,7 +141,7 @@ module _ {Op : Type 0} (kind : Kind Op) where
       (more_read h all before scripts u m rest thread ops line next others
       (subst (λ (k : ℕ). IsTurned kind h k m rest ops line next others) count turned) turn)
 
-  -- behind the end
+  -- after the end
   pub done_read : (h : Header) (all : List Tokens) (before : List Op)
       (scripts : List (List Op)) (m : ℕ) (rest : List Tokens)
       → AreRead kind h all before scripts lines.End m rest → parted rest ≡ None
@@ -162,7 +162,7 @@ module _ {Op : Type 0} (kind : Kind Op) where
       read.bad ∙ ap (λ (ls : List Tokens). bad_line lang Rattle.array_scripts.specs.scripts.Scripts.Done m ls)
       (parted_some rest l others some)
 
-  -- ---- a header and what is behind it
+  -- ---- a header and what is after it
 
   pub script_is : Reads lang (IsHeader kind) (Fits kind) → (all : List Tokens) (l : Tokens)
       (others : List Tokens) (h : Header) (scripts : List (List Op)) → parted all ≡ Some (l, others) → lang.header_at l ≡ Some h

@@ -19,11 +19,11 @@ pub record Kind (Op : Type 0) : Type 1 where
   pub most_places : ℕ
   -- how many operations a thread has at most
   pub most : ℕ
-  -- how an operation is spelled, and which one tokens spell, on so many places behind a thread's
+  -- how an operation is spelled, and which one tokens spell, on so many places after a thread's
   -- others
   pub op_line : Op → Tokens
   pub op_at : ℕ → List Op → Tokens → Option Op
-  -- which can stand there
+  -- which may come there
   pub CanStand : ℕ → List Op → Op → Type 0
   -- the heap on which a script is run
   pub config_of : Header → Config
@@ -35,7 +35,7 @@ header_line kind h =
     kind.name ∷ codes "1" ∷ codes "threads" ∷ decimal h.threads ∷ kind.label ∷ decimal h.places
     ∷ codes "blocks" ∷ decimal h.blocks ∷ []
 
--- the ranges of a header, and of one more operation of a thread behind these
+-- the ranges of a header, and of one more operation of a thread after these
 pub record IsHeader {Op : Type 0} (kind : Kind Op) (h : Header) : Type 0 where
   pub some_thread : 1 ≤ h.threads
   pub threads : h.threads ≤ 16
@@ -84,7 +84,7 @@ end_at h t tokens = do
   _ ← no_more_of tokens
   if t == h.threads then Some End else None
 
--- an operation can stand behind a thread's line, and behind fewer than the most
+-- an operation may come after a thread's line, and after fewer than the most
 unfoldable pub told_at :
     {Op : Type 0} → Kind Op → Header → ℕ → List Op → Tokens → Option (Said Op)
 told_at kind h t before line =
@@ -112,12 +112,12 @@ language kind = record {
   end_line = codes "end" ∷ [];
 }
 
--- a script: a header in its ranges, and for each of its threads operations that can stand
+-- a script: a header in its ranges, and for each of its threads operations that may come
 abbrev pub IsScriptIn : {Op : Type 0} → Kind Op → List Tokens → Header → List (List Op) → Type 0
 IsScriptIn kind lines h scripts =
     IsScript (language kind) (IsHeader kind) (Fits kind) lines h scripts
 
--- operations that fit behind these
+-- operations that fit after these
 abbrev pub FitBehind : {Op : Type 0} → Kind Op → Header → List Op → List Op → Type 0
 FitBehind kind h before ops = AreFit (language kind) (IsHeader kind) (Fits kind) h before ops
 

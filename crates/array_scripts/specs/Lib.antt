@@ -5,6 +5,6 @@ pub mod JobsOfScripts
 pub mod Answers
 pub mod Runnable
 pub mod Tellings
-pub mod Calls
+pub mod ScriptCalls
 pub mod scripts
 pub mod script_runs

@@ -21,7 +21,7 @@ abbrev pub Blames : (ℕ → Type 0) → Fault → Type 0
 Blames P (BadLine n) = P n
 Blames P OutOfMemory = Unit {0}
 
--- this line is the first of these that cannot stand at its place
+-- this line is the first of these that may not come at its place
 abbrev pub IsFirstBad : {Op : Type 0} → Kind Op → List Tokens → ℕ → Type 0
 IsFirstBad kind lines n = bad_line (language kind) Start 1 lines ≡ Some n
 
@@ -31,7 +31,7 @@ abbrev pub with_front :
 with_front ops None = None
 with_front ops (Some r) = Some (ops ++ r.0, r.1)
 
--- these scripts stand in front of what a thread's line or the end tells
+-- these scripts are in front of what a thread's line or the end tells
 abbrev pub with_scripts :
     {Op : Type 0} → List Op → List (List Op) → Option (List Op × List (List Op))
     → Option (List Op × List (List Op))
@@ -44,7 +44,7 @@ IsTurn (lines.Told op) = ⊥
 IsTurn _ = Unit {0}
 
 module _ {Op : Type 0} (kind : Kind Op) (h : Header) where
-  -- from line n on, the lines behind t thread lines begin with these operations; line m is next
+  -- from line n on, the lines after t thread lines begin with these operations; line m is next
   pub record IsSoFar (t n : ℕ) (all : List Tokens) (ops : List Op) (m : ℕ) (others : List Tokens)
       : Type 0 where
     pub bad : bad_line (language kind) (Among h t []) n all
@@ -66,7 +66,7 @@ module _ {Op : Type 0} (kind : Kind Op) (h : Header) where
     pub before : List Op
     pub tells : told (language kind) h 0 [] all ≡ Some (before, scripts)
 
-  -- behind the lines of these scripts this line was read; line m is next
+  -- after the lines of these scripts this line was read; line m is next
   pub record AreRead (all : List Tokens) (before : List Op) (scripts : List (List Op))
       (line : Line Op) (m : ℕ) (others : List Tokens) : Type 0 where
     pub turn : IsTurn line

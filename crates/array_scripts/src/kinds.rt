@@ -33,7 +33,7 @@ pub trait Scripted {
     fn header_of(line: &[u8]) -> Option<Header>
         ensures { result ≡ header_at kind.name kind.label kind.most_places (tokens_of line.now) };
 
-    /// The operation that a first token and those behind it spell, on so many places.
+    /// The operation that a first token and those after it spell, on so many places.
     fn operation_of(
         places: u32,
         before: &Self::Before,
@@ -51,7 +51,7 @@ pub trait Scripted {
     fn has_room(before: &Self::Before) -> bool
         ensures { result ≡ nat_lt (length (ops before.now)) kind.most };
 
-    /// Adds one behind them.
+    /// Adds one after them.
     fn push(before: &mut Self::Before, op: Self::Operation) -> Result<(), OutOfMemory>
         ensures { OnOk result (ops before.new ≡ ops before.old ++ op ∷ []) };
 

@@ -1,5 +1,5 @@
 //! Scripts of operations on an array that threads share, of any kind: their lines, the first that
-//! cannot stand, why a call refuses them, and the lines of what their operations answered.
+//! may not come, why a call refuses them, and the lines of what their operations answered.
 #![tactic(auto)]
 
 mod header;

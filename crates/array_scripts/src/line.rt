@@ -1,4 +1,4 @@
-//! The lines behind a header.
+//! The lines after a header.
 
 ghost use Rattle.std.specs.Prelude.{◌≡◌, ◌≤◌, ◌<◌, ◌∷◌};
 ghost use Rattle.std.specs.Option.{option_copied};
@@ -11,7 +11,7 @@ use crate::header::Header;
 use crate::kinds::Scripted;
 use trace_text::{first_token, no_more, number_of, one_token};
 
-/// What a line behind the header says.
+/// What a line after the header says.
 #[derive(Clone, Copy, Debug, PartialEq, Eq)]
 pub enum Line<O> {
     /// The operations of the thread with this number follow.
@@ -22,7 +22,7 @@ pub enum Line<O> {
     End,
 }
 
-/// What a line says behind the lines of so many threads, the last of which has these operations.
+/// What a line says after the lines of so many threads, the last of which has these operations.
 #[tactic(auto, unfolding(crate::specs::Kinds::line_at))]
 pub fn line_of<K: Scripted>(
     header: &Header,
@@ -55,7 +55,7 @@ fn thread_of<O>(header: &Header, threads: usize, operands: Option<&[u8]>) -> Opt
     Some(Line::Thread(thread))
 }
 
-/// The end, behind the last thread.
+/// The end, after the last thread.
 #[tactic(auto, unfolding(crate::specs::Kinds::end_at))]
 fn end_of<O>(header: &Header, threads: usize, operands: Option<&[u8]>) -> Option<Line<O>>
     ensures { Gives said result
@@ -68,7 +68,7 @@ fn end_of<O>(header: &Header, threads: usize, operands: Option<&[u8]>) -> Option
     Some(Line::End)
 }
 
-/// An operation, behind a thread's line and fewer others than a thread may have.
+/// An operation, after a thread's line and fewer others than a thread may have.
 #[tactic(auto, unfolding(crate::specs::Kinds::told_at))]
 fn told_of<K: Scripted>(
     header: &Header,

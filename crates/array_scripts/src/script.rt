@@ -17,7 +17,7 @@ use trace_text::first_line;
 /// Why an input is no script.
 #[derive(Clone, Copy, Debug, PartialEq, Eq)]
 pub enum Fault {
-    /// The first line that cannot stand at its place.
+    /// The first line that is not allowed at its place.
     BadLine(u64),
     /// There was no room.
     OutOfMemory,
@@ -56,7 +56,7 @@ impl From<Fault> for Refusal {
     }
 }
 
-/// The operations of a thread, behind so many thread lines, up to the line that is none.
+/// The operations of a thread, after so many thread lines, up to the line that is none.
 fn operations_of<'a, K: Scripted>(
     alloc: Global,
     header: &Header,
@@ -90,7 +90,7 @@ fn operations_of<'a, K: Scripted>(
     Err(Fault::BadLine(read))
 }
 
-/// The scripts of the threads, by the lines behind the header.
+/// The scripts of the threads, by the lines after the header.
 fn scripts_of<K: Scripted>(
     alloc: Global,
     header: &Header,
@@ -130,7 +130,7 @@ fn scripts_of<K: Scripted>(
 ///
 /// # Errors
 ///
-/// The first line that cannot stand at its place, and want of memory.
+/// The first line that is not allowed at its place, and want of memory.
 pub fn script_of<K: Scripted>(
     alloc: Global,
     input: &[u8],

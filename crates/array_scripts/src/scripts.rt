@@ -1,12 +1,12 @@
-//! Scripts of threads: a header, the operations of each thread, and an end. Their lines may be of any
-//! language; the first line that cannot stand at its place is told apart once, for all.
+//! Scripts of threads: a header, the operations of each thread, and an end. Their lines may be of
+//! any language; the first line that is not allowed at its place is told apart once, for all.
 
 ghost use Rattle.std.specs.Prelude.{◌≡◌, ◌⊎◌, ℕ, Bool, Some, List, IsTrue};
 ghost use Rattle.array_scripts.specs.scripts.Scripts.{Language, Start, IsScript, Reads, bad_line};
 
-/// Lines are a script, or one of them is the first that cannot stand at its place, and never both;
+/// Lines are a script, or one of them is the first that may not come at its place, and never both;
 /// and they are one script at most. So it is in each language of which the readers of a header and
-/// of a line read what can stand and nothing else, whatever its lines, headers and operations are:
+/// of a line read what may come and nothing else, whatever its lines, headers and operations are:
 /// they are numbers here, and of any type in the lemmas.
 pub fn lines_are_told_apart()
     ensures either { (lang : Language ℕ ℕ ℕ ℕ) (is_header : ℕ → Bool) (fits : ℕ → ℕ → ℕ → Bool)

@@ -1,5 +1,5 @@
 pub mod Chunks
-pub mod Alone
+pub mod OwnPlaces
 pub mod LastEight
 pub mod RingRuns
 pub mod Jobs

@@ -1,6 +1,5 @@
-pub mod Calls
+pub mod CallsOfThread
 pub mod LinearizedRuns
-pub mod Among
 pub mod LiveBound
 pub mod Tables
 pub mod Turns

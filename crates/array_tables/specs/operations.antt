@@ -1,3 +1,3 @@
 pub mod Linearizations
 pub mod Applications
-pub mod SoFar
+pub mod RunPrefixes

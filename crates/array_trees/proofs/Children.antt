@@ -1,10 +1,10 @@
--- What a walk down the levels finds, where a level g stands right above a level h.
+-- What a walk down the levels finds, where a level g is right above a level h.
 use Rattle.std.proofs.Common.{◌≡◌, ℕ, suc, ◌+◌, ◌-◌, ◌*◌, ◌<◌, ◌≤◌, refl, sym, ap, ◌∙◌, subst, arith, inl, inr, Option, nat_lt}
 use Rattle.std.specs.Bool.{then_some}
 use Rattle.std.proofs.lemmas.Bool.{cases_lt, lt-ltb, le-ltb}
 use Rattle.block_store.specs.declared.Width.{Width}
 use Rattle.block_store.specs.Widths.{payloads}
-use Rattle.block_store.proofs.Registers.{many}
+use Rattle.block_store.proofs.Lemmas.{many}
 use Rattle.object_lists.specs.Parts.{link_in, link_below}
 use Rattle.array_trees.specs.Trees.{leaves}
 use Rattle.array_trees.specs.Levels.{level_size, level_start, part_from, array_part, array_depth}

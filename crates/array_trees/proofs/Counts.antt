@@ -7,7 +7,7 @@ use Rattle.std.proofs.lemmas.Bool.{cases_lt, lt-ltb, le-ltb}
 use Rattle.block_store.specs.declared.Width.{Width}
 use Rattle.block_store.specs.declared.Width.TheVariants.{Four, Eight}
 use Rattle.block_store.specs.Widths.{payloads}
-use Rattle.block_store.proofs.Registers.{many}
+use Rattle.block_store.proofs.Lemmas.{many}
 use Rattle.array_trees.specs.Trees.{blocks_over, leaves, tree_within, tree, IsTree, array_blocks}
 
 -- how std rounds up
@@ -55,7 +55,7 @@ pub tree-one : (w : ℕ) → tree w 1 ≡ 1
 unfolding tree
 tree-one w = refl
 
--- no level stands over a level of one block
+-- no level is over a level of one block
 pub tree-last : (w q : ℕ) → q ≤ 1 → 0 < q → tree w q ≡ q
 tree-last w q hq some =
     let e : q ≡ 1 = omega arith in
@@ -83,7 +83,7 @@ le-tree w (suc q) hw = elim (cases_lt 1 (suc q)) [
       subst (λ x. x ≤ tree w x) (sym e) (omega (arith, tree-one w))
 ]
 
--- where four stand under one, about a third more blocks in all
+-- where four are under one, about a third more blocks in all
 few_within : (k q : ℕ) → q ≤ 4 ^ k → 0 < q → 3 * tree 4 q < 4 * 4 ^ k
 few_within zero q hn hq =
     let e : q ≡ 1 = omega arith in

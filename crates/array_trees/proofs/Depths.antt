@@ -5,7 +5,7 @@ use Rattle.std.proofs.lemmas.Bool.{cases_lt}
 use Rattle.block_store.specs.declared.Width.{Width}
 use Rattle.block_store.specs.declared.Width.TheVariants.{Four, Eight}
 use Rattle.block_store.specs.Widths.{payloads}
-use Rattle.block_store.proofs.Registers.{many}
+use Rattle.block_store.proofs.Lemmas.{many}
 use Rattle.array_trees.specs.Trees.{blocks_over, leaves}
 use Rattle.array_trees.specs.Levels.{level, level_size, array_part, array_depth, array_way, array_turn}
 use Rattle.object_lists.specs.Parts.{Link, Field}
@@ -137,7 +137,7 @@ path-turn w e i l d s p deep power wide =
     ap (λ x. i / s % x) wide ∙ ap (λ x. i / x % payloads w) power
     ∙ ap (λ x. i / payloads w ^ (x - l) % payloads w) deep
 
--- what stands at the payload of a path
+-- what is at the payload of a path
 pub path_on : (w : Width) (e i l r : ℕ) → i < e → r ≡ array_turn w e i l → l < array_depth w e
     → array_part w e (array_way w e i l) r ≡ Link (array_way w e i (l + 1))
 path_on w e i l r fits is low =

@@ -1,4 +1,4 @@
--- What stands in the blocks of levels of which each begins where the one above it ends.
+-- What is in the blocks of levels of which each begins where the one above it ends.
 use Rattle.std.proofs.Common.{◌≡◌, ℕ, zero, suc, ◌+◌, ◌-◌, ◌*◌, ◌/◌, ◌%◌, ◌^◌, ◌<◌, ◌≤◌, refl, sym, ◌∙◌, subst, arith, inl, inr}
 use Rattle.std.proofs.Math.Nat.{div-div-eq-div-mul, pow-suc, pow-zero}
 use Rattle.std.proofs.lemmas.Bool.{cases_lt, lt-ltb, le-ltb}
@@ -186,7 +186,7 @@ module _ (w e d : ℕ) (start size : ℕ → ℕ) (levels : IsLevels w e d start
     ]
   ]
 
-  -- the block of a level under which field i stands
+  -- the block of a level under which field i is
   pub in_level : (i h : ℕ) → i < e → h ≤ d → i / w ^ suc h < size h
   in_level i zero fits hd =
       let zeroth : w ^ 0 ≡ 1 = pow-zero w in

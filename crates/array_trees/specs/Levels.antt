@@ -33,7 +33,7 @@ level_size w e h = level w (leaves w e) h
 abbrev pub level_start : ℕ → ℕ → ℕ → ℕ
 level_start w e h = tree w (level_size w e h) - level_size w e h
 
--- What stands at payload j of block o, which is in the level that is h levels above the leaves or
+-- What is at payload j of block o, which is in the level that is h levels above the leaves or
 -- in one below. Of a level that is h levels above the leaves, `start h` is the first ordinal and
 -- `size h` the number of blocks. Block r of a level has as children the blocks r * w + j of the
 -- level below, as far as they exist.
@@ -44,7 +44,7 @@ part_from w e start size (suc h) o j =
     then link_below (start h + ((o - start (suc h)) * w + j)) (start h + size h)
     else part_from w e start size h o j
 
--- what stands at payload j of block o of an array of e elements
+-- what is at payload j of block o of an array of e elements
 abbrev pub tree_part : ℕ → ℕ → ℕ → ℕ → Part
 tree_part w e o j =
     if nat_lt j w
@@ -65,11 +65,11 @@ pub record IsByLevels (w e : ℕ) : Type 0 where
   pub elements : (r j : ℕ) → j < w
       → tree_part w e (level_start w e 0 + r) j ≡ field_below (r * w + j) e
 
--- where element i stands: its leaf, and its payload
+-- where element i is: its leaf, and its payload
 abbrev pub tree_slot : ℕ → ℕ → ℕ → ℕ × ℕ
 tree_slot w e i = (level_start w e 0 + i / w, i % w)
 
--- the block of level l under which element i stands, where level 0 is the root
+-- the block of level l under which element i is, where level 0 is the root
 abbrev pub tree_way : ℕ → ℕ → ℕ → ℕ → ℕ
 tree_way w e i l = level_start w e (tree_depth w e - l) + i / w ^ (tree_depth w e - l + 1)
 

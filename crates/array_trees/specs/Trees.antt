@@ -21,7 +21,7 @@ tree_within w (suc n) q = if nat_lt 1 q then q + tree_within w n (blocks_over w 
 unfoldable pub tree : ℕ → ℕ → ℕ
 tree w q = tree_within w q q
 
--- what `tree` is: one block has no level over it, and over more blocks stands one more level
+-- what `tree` is: one block has no level over it, and over more blocks is one more level
 pub record IsTree (w : ℕ) : Type 0 where
   pub one : tree w 1 ≡ 1
   pub more : (q : ℕ) → 1 < q → tree w q ≡ q + tree w (blocks_over w q)

@@ -15,13 +15,13 @@ ghost use Rattle.array_trees.specs.Trees.{blocks_over, leaves, tree, array_block
 use block_store::Width;
 
 /// The count of a tree's blocks is the one that two equations give: one block has no level over it,
-/// and over more blocks stands a level with one block per `w` of them.
+/// and over more blocks is a level with one block per `w` of them.
 pub fn tree_counts()
     ensures equations { (w : ℕ) → 1 < w → IsTree w }
     ensures all_levels { (w q : ℕ) → 1 < w → q ≤ tree w q }
 {}
 
-// How many blocks stand right over a level of `q` blocks.
+// How many blocks are right over a level of `q` blocks.
 fn over(width: Width, q: u32) -> u32
     ensures { result ≡ blocks_over (payloads width) q }
 {
@@ -81,7 +81,7 @@ fn span(width: Width, e: u32, height: u32) -> u32
 }
 
 /// The payload at which the way to element `i` goes on from its block of this level, where level 0
-/// is the root. At level `depth_of(width, e)` the element stands there. `e` is at most 65,535, `i`
+/// is the root. At level `depth_of(width, e)` the element is there. `e` is at most 65,535, `i`
 /// is below `e`, and the level is at most `depth_of(width, e)`.
 pub fn path_of(width: Width, e: u32, i: u32, level: u32) -> u32
     requires few { e ≤ 65535 }
@@ -143,7 +143,7 @@ pub fn array_layouts()
 {}
 
 /// The registers of a thread are laid out as an array of 16 elements: in as many blocks, each
-/// register at its element's place, behind a root that links to all other blocks.
+/// register at its element's place, after a root that links to all other blocks.
 pub fn registers_are_arrays()
     ensures blocks { (w : Width) → register_blocks w ≡ array_blocks w REGISTERS }
     ensures slot { (w : Width) (t r : ℕ) → r < REGISTERS

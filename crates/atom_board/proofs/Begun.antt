@@ -19,7 +19,7 @@ use Rattle.sweep_steps.specs.Rows.{sweep_got, sweep_over, sweep_nothing, sweepin
 use Rattle.build_steps.specs.Rows.{build_got, build_reply, building}
 use Rattle.heap_system.specs.declared.Turn.{Turn}
 use Rattle.heap_system.specs.Locals.{LocalState, Errand, command_of, effect, entries_of, entry_of, errand_of, first_part, if_entered, if_over, if_replied, if_turned, is_last, is_rest, local_got, part_got, pass_by}
-use Rattle.heap_system.specs.Parts.{Part, Rest, Enter, Serve, Mark, Sweep, Build, Retry, ToChange, PhaseChange, Leave}
+use Rattle.heap_system.specs.Parts.{Part, Rest, Enter, Access, Mark, Sweep, Build, Retry, LeaveToChangePhase, PhaseChange, Leave}
 use Rattle.heap_system.specs.ThreadMemories.{HasRunOn, Ran}
 use Rattle.atom_board.specs.Drives.{commands_begun, has_begun}
 
@@ -30,7 +30,7 @@ first_begun c p e = by (ltb 0 e.due) p.sweep (ltb 0 (blocks_of c.width e.command
         (cond sweep (Sweep (sweeping p.thread p.cycle c.blocks e.due)) (Mark (scanning p)))
         (cond builds
         (Build (building c.width p.thread p.threads p.cycle e.serial e.command e.space))
-        (Serve (at_first_row p e.command)))) ≡ true
+        (Access (at_first_row p e.command)))) ≡ true
     by true true builds = refl
     by true false builds = refl
     by false sweep true = refl
@@ -79,8 +79,8 @@ module _ (c : Config) (t : ℕ) (k : Command) (work : ℕ) (e : Errand) (q : Pas
   part_begun Rest w = let more = rest_begins w in omega (arith, more)
   part_begun (Enter g) w = stays log (has_begun (part_got c t e q (Enter g) w))
       (entered_begun (gate_entered (gate_got c.width g w)) c t e (gate_got c.width g w))
-  part_begun (Serve f) w = replies t k work log (field_reply (field_got (extent c) f w).row)
-      (Serve (field_got (extent c) f w)) refl
+  part_begun (Access f) w = replies t k work log (field_reply (field_got (extent c) f w).row)
+      (Access (field_got (extent c) f w)) refl
   part_begun (Mark m) w = stays log (has_begun (part_got c t e q (Mark m) w))
       (over_begun (grey_over (grey_got (extent c) m w).row) (grey_nothing (grey_got (extent c) m w).row)
       (Mark (grey_got (extent c) m w)) refl)
@@ -90,7 +90,7 @@ module _ (c : Config) (t : ℕ) (k : Command) (work : ℕ) (e : Errand) (q : Pas
   part_begun (Build b) w = replies t k work log (build_reply (build_got (extent c) b w))
       (Build (build_got (extent c) b w)) refl
   part_begun Retry w = stays log true refl
-  part_begun ToChange w = stays log true refl
+  part_begun LeaveToChangePhase w = stays log true refl
   part_begun (PhaseChange g) w = stays log (has_begun (part_got c t e q (PhaseChange g) w))
       (turned_begun (is_last (gate_step g w)) (gate_got c.width g w))
   part_begun Leave w =

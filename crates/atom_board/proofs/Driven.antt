@@ -7,7 +7,7 @@ use Rattle.heap_machine.specs.Memories.{Acts}
 use Rattle.heap_system.specs.ThreadMemories.{HasRunOn, Ran}
 use Rattle.heap_system.specs.declared.Turn.{Turn}
 use Rattle.heap_system.specs.Locals.{LocalState, local_got, op_wanted, entries_of, effect, command_of}
-use Rattle.heap_system.proofs.Runs.{ran_on}
+use Rattle.heap_system.proofs.Lemmas.{ran_on}
 use Rattle.atom_board.specs.declared.rules.View.{View}
 use Rattle.atom_board.specs.Boards.{turns_in}
 use Rattle.atom_board.specs.ThreadMemories.{one_more, still_has}

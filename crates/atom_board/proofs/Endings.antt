@@ -13,16 +13,16 @@ use Rattle.heap_system.specs.Locals.{LocalState, is_done}
 use Rattle.heap_system.specs.Machines.{State, no_local, local_at, local_in}
 use Rattle.heap_system.specs.Serials.{AreOfThreads, AreFew}
 use Rattle.heap_system.specs.Systems.{Whole, traces_of, logs_of, AllDone, IsReached, IsFinished}
-use Rattle.heap_system.proofs.FinishedRun.{all_done, done_run, done_turns}
-use Rattle.heap_system.proofs.TurnFacts.{reached_kept}
-use Rattle.atom_board.specs.declared.rules.Held.{Held}
+use Rattle.heap_system.proofs.Lemmas.{done_run, done_turns, reached_kept}
+use Rattle.heap_system.proofs.history.FinishedRun.{all_done}
+use Rattle.atom_board.specs.declared.rules.ThreadView.{ThreadView}
 use Rattle.atom_board.specs.declared.rules.View.{View}
 use Rattle.atom_board.specs.Boards.{HeldFits, AllFit, BoardKept}
 
-abbrev local_of : Held → LocalState
+abbrev local_of : ThreadView → LocalState
 local_of h = h.local
 
-fit_at : (c : Config) (ls : List LocalState) (ts : List ℕ) (hs : List Held) (i : ℕ) (d : Held) → AllFit c ls ts hs → i < length hs → HeldFits c ls ts (get_or hs i d)
+fit_at : (c : Config) (ls : List LocalState) (ts : List ℕ) (hs : List ThreadView) (i : ℕ) (d : ThreadView) → AllFit c ls ts hs → i < length hs → HeldFits c ls ts (get_or hs i d)
 fit_at c ls ts [] i d fit low = absurd (omega arith)
 fit_at c ls ts (h ∷ hs) zero d fit low = fit.0
 fit_at c ls ts (h ∷ hs) (suc i) d fit low = fit_at c ls ts hs i d fit.1 (omega arith)
@@ -34,36 +34,36 @@ same_lists [] (y ∷ ys) d long each = absurd (omega arith)
 same_lists (x ∷ xs) [] d long each = absurd (omega arith)
 same_lists (x ∷ xs) (y ∷ ys) d long each = ap (λ z. z ∷ xs) (each 0 (omega arith)) ∙ ap (λ zs. y ∷ zs) (same_lists xs ys d (omega arith) (λ i low. each (suc i) (omega arith)))
 
-local_at_map : (hs : List Held) (i : ℕ) (h : Held) → i < length hs → get_or (map local_of hs) i h.local ≡ (get_or hs i h).local
+local_at_map : (hs : List ThreadView) (i : ℕ) (h : ThreadView) → i < length hs → get_or (map local_of hs) i h.local ≡ (get_or hs i h).local
 local_at_map [] i h low = absurd (omega arith)
 local_at_map (x ∷ hs) zero h low = refl
 local_at_map (x ∷ hs) (suc i) h low = local_at_map hs i h (omega arith)
 
-logs_map : (hs : List Held) → map (λ (l : LocalState). l.log) (map local_of hs) ≡ map (λ (h : Held). h.local.log) hs
+logs_map : (hs : List ThreadView) → map (λ (l : LocalState). l.log) (map local_of hs) ≡ map (λ (h : ThreadView). h.local.log) hs
 logs_map [] = refl
 logs_map (h ∷ hs) = ap (λ xs. h.local.log ∷ xs) (logs_map hs)
 
 -- the run that has finished, of these threads with their counts, in order
-pub record IsEndedBy (c : Config) (traces : List (List Command)) (hs : List Held) (logs : List (List Entry)) (cycles : ℕ) : Type 0 where
+pub record IsEndedBy (c : Config) (traces : List (List Command)) (hs : List ThreadView) (logs : List (List Entry)) (cycles : ℕ) : Type 0 where
   pub finished : IsFinished c traces logs cycles
-  pub local : (t : ℕ) (d : Held) → t < length hs → (get_or hs t d).local ≡ local_in c finished.run t
-  pub turns : (t : ℕ) (d : Held) → t < length hs → (get_or hs t d).turns ≡ times t finished.turns
+  pub local : (t : ℕ) (d : ThreadView) → t < length hs → (get_or hs t d).local ≡ local_in c finished.run t
+  pub turns : (t : ℕ) (d : ThreadView) → t < length hs → (get_or hs t d).turns ≡ times t finished.turns
   pub own : AreOfThreads c finished.turns
   pub few : AreFew c traces finished.turns
 
 pub ended : (k : Whole) (s : table.State Unit View) (id : ℕ) (v : View) → BoardKept k s → get_elem? s.views id ≡ some v → length v.locals ≡ k.config.threads
-    → ((t : ℕ) (d : Held) → t < length v.locals → (get_or v.locals t d).local.thread ≡ t)
-    → ((t : ℕ) (d : Held) → t < length v.locals → is_done (get_or v.locals t d).local ≡ true)
-    → IsEndedBy k.config (traces_of k.state) v.locals (map (λ (h : Held). h.local.log) v.locals) (cycle_of (get_or s.words 0 0))
+    → ((t : ℕ) (d : ThreadView) → t < length v.locals → (get_or v.locals t d).local.thread ≡ t)
+    → ((t : ℕ) (d : ThreadView) → t < length v.locals → is_done (get_or v.locals t d).local ≡ true)
+    → IsEndedBy k.config (traces_of k.state) v.locals (map (λ (h : ThreadView). h.local.log) v.locals) (cycle_of (get_or s.words 0 0))
 ended k s id v kept at long numbered done =
     let c = k.config in
     let ls = kept.locals in
     let st : State = record { words = s.words; locals = ls } in
     let r : IsReached c st = record { job = kept.after.job; turns = kept.turns; run = kept.after.run; by_turns = kept.after.by_turns; state = kept.after.state } in
     let count : length ls ≡ c.threads = (reached_kept c st r).threads in
-    let d : Held = record { local = no_local c; turns = 0 } in
-    let fit : (i : ℕ) (e : Held) → i < length v.locals → HeldFits c ls kept.turns (get_or v.locals i e) = λ i e low. fit_at c ls kept.turns v.locals i e (kept.each id v at) low in
-    let same_at : (i : ℕ) (e : Held) → i < length v.locals → (get_or v.locals i e).local ≡ get_or ls i (no_local c) = λ i e low.
+    let d : ThreadView = record { local = no_local c; turns = 0 } in
+    let fit : (i : ℕ) (e : ThreadView) → i < length v.locals → HeldFits c ls kept.turns (get_or v.locals i e) = λ i e low. fit_at c ls kept.turns v.locals i e (kept.each id v at) low in
+    let same_at : (i : ℕ) (e : ThreadView) → i < length v.locals → (get_or v.locals i e).local ≡ get_or ls i (no_local c) = λ i e low.
     ((fit i e low).1 ∙ ap (λ t. get_or ls t (get_or v.locals i e).local) (numbered i e low) ∙ get_or_default ls i (get_or v.locals i e).local (no_local c) (omega arith)) in
     let all : map local_of v.locals ≡ ls = same_lists (map local_of v.locals) ls (no_local c) (length-map v.locals local_of ∙ omega arith)
     (λ i low. (let il : i < length v.locals = omega (arith, length-map v.locals local_of) in local_at_map v.locals i d il ∙ same_at i d il)) in
@@ -78,7 +78,7 @@ ended k s id v kept at long numbered done =
       own = subst (AreOfThreads c) turns kept.own;
       few = subst (AreFew c (traces_of st)) turns (subst (λ xs. AreFew c xs kept.turns) (sym kept.given) kept.few);
     } in
-    subst (λ x. IsEndedBy c x v.locals (map (λ (h : Held). h.local.log) v.locals) cycles) kept.given
+    subst (λ x. IsEndedBy c x v.locals (map (λ (h : ThreadView). h.local.log) v.locals) cycles) kept.given
     (subst (λ x. IsEndedBy c (traces_of st) v.locals x cycles) (ap (map (λ (l : LocalState). l.log)) (sym all) ∙ logs_map v.locals) whole)
 
 -- the word that is read at place 0 is the phase word

@@ -9,7 +9,7 @@ use Rattle.heap_system.specs.Locals.{LocalState, is_done}
 use Rattle.heap_system.specs.Machines.{State, no_local, local_at, opened, after_turns}
 use Rattle.heap_system.specs.Serials.{trace_bound, job_bound, AreOfThreads, AreFew}
 use Rattle.heap_system.specs.Systems.{traces_of}
-use Rattle.heap_system.proofs.alone.Serials.{single_few}
+use Rattle.heap_system.proofs.Lemmas.{single_few}
 use Rattle.atom_board.specs.Boards.{IsStateAfter}
 use Rattle.atom_board.specs.LoneTurns.{lone_turns, EndsAlone}
 

@@ -10,7 +10,7 @@ use Rattle.never_heap.specs.declared.Command.{Command}
 use Rattle.heap_system.specs.Locals.{LocalState, at_start}
 use Rattle.heap_system.specs.Machines.{State, starts_from, opened, IsJob, IsOpening, IsRunOf}
 use Rattle.heap_system.specs.Systems.{Whole, traces_of}
-use Rattle.heap_system.proofs.SystemStart.{opened_traces}
+use Rattle.heap_system.proofs.Lemmas.{opened_traces}
 use Rattle.atom_board.specs.declared.rules.View.{View}
 use Rattle.atom_board.specs.Boards.{IsStateAfter, AllFit, helds_of, BoardKept, start_held, first_view}
 
@@ -18,7 +18,7 @@ pub at_length : (ls gs : List LocalState) (l d : LocalState) → l ≡ get_or (l
 at_length [] gs l d = refl
 at_length (x ∷ ls) gs l d = at_length ls gs l d
 
--- the threads behind the first t of them
+-- the threads after the first t of them
 starts_fit : (c : Config) (rate : ℕ) (space : ℕ → ℕ) (t : ℕ) (before : List LocalState) (traces : List (List Command)) → length before ≡ t → t + length traces ≤ c.threads
     → AllFit c (before ++ starts_from c rate space t traces) [] (map start_held (starts_from c rate space t traces))
 starts_fit c rate space t before [] at low = tt

@@ -15,10 +15,10 @@ use Rattle.heap_machine.specs.Operations.{op_place, words_after, SumFits}
 use Rattle.heap_system.specs.Locals.{LocalState, is_done, part_step, turn_of, local_got, op_wanted}
 use Rattle.heap_system.specs.Machines.{State, no_local, local_at, next, turned, opened, IsJob, IsRunOf}
 use Rattle.heap_system.specs.Systems.{Whole, traces_of, IsReached}
-use Rattle.heap_system.proofs.TurnFacts.{reached_kept, turned_traces, turn_facts, turn_made, after_last}
+use Rattle.heap_system.proofs.Lemmas.{after_last, reached_kept, turn_facts, turn_made, turned_traces}
 use Rattle.atom_board.proofs.InTime.{in_time, own_more, few_more}
 use Rattle.atom_board.specs.LoneTurns.{EndsAlone}
-use Rattle.atom_board.specs.declared.rules.Held.{Held}
+use Rattle.atom_board.specs.declared.rules.ThreadView.{ThreadView}
 use Rattle.atom_board.specs.declared.rules.View.{View}
 use Rattle.atom_board.specs.Boards.{IsStateAfter, HeldFits, AllFit, helds_of, seats_of, BoardKept, held, no_view, one_view, first_in, rest_in, first_of, rest_of, joined, moves_on, written, found_by, table_after, MayGo, IsLonger}
 
@@ -80,7 +80,7 @@ seats_set t (u ∷ us) zero v w e = let s : helds_of t u.locals ≡ helds_of t v
 seats_set t (u ∷ us) (suc id) v w e = omega (arith, seats_set t us id v w e)
 
 -- a turn of t leaves the other threads, and their counts
-others_fit : (c : Config) (ls : List LocalState) (ts : List ℕ) (t : ℕ) (l : LocalState) (hs : List Held) → helds_of t hs ≡ 0 → AllFit c ls ts hs → AllFit c (set ls t l) (ts ++ t ∷ []) hs
+others_fit : (c : Config) (ls : List LocalState) (ts : List ℕ) (t : ℕ) (l : LocalState) (hs : List ThreadView) → helds_of t hs ≡ 0 → AllFit c ls ts hs → AllFit c (set ls t l) (ts ++ t ∷ []) hs
 others_fit c ls ts t l [] none fit = tt
 others_fit c ls ts t l (h ∷ hs) none fit =
     let f = fit.0 in
@@ -147,23 +147,23 @@ seats_append : (t : ℕ) (views : List View) (w : View) → seats_of t (views ++
 seats_append t [] w = omega arith
 seats_append t (v ∷ views) w = omega (arith, seats_append t views w)
 
-pub helds_append : (t : ℕ) (hs gs : List Held) → helds_of t (hs ++ gs) ≡ helds_of t hs + helds_of t gs
+pub helds_append : (t : ℕ) (hs gs : List ThreadView) → helds_of t (hs ++ gs) ≡ helds_of t hs + helds_of t gs
 helds_append t [] gs = omega arith
 helds_append t (h ∷ hs) gs = omega (arith, helds_append t hs gs)
 
-fit_append : (c : Config) (ls : List LocalState) (ts : List ℕ) (hs gs : List Held) → AllFit c ls ts hs → AllFit c ls ts gs → AllFit c ls ts (hs ++ gs)
+fit_append : (c : Config) (ls : List LocalState) (ts : List ℕ) (hs gs : List ThreadView) → AllFit c ls ts hs → AllFit c ls ts gs → AllFit c ls ts (hs ++ gs)
 fit_append c ls ts [] gs f g = g
 fit_append c ls ts (h ∷ hs) gs f g = (f.0, fit_append c ls ts hs gs f.1 g)
 
-first_fit : (c : Config) (ls : List LocalState) (ts : List ℕ) (hs : List Held) → AllFit c ls ts hs → AllFit c ls ts (first_in hs)
+first_fit : (c : Config) (ls : List LocalState) (ts : List ℕ) (hs : List ThreadView) → AllFit c ls ts hs → AllFit c ls ts (first_in hs)
 first_fit c ls ts [] f = tt
 first_fit c ls ts (h ∷ hs) f = (f.0, tt)
 
-rest_fit : (c : Config) (ls : List LocalState) (ts : List ℕ) (hs : List Held) → AllFit c ls ts hs → AllFit c ls ts (rest_in hs)
+rest_fit : (c : Config) (ls : List LocalState) (ts : List ℕ) (hs : List ThreadView) → AllFit c ls ts hs → AllFit c ls ts (rest_in hs)
 rest_fit c ls ts [] f = tt
 rest_fit c ls ts (h ∷ hs) f = f.1
 
-cut_sum : (t : ℕ) (hs : List Held) → helds_of t (rest_in hs) + helds_of t (first_in hs) ≡ helds_of t hs
+cut_sum : (t : ℕ) (hs : List ThreadView) → helds_of t (rest_in hs) + helds_of t (first_in hs) ≡ helds_of t hs
 cut_sum t [] = omega arith
 cut_sum t (h ∷ hs) = omega arith
 

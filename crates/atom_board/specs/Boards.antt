@@ -15,7 +15,7 @@ use Rattle.heap_system.specs.Locals.{LocalState, LocalReads, is_done, local_got,
 use Rattle.heap_system.specs.Machines.{State, Run, IsJob, IsRunOf}
 use Rattle.heap_system.specs.Serials.{AreOfThreads, AreFew}
 use Rattle.heap_system.specs.Systems.{Whole, traces_of}
-use Rattle.atom_board.specs.declared.rules.Held.{Held}
+use Rattle.atom_board.specs.declared.rules.ThreadView.{ThreadView}
 use Rattle.atom_board.specs.declared.rules.View.{View}
 use Rattle.atom_board.specs.LoneTurns.{EndsAlone}
 
@@ -27,17 +27,17 @@ pub record IsStateAfter (c : Config) (ts : List ℕ) (s : State) : Type 0 where
   pub state : s ≡ run.state
 
 -- a thread that a seat holds is that of the state, and its count is that of its turns
-abbrev pub HeldFits : Config → List LocalState → List ℕ → Held → Type 0
+abbrev pub HeldFits : Config → List LocalState → List ℕ → ThreadView → Type 0
 HeldFits c ls ts h = (h.local.thread < c.threads)
     × (h.local ≡ slice_index_or ls h.local.thread h.local)
     × (h.turns ≡ times h.local.thread ts)
 
-abbrev pub AllFit : Config → List LocalState → List ℕ → List Held → Type 0
+abbrev pub AllFit : Config → List LocalState → List ℕ → List ThreadView → Type 0
 AllFit c ls ts [] = Unit {0}
 AllFit c ls ts (h ∷ hs) = HeldFits c ls ts h × AllFit c ls ts hs
 
 -- how many of these are thread t, and how many in all views
-abbrev pub helds_of : ℕ → List Held → ℕ
+abbrev pub helds_of : ℕ → List ThreadView → ℕ
 helds_of t [] = 0
 helds_of t (h ∷ hs) = bit (t == h.local.thread) + helds_of t hs
 
@@ -45,7 +45,7 @@ abbrev pub seats_of : ℕ → List View → ℕ
 seats_of t [] = 0
 seats_of t (v ∷ vs) = helds_of t v.locals + seats_of t vs
 
--- The words of the table, and the threads of all views, each of which stands in one view once, are
+-- The words of the table, and the threads of all views, each of which is in one view once, are
 -- the state after some list of turns, of the job of the system that the table was made from. The
 -- turns are of its threads, and few where there is one.
 pub record BoardKept (k : Whole) (s : table.State Unit View) : Type 0 where
@@ -59,7 +59,7 @@ pub record BoardKept (k : Whole) (s : table.State Unit View) : Type 0 where
       → AllFit k.config locals turns v.locals
   pub once : (t : ℕ) → t < k.config.threads → seats_of t s.views ≡ 1
 
-abbrev pub held : LocalState → ℕ → Held
+abbrev pub held : LocalState → ℕ → ThreadView
 held l n = record { local = l; turns = n }
 
 abbrev pub no_view : View
@@ -68,18 +68,18 @@ no_view = record { locals = [] }
 abbrev pub one_view : LocalState → ℕ → View
 one_view l n = record { locals = held l n ∷ [] }
 
-abbrev pub start_held : LocalState → Held
+abbrev pub start_held : LocalState → ThreadView
 start_held l = held l 0
 
 -- the first seat has all threads
 abbrev pub first_view : Whole → View
 first_view k = record { locals = map start_held k.state.locals }
 
-abbrev pub first_in : List Held → List Held
+abbrev pub first_in : List ThreadView → List ThreadView
 first_in [] = []
 first_in (h ∷ hs) = h ∷ []
 
-abbrev pub rest_in : List Held → List Held
+abbrev pub rest_in : List ThreadView → List ThreadView
 rest_in [] = []
 rest_in (h ∷ hs) = hs
 
@@ -92,18 +92,18 @@ rest_of v = record { locals = rest_in v.locals }
 abbrev pub joined : View → View → View
 joined v w = record { locals = v.locals ++ w.locals }
 
-abbrev pub held_after : ℕ → Held → Held
+abbrev pub held_after : ℕ → ThreadView → ThreadView
 held_after w h = held (local_got h.local w) (h.turns + 1)
 
 -- what each thread of a view is after an event that read w
 abbrev pub got_of : table.Me Unit View → ℕ → table.Me Unit View
 got_of me w = (record { locals = map (held_after w) me.0.locals }, me.1)
 
-abbrev pub AllRead : List Held → ℕ → Type 0
+abbrev pub AllRead : List ThreadView → ℕ → Type 0
 AllRead [] w = Unit {0}
 AllRead (h ∷ hs) w = LocalReads h.local.config h.local w × AllRead hs w
 
-abbrev pub AllEndAlone : List Held → Type 0
+abbrev pub AllEndAlone : List ThreadView → Type 0
 AllEndAlone [] = Unit {0}
 AllEndAlone (h ∷ hs) = EndsAlone h.local h.turns × AllEndAlone hs
 
@@ -114,7 +114,7 @@ moves_on me w after = (after ≡ got_of me w) × AllRead me.0.locals w
     × AllEndAlone (got_of me w).0.locals
 
 -- the turns of a view's first thread
-abbrev pub turns_in : List Held → ℕ
+abbrev pub turns_in : List ThreadView → ℕ
 turns_in [] = 0
 turns_in (h ∷ hs) = h.turns
 

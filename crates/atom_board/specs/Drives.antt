@@ -28,7 +28,7 @@ pub record HasTurnedBy (old new : MutatorState) : Type 0 where
   pub words : List ℕ
   pub made : MadeTurns old words new
 
--- a thread in this part has made an event of the command behind its log
+-- a thread in this part has made an event of the command after its log
 abbrev pub has_begun : Part → Bool
 has_begun Rest = false
 has_begun Leave = false

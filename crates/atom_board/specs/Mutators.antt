@@ -10,7 +10,7 @@ use Rattle.heap_system.specs.Machines.{Run, local_in}
 use Rattle.heap_system.specs.Serials.{AreOfThreads, AreFew}
 use Rattle.heap_system.specs.Systems.{IsFinished}
 use Rattle.heap_system.specs.declared.Turn.{Turn}
-use Rattle.atom_board.specs.declared.rules.Held.{Held}
+use Rattle.atom_board.specs.declared.rules.ThreadView.{ThreadView}
 use Rattle.atom_board.specs.Boards.{held}
 use Rattle.atom_board.specs.LoneTurns.{EndsAlone}
 
@@ -71,7 +71,7 @@ AreLogsOf logs ms = (t : ℕ) → t < length logs
 abbrev pub start_mutator : TableId → LocalState → MutatorState
 start_mutator id l = record { board = id; local = l; turns = 0 }
 
-abbrev pub held_of : MutatorState → Held
+abbrev pub held_of : MutatorState → ThreadView
 held_of m = held m.local m.turns
 
 abbrev pub local_of : MutatorState → LocalState

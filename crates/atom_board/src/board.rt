@@ -17,7 +17,7 @@ use crate::closed::Closed;
 use crate::driver::drives;
 use crate::mutator::Mutator;
 use crate::port::Port;
-use crate::rules::{Both, Cut, Law, View};
+use crate::rules::{JoinViews, Law, SplitView, View};
 use atomic_table::{Seat, Shared, Table};
 use block_store::{Config, OutOfMemory, read_phase};
 use heap_system::{Local, Pace, System, Turn};
@@ -79,7 +79,7 @@ fn dealt(
     let mut seat = seat;
     let mut mutators = room;
     for local in locals {
-        let own = shared.split_seat::<Cut>(&mut seat);
+        let own = shared.split_seat::<SplitView>(&mut seat);
         let port = Port { seat: own };
         mutators.push_reserved(Mutator { port, local });
     }
@@ -119,7 +119,7 @@ fn ordered(who: Vec<Mutator>, threads: usize) -> Vec<Mutator>
 }
 
 // The first of the mutators, and the others.
-#[tactic(auto, using(crate::proofs::Crews::taken_first))]
+#[tactic(auto, using(crate::proofs::AllMutators::taken_first))]
 fn first_and_rest(who: Vec<Mutator>) -> (Mutator, Vec<Mutator>)
     requires { 0 < length who.items }
     ensures { result.0 ∷ result.1.items ≡ who.items }
@@ -151,7 +151,7 @@ fn gathered(
     locals.push_reserved(local);
     for mutator in rest {
         let Mutator { port, local } = mutator;
-        shared.join_seat::<Both>(&mut seat, port.seat);
+        shared.join_seat::<JoinViews>(&mut seat, port.seat);
         locals.push_reserved(local);
     }
     (seat, locals)

@@ -1,4 +1,4 @@
-//! A thread driven to its end, by whatever memory stands for it.
+//! A thread driven to its end, by whatever memory represents it.
 
 ghost use Rattle.std.specs.Prelude.{◌≡◌, true, length};
 ghost use Rattle.heap_system.specs.Locals.{is_done};

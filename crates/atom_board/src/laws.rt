@@ -21,7 +21,7 @@ pub fn closed_runs_show_their_logs()
 {}
 
 /// A turn of a mutator is one step of the table, and keeps the rule of the board: the words and
-/// threads after it are those after the same list of turns with the mutator's thread behind it.
+/// threads after it are those after the same list of turns with the mutator's thread after it.
 pub fn turns_lengthen_the_list()
     ensures { (k : Whole) (s : table.State Unit View) (kept : BoardKept k s) (id n : ℕ)
         (l : LocalState) → MayGo s id n l → IsLonger k s kept id n l }

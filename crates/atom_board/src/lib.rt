@@ -16,5 +16,5 @@ pub use closed::Closed;
 pub use driver::drives;
 pub use laws::{closed_runs_show_their_logs, turns_lengthen_the_list};
 pub use mutator::Mutator;
-pub use rules::{Both, Cut, Held, Law, Turned, View};
+pub use rules::{JoinViews, Law, SplitView, ThreadView, Turned, View};
 pub use threaded_runs::run_job;

@@ -8,7 +8,7 @@ use heap_system::{Local, System};
 use std::collections::LinkedList;
 
 /// A thread, and how many turns it has made. No value of it is made.
-pub struct Held {
+pub struct ThreadView {
     /// The thread.
     pub local: Local,
     /// Its turns, of which there may be any number.
@@ -18,7 +18,7 @@ pub struct Held {
 /// The threads that a seat has. No value of it is made.
 pub struct View {
     /// One for a mutator's seat.
-    pub locals: LinkedList<Held>,
+    pub locals: LinkedList<ThreadView>,
 }
 
 /// The words, and the threads of all seats, are the state after some list of turns.
@@ -38,18 +38,18 @@ impl Play<(), View> for Turned {
 }
 
 /// One thread goes to a new seat.
-pub struct Cut {}
+pub struct SplitView {}
 
-impl Split<View> for Cut {
+impl Split<View> for SplitView {
     ghost left = { rest_of };
 
     ghost right = { first_of };
 }
 
 /// A seat takes the threads of another.
-pub struct Both {}
+pub struct JoinViews {}
 
-impl Join<View> for Both {
+impl Join<View> for JoinViews {
     ghost both = { joined };
 
     ghost spent = { no_view };

@@ -1,12 +1,12 @@
--- What holds of each row that may follow holds of the one that follows. The part is decided behind
+-- What holds of each row that may follow holds of the one that follows. The part is decided after
 -- its linearization point, and over once it has its reply. And what the step of a command is, where
 -- the graph is what its linearization point reads.
 use Rattle.std.proofs.Common.{◌≡◌, ◌≢◌, ℕ, ◌<◌, Bool, true, false, ◌||◌, not, cond, None, Some, IsSome, ltb, ltb-true, eqb, eqb-true, refl, arith, ap, length, sym, ◌∙◌, subst}
-use Rattle.barrier_steps.proofs.Common.{eqb-false, Config, Payload, Shape, Extent, extent, holds_nothing, Command, Name, Value, Reply, target, Width, FieldRow, Purpose, Pass, GreyRow, grey_over, FieldStore, TreePath, shape_length, links_to, payload_in, shape_in, object_in, stored_word, shaded_for, is_taken, before_store, in_barrier, first_row, row_got, field_reply, field_decided, after_object, after_shape, after_field, after_said, after_owner, after_register, at_block, on_way, way_from, way_on, row_holding, refers, length_decides, register_decides, is_deciding, blocks_of, to_register, answered_register, field_index, is_get, is_put, is_swap, is_cas, is_say, goes_to_field, takes_field, answers_value, stores_in_field, TakeOwn, LoadRegister, LoadShape, LoadLink, LoadField, LoadOwner, Shade, Store, Answered, Moved, Pending, InField, Exchanged, Compared, Copied, Object, Expected, Stored, Second, Shown, New, Arr, Get, Put, Swap, Cas, Say, answer, shades, lt-ltb, Graph, ObjectKind, Record, Array, object_of, field_of, register_of, with_register, with_field, step, swapped, same_value, kind_shape, from_register, other_register, looks_at_object, expected_register, payload_or_nil, shape_or_empty, graph_after, IsWordOf, ShapeShown, constant_set, at_object, at_field, sets_constant, is_mov, is_same, is_idle, not-true, Set, Mov, Len, Same, Idle}
+use Rattle.barrier_steps.proofs.Common.{eqb-false, Config, Payload, Shape, Extent, extent, holds_nothing, Command, Name, Value, Reply, target, Width, FieldRow, Purpose, Pass, GreyRow, grey_over, FieldStore, TreePath, shape_length, links_to, payload_in, shape_in, object_in, stored_word, shaded_for, is_taken, before_store, in_barrier, first_row, row_got, field_reply, field_decided, after_object, after_shape, after_field, after_said, after_owner, after_register, at_block, on_way, way_from, way_on, row_in_hand, refers, length_decides, register_decides, is_deciding, blocks_of, to_register, answered_register, field_index, is_get, is_put, is_swap, is_cas, is_say, goes_to_field, takes_field, answers_value, stores_in_field, TakeOwn, LoadRegister, LoadShape, LoadLink, LoadField, LoadOwner, Shade, Store, Answered, Moved, Pending, InField, Exchanged, Compared, Copied, Object, Expected, Stored, Second, Shown, New, Arr, Get, Put, Swap, Cas, Say, answer, shades, lt-ltb, Graph, ObjectKind, Record, Array, object_of, field_of, register_of, with_register, with_field, step, swapped, same_value, kind_shape, from_register, other_register, looks_at_object, expected_register, payload_or_nil, shape_or_empty, graph_after, IsWordOf, ShapeShown, constant_set, at_object, at_field, sets_constant, is_mov, is_same, is_idle, not-true, Set, Mov, Len, Same, Idle}
 use Rattle.block_store.specs.declared.Payload.TheVariants as payloads
 use Rattle.block_store.specs.declared.Value.TheVariants as values
 use Rattle.never_heap.specs.declared.Reply.TheVariants as replies
-use Rattle.never_heap.proofs.StepAnswers.{makers_have_blocks}
+use Rattle.never_heap.proofs.Lemmas.{makers_have_blocks}
 
 pub both : (P : Bool → Type 0) (b : Bool) → P true → P false → P b
 both P true x y = x
@@ -29,12 +29,12 @@ module _ (P : FieldRow → Type 0) where
       let y : ℕ = shaded_for p (stored_word store) in
       either_is P (eqb y 0) _ _ (λ e. once (eqb-true y 0 e)) (λ e. shades (eqb-false y 0 e))
 
-  -- what holds of the store's row behind its barrier and of row r of it
+  -- what holds of the store's row after its barrier and of row r of it
   pub barrier_is : (r : GreyRow) (store : FieldStore) → (grey_over r ≡ true → P (Store store))
       → (grey_over r ≡ false → P (Shade r store)) → P (in_barrier r store)
   barrier_is r store over shades = either_is P (grey_over r) _ _ over shades
 
-  -- of those behind a field, and behind a register that is shown
+  -- of those after a field, and after a register that is shown
   pub field_is : (w : ℕ) (q : Payload) → ((v : Value) → P (Store (Pending w v))) → P (LoadOwner w)
       → P (after_field w q)
   field_is w payloads.Nil store owner = store values.Nil
@@ -47,7 +47,7 @@ module _ (P : FieldRow → Type 0) where
   said_is w (payloads.Int n) answer owner = answer (values.Int n)
   said_is w (payloads.Block x) answer owner = owner
 
-  -- of those at the block of the field, and behind the object's shape
+  -- of those at the block of the field, and after the object's shape
   pub at_block_is : (p : Pass) (k : Command) (way : TreePath) (word : ℕ)
       → ((goes_to_field k ≡ true → is_get k ≡ true) → P (LoadField way))
       → (is_put k ≡ true → P (before_store p (InField way word)))
@@ -74,7 +74,7 @@ module _ (P : FieldRow → Type 0) where
       either_is P (ltb i (shape_length f)) _ _ (λ e. expected (ltb-true i _ e) refl) (λ _. answer replies.Range)
   after_shape_is e p _ x f answer stored expected way = answer (replies.Len (shape_length f))
 
-  -- and behind the owner of a block
+  -- and after the owner of a block
   pub after_owner_is : (p : Pass) (k : Command) (word : ℕ) (value : Value)
       → (is_say k ≡ true → P (Answered (replies.Val value)))
       → ((answers_value k ≡ true → takes_field k ≡ true) → answered_register k ≡ to_register k
@@ -109,10 +109,10 @@ or_none true = refl
 or_none false = refl
 
 module _ (m : ℕ) (p : Pass) where
-  -- whether it is decided; and behind the event of a row that stores no word that was loaded its
+  -- whether it is decided; and after the event of a row that stores no word that was loaded its
   -- thread holds nothing
   abbrev Quiet : Bool → FieldRow → Type 0
-  Quiet b row = (field_decided row ≡ b) × MakesNone row × (row_holding m p row ≡ holds_nothing)
+  Quiet b row = (field_decided row ≡ b) × MakesNone row × (row_in_hand m p row ≡ holds_nothing)
 
   before_quiet : (store : FieldStore) → Quiet (is_taken store) (before_store p store)
   before_quiet store = before_is (Quiet (is_taken store)) p store

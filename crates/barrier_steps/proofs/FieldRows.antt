@@ -4,13 +4,13 @@
 use Rattle.std.proofs.Common.{◌≡◌, ◌≢◌, ℕ, ◌<◌, ◌≤◌, ◌+◌, true, false, cond, IsSome, is_some, arith, refl, sym, subst, ap, ◌∙◌, leb, zero, suc, ◌-◌, ◌^◌, ◌/◌, ◌%◌, Option, None, Some, List, [], ◌∷◌, length, get_or, ltb, ltb-true, ltb-false}
 use Rattle.barrier_steps.proofs.Common.{lt-ltb, Config, REGISTERS, Payload, Shape, target, payload_of, payload_code, payload-code, target-number, target-nil, extent, PayloadOf, register_block, register_slot, payloads, IsShape, Command, IsCommandInRange, place_of, Pass, FieldRow, Purpose, GreyRow, is_shading, block_stays, FieldStore, TreePath, to_register, answered_register, field_index, constant_word, is_get, is_say, goes_to_field, is_swap, is_cas, takes_field, stores_in_field, shape_length, links_to, FieldState, register_place, payload_in, shape_in, stored_word, shaded_for, before_store, at_first_row, register_wanted, row_want, row_got, field_got, after_object, after_field, after_said, on_way, way_from, way_on, IsThread, IsWalk, IsThere, IsBarrier, is_store_of, StoreFits, is_row_of, FitsAt, FieldFits, ReadsAt, FieldReads, le-leb, IsPayload, in_range, is_block, IsBlock, registers_end, Fits, StoresHeld, LoadRegister, LoadShape, LoadLink, LoadField, LoadOwner, Shade, Store, StoreConstant, Moved, Pending, InField, Exchanged, Compared, object_in, IsLoaded, RowFits, Swap, Cas, Get, Set, New, Copied, Object, Expected, Stored, First, Second, Shown, from_register, other_register, expected_register, payload_or_nil, shape_or_empty, shape_of, Width, Extent, shape_part, link_at, field_at, ordinal_at, or_zero, reads_in, TakeOwn, ShadeStored, PutOwn, Shaded, marking_got, payload_reads, or_right, false_from_ne_true}
 use Rattle.block_store.specs.declared.Payload.TheVariants as payloads
-use Rattle.block_store.proofs.Registers.{wide, in_array, root_end, register_some, slot_low}
+use Rattle.block_store.proofs.Lemmas.{in_array, register_some, root_end, slot_low, wide}
 use Rattle.grey_steps.proofs.RowsFit as ranges
 use Rattle.barrier_steps.proofs.Decisions.{either_is, before_is, barrier_is, at_block_is, after_shape_is, after_owner_is}
 use Rattle.std.proofs.lemmas.List.{get_or_past}
 use Rattle.std.specs.List.{AllByRecursion}
 use Rattle.never_heap.specs.Signatures.{Operand, Register, Destination, Exchanged as Exchange, IsInRange, operands, destination_in}
-use Rattle.never_heap.proofs.CommandBounds.{operands_in_range}
+use Rattle.never_heap.proofs.Lemmas.{operands_in_range}
 use Rattle.block_store.proofs.ShapeWords as shape_words
 use Rattle.std.proofs.lemmas.Nat.{mod_below}
 use Rattle.block_store.specs.declared.Shape.TheVariants as shapes
@@ -75,7 +75,7 @@ shape_fits w some = go (shape_of w) refl some
     go None is h = absurd cc
     go (Some f) is h = (shape_words.reads w f is).0
 
--- there are few links, and links and fields stand in the payloads of a block
+-- there are few links, and links and fields are in the payloads of a block
 slot_in : (w : Width) (i : ℕ) → ((record_slot w i).0 ≤ i) × ((record_slot w i).1 < payloads w)
 slot_in Four i = let h : i % 3 < 3 = mod_below i 3 (omega arith) in (omega arith, omega arith)
 slot_in Eight i = let h : i % 7 < 7 = mod_below i 7 (omega arith) in (omega arith, omega arith)

@@ -3,6 +3,6 @@ pub mod Decisions
 pub mod FieldRows
 pub mod RowEvents
 pub mod RowReads
-pub mod Dues
+pub mod RepliesDue
 pub mod PhaseRulesKept
 pub mod NameRulesKept

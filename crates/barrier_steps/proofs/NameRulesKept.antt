@@ -4,22 +4,21 @@ use Rattle.barrier_steps.proofs.Common.{unloaded, cases_Bool, Config, Name, chan
 use Rattle.barrier_steps.specs.declared.rows.Purpose.TheVariants as wants
 use Rattle.std.proofs.lemmas.Bool.{both_ways}
 use Rattle.block_store.specs.Colours.{is_free}
-use Rattle.block_store.proofs.Functions.{funext}
+use Rattle.block_store.proofs.Lemmas.{funext}
 use Rattle.never_heap.specs.declared.Entry.{Entry}
 use Rattle.never_heap.specs.Histories.{HistoryItem, Did, after}
-use Rattle.never_heap.proofs.StepAnswers.{step_not_full}
+use Rattle.never_heap.proofs.Lemmas.{step_not_full}
 use Rattle.heap_invariant.specs.graph_relation.Events as commanded
 use Rattle.heap_invariant.specs.name_invariant.Events.{event_thread, leaves_graph, loaded_word, MayDecide}
-use Rattle.heap_invariant.specs.name_invariant.Kept.{IsKept}
+use Rattle.heap_invariant.specs.name_invariant.Invariant.{Invariant}
 use Rattle.heap_invariant.specs.name_invariant.Pictures.{Task, Names, no_task, picture}
 use Rattle.heap_invariant.specs.name_invariant.States.{KeptState, Kept}
-use Rattle.heap_invariant.proofs.name_invariant.Commands.{serves, decides, answers}
-use Rattle.heap_invariant.proofs.name_invariant.KeptStates.{loaded_kept}
+use Rattle.heap_invariant.proofs.Lemmas.{answers, decides, loaded_kept, serves}
 use Rattle.grey_steps.proofs.Pictures.{shading_keeps_names}
 use Rattle.barrier_steps.specs.Decided.{field_task, entry_on, graph_on, order_on}
 use Rattle.barrier_steps.specs.Projection.{event_of, IsAtRow, IsInHand}
 use Rattle.barrier_steps.specs.Replies.{Shown, reply_due, IsKnown}
-use Rattle.barrier_steps.proofs.Dues.{row_due}
+use Rattle.barrier_steps.proofs.RepliesDue.{row_due}
 use Rattle.barrier_steps.proofs.FieldRows.{barrier_shades}
 use Rattle.barrier_steps.proofs.PhaseRulesKept.{row_colour, field_phase}
 use Rattle.barrier_steps.proofs.RowEvents.{has_value, words_moved, loads_moved, row_guarded, barrier_loading, graph_stays, graph_steps}
@@ -57,12 +56,12 @@ in_hand s at t k (Store (Compared way word)) w shown = (shown.0.name, shown.0.re
 in_hand s at t k _ w shown = (record { thread = 0; serial = 0 }, tt)
 
 -- an event, or none, of a command, with which it is decided or is not
-module _ (c : Config) (s : KeptState) (k : IsKept c s) (entry : Entry) where
+module _ (c : Config) (s : KeptState) (k : Invariant c s) (entry : Entry) where
   moved : (o : Option Event) (d : Bool) → IfSome o (commanded.Guard c.width c.threads s.seen)
       → IfSome o (λ x. (entry.thread ≡ event_thread x) × (d ≡ false → leaves_graph x ≡ true))
       → (d ≡ true → MayDecide c s entry)
       → (d ≡ true → (after_event (extent c) s.seen o).graph ≡ after s.seen.graph (Did entry))
-      → IsKept c (record s { seen = after_event (extent c) s.seen o; order = cond d (s.order ++ Did entry ∷ []) s.order })
+      → Invariant c (record s { seen = after_event (extent c) s.seen o; order = cond d (s.order ++ Did entry ∷ []) s.order })
   moved None false guard own may graph = k
   moved None true guard own may graph = answers c s k entry (may refl, sym (graph refl))
   moved (Some x) false guard own may graph = serves c s k x (guard, own.1 refl)
@@ -86,7 +85,7 @@ module _ (c : Config) (g : Graph) (order : List HistoryItem) (h : Heap) (names :
       picture (graph_on g f w) (order_on g order f w) (heap_after h (field_want (extent c) f)) names
       (changed tasks f.pass.thread (field_task (extent c) (field_got (extent c) f w)))
 
-  module _ (f : FieldState) (fits : FieldFits c f) (is : tasks f.pass.thread ≡ field_task (extent c) f) (k : IsKept c now) where
+  module _ (f : FieldState) (fits : FieldFits c f) (is : tasks f.pass.thread ≡ field_task (extent c) f) (k : Invariant c now) where
     abbrev t : ℕ
     t = f.pass.thread
 
@@ -159,8 +158,8 @@ module _ (c : Config) (g : Graph) (order : List HistoryItem) (h : Heap) (names :
         scans = sym (changed_map (λ (x : Task). x.scan) tasks t next ∙ changed_self (λ u. (tasks u).scan) t 0 (ap (λ (x : Task). x.scan) is)) i;
       }
 
-      pub plain_names : IsKept c (later f)
-      plain_names = subst (λ (s : KeptState). IsKept c s) is_picture (moved c now k (entry_on g f) event (is_deciding f.command f.row w)
+      pub plain_names : Invariant c (later f)
+      plain_names = subst (λ (s : KeptState). Invariant c s) is_picture (moved c now k (entry_on g f) event (is_deciding f.command f.row w)
           (row_guarded c now.seen hand.0 f.pass f.command h f.row w fits reads_in at_row hand.1)
           (own_event (extent c) hand.0 t f.command f.row w).0 decided steps)
 
@@ -170,10 +169,10 @@ module _ (c : Config) (g : Graph) (order : List HistoryItem) (h : Heap) (names :
   -- a row of the barrier
   shade_names : (p : Pass) (k : Command) (row : FieldRow) → shades row ≡ true → FitsAt c p k row
       → is_sweep (h Phase) ≡ p.sweep → cycle_of (h Phase) ≡ p.cycle → tasks p.thread ≡ field_task (extent c) (at p k row)
-      → IsKept c now → IsKept c (later (at p k row))
+      → Invariant c now → Invariant c (later (at p k row))
   shade_names p k (Shade r store) part fits sweep cycle is kept =
       let b = fits.row.0 in
-      subst (λ (ts : ℕ → Task). IsKept c (picture g order (heap_after h (row_want (extent c) p k (Shade r store))) names ts))
+      subst (λ (ts : ℕ → Task). Invariant c (picture g order (heap_after h (row_want (extent c) p k (Shade r store))) names ts))
       (sym (changed_self tasks p.thread _ (is ∙ ap (λ (l : Loading). record no_task { loading = l }) (sym (barrier_loading c p k _ store)))))
       (shading_keeps_names c g order h names tasks (record { pass = p; row = r }) b.fits (sweep ∙ b.mark) cycle
       (barrier_shades c p r store b)
@@ -183,7 +182,7 @@ module _ (c : Config) (g : Graph) (order : List HistoryItem) (h : Heap) (names :
 
   pub keeps_names : (f : FieldState) → FieldFits c f → field_reply f.row ≡ None
       → is_sweep (h Phase) ≡ f.pass.sweep → cycle_of (h Phase) ≡ f.pass.cycle
-      → tasks f.pass.thread ≡ field_task (extent c) f → IsKept c now → IsKept c (later f)
+      → tasks f.pass.thread ≡ field_task (extent c) f → Invariant c now → Invariant c (later f)
   keeps_names f fits going sweep cycle is kept = elim (cases_Bool (shades f.row)) [
     | inl part ↦ shade_names f.pass f.command f.row part fits sweep cycle is kept
     | inr plain ↦ plain_names f fits is kept plain going
@@ -191,7 +190,7 @@ module _ (c : Config) (g : Graph) (order : List HistoryItem) (h : Heap) (names :
 
   -- what is loaded is of a kept name, and its block is not Free
   pub loaded_solid : (f : FieldState) → FieldFits c f → tasks f.pass.thread ≡ field_task (extent c) f
-      → IsKept c now → NotFree (λ x. h (ColourOf x)) (target (word_stored f.row))
+      → Invariant c now → NotFree (λ x. h (ColourOf x)) (target (word_stored f.row))
   loaded_solid f fits is k = go f.row (ap (λ (x : Task). x.loading) is)
     where
       go : (row : FieldRow) → (tasks f.pass.thread).loading ≡ row_loading (extent c) f.command row

@@ -1,21 +1,17 @@
 -- Each event of a command keeps all that a heap keeps in either phase, and leaves the phase, the
 -- cursor and the grey blocks as they are.
 use Rattle.std.proofs.Common.{◌≡◌, ℕ, true, false, eqb, refl, sym, ap, ◌∙◌, eqb-true, ◌<◌, cond, IsSome, subst}
-use Rattle.barrier_steps.proofs.Common.{Config, white_word, Heap, put_at, extent, Phase, ColourOf, PayloadOf, Extent, payloads, Command, holds_nothing, heap_after, place_of, Pass, GreyRow, is_shading, block_stored, grey_over, FieldRow, FitsAt, FieldFits, ReadsAt, FieldReads, FieldState, shades, row_want, field_want, row_holding, payload_in, shape_in, at_first_row, stored_word, field_place, way_on, after_field, row_got, word_stored, field_got, field_reply, changed, payload_of, target, is_sweep, cycle_of, changed_map, changed_self, target-number, target-nil, IsHeld, NotFree, block_stays, constant_word, is_grey, Cursor, sweep_held, Holding, grey_held, tricolour_held, free_held, Exchange, grey_holding, Shade, Store, LoadRegister, LoadShape, LoadLink, LoadField, LoadOwner, StoreConstant, Answered, Compared, Exchanged, field_holding, object_in, held_before_store, shading_goes_on, Set, New, ShadeStored, marking_got}
-use Rattle.block_store.proofs.ColourWords.{not_grey_white}
+use Rattle.barrier_steps.proofs.Common.{Config, white_word, Heap, put_at, extent, Phase, ColourOf, PayloadOf, Extent, payloads, Command, holds_nothing, heap_after, place_of, Pass, GreyRow, is_shading, block_stored, grey_over, FieldRow, FitsAt, FieldFits, ReadsAt, FieldReads, FieldState, shades, row_want, field_want, row_in_hand, payload_in, shape_in, at_first_row, stored_word, field_place, way_on, after_field, row_got, word_stored, field_got, field_reply, changed, payload_of, target, is_sweep, cycle_of, changed_map, changed_self, target-number, target-nil, IsHeld, NotFree, block_stays, constant_word, is_grey, Cursor, sweep_held, WorkInHand, grey_held, tricolour_held, free_held, Exchange, grey_in_hand, Shade, Store, LoadRegister, LoadShape, LoadLink, LoadField, LoadOwner, StoreConstant, Answered, Compared, Exchanged, field_in_hand, object_in, held_before_store, shading_goes_on, Set, New, ShadeStored, marking_got}
+use Rattle.block_store.proofs.Lemmas.{not_grey_white}
 use Rattle.heap_machine.specs.Sweeping.{no_claim}
 use Rattle.grey_steps.specs.declared.rows.GreyRow.TheVariants as greys
 use Rattle.barrier_steps.proofs.FieldRows.{barrier_shades, stores_at, payload_cases}
-use Rattle.heap_machine.specs.Grey.{GreyHolding, GreyKept}
+use Rattle.heap_machine.specs.Grey.{GreyInHand, GreyKept}
 use Rattle.heap_machine.specs.HeapKept.{CanRefer}
 use Rattle.heap_machine.specs.PhaseKept.{PhaseKept}
-use Rattle.heap_machine.specs.Tricolour.{TricolourHolding, NotWhite, TricolourKept}
-use Rattle.heap_machine.proofs.GreyBlocks.{kept_other}
-use Rattle.heap_machine.proofs.Held.{held_after}
-use Rattle.heap_machine.proofs.HeapRules.{part_changed}
-use Rattle.heap_machine.proofs.ReuseRules.{reuse_other, reuse_stays}
-use Rattle.heap_machine.proofs.Solids.{solid_payload}
-use Rattle.heap_machine.proofs.Tricolours.{lets_go, kept_payload}
+use Rattle.heap_machine.specs.Tricolour.{TricolourInHand, NotWhite, TricolourKept}
+use Rattle.heap_machine.proofs.Lemmas.{held_after, kept_other, kept_payload, part_changed, reuse_other, reuse_stays, solid_payload}
+use Rattle.heap_machine.proofs.Tricolours.{lets_go}
 use Rattle.grey_steps.specs.declared.rows.GreyRow.TheVariants.{Shaded}
 use Rattle.grey_steps.proofs.Reuses as reuses
 use Rattle.barrier_steps.proofs.Decisions.{way_quiet, shape_quiet, register_quiet, owner_quiet, barrier_is, either, either_is}
@@ -62,31 +58,31 @@ module _ (c : Config) (h : Heap) (x : ℕ) (p : Pass) (k : Command) where
 
 -- a command scans nothing and has claimed nothing
 pub row_found : (c : Config) (p : Pass) (k : Command) (row : FieldRow) → FitsAt c p k row
-    → (row_holding (payloads c.width) p row).found ≡ 0
+    → (row_in_hand (payloads c.width) p row).found ≡ 0
 row_found c p k (Shade (greys.Shade x j y a) store) fits = absurd (fits.row.0.refers (sym fits.row.0.stores))
 row_found c p k _ fits = refl
 
-pub row_claims : (m : ℕ) (p : Pass) (row : FieldRow) → sweep_held (row_holding m p row) ≡ no_claim
+pub row_claims : (m : ℕ) (p : Pass) (row : FieldRow) → sweep_held (row_in_hand m p row) ≡ no_claim
 row_claims m p (Shade (greys.Take u) store) = refl
 row_claims m p _ = refl
 
 -- thread t goes on where it holds nothing but a block that it has shaded, and then nothing
-module _ (e : Extent) (h : Heap) (hs : ℕ → Holding) (k : PhaseKept e h hs) (t y : ℕ)
+module _ (e : Extent) (h : Heap) (hs : ℕ → WorkInHand) (k : PhaseKept e h hs) (t y : ℕ)
     (low : t < e.threads) (is : hs t ≡ record holds_nothing { shaded = y }) where
   pub lets_shaded_go : PhaseKept e h (changed hs t holds_nothing)
   lets_shaded_go = record {
-    grey = subst (λ (ws : ℕ → GreyHolding). GreyKept e.threads h ws)
+    grey = subst (λ (ws : ℕ → GreyInHand). GreyKept e.threads h ws)
         (sym (changed_map grey_held hs t holds_nothing
         ∙ changed_self (λ u. grey_held (hs u)) t (grey_held holds_nothing) (ap grey_held is))) k.grey;
     reuse = reuse_stays e h hs k.reuse t holds_nothing low (ap free_held is) (ap sweep_held is);
-    tricolour = λ mark. subst (λ (ws : ℕ → TricolourHolding).
+    tricolour = λ mark. subst (λ (ws : ℕ → TricolourInHand).
         TricolourKept e (cycle_of (h Phase)) h ws) (part_changed tricolour_held hs t holds_nothing)
         (lets_go e (cycle_of (h Phase)) h (λ u. tricolour_held (hs u)) t (k.tricolour mark));
     solid = k.solid;
   }
 
 -- a payload is overwritten, in Mark by a word that may be stored anywhere
-stored_kept : (e : Extent) (h : Heap) (hs : ℕ → Holding) (x j w : ℕ)
+stored_kept : (e : Extent) (h : Heap) (hs : ℕ → WorkInHand) (x j w : ℕ)
     → (is_sweep (h Phase) ≡ false → CanRefer (cycle_of (h Phase)) h (target w))
     → PhaseKept e h hs → PhaseKept e (put_at h (PayloadOf x j) w) hs
 stored_kept e h hs x j w can k = record {
@@ -100,15 +96,15 @@ stored_kept e h hs x j w can k = record {
 
 -- nil and numbers refer to no block
 field_nothing : (m : ℕ) (p : Pass) (w : ℕ) → IsSome (payload_of w)
-    → row_holding m p (after_field w (payload_in w)) ≡ holds_nothing
+    → row_in_hand m p (after_field w (payload_in w)) ≡ holds_nothing
 field_nothing m p w some =
     let none : target w ≡ 0 → held_before_store p w ≡ holds_nothing =
     λ is. ap (λ y. record holds_nothing { shaded = y }) (either (λ y. y ≡ 0) p.sweep 0 (target w) refl is) in
-    payload_cases w some (λ q. row_holding m p (after_field w q) ≡ holds_nothing) none (λ v is low. none is) (λ x to some. refl)
+    payload_cases w some (λ q. row_in_hand m p (after_field w q) ≡ holds_nothing) none (λ v is low. none is) (λ x to some. refl)
 
 -- at its end a barrier holds that its block was shaded
 over_holds : (m : ℕ) (p : Pass) (word : ℕ) (r : GreyRow) → p.sweep ≡ false → grey_over r ≡ true → is_shading r ≡ true
-    → block_stored r ≡ target word → grey_holding m r ≡ held_before_store p word
+    → block_stored r ≡ target word → grey_in_hand m r ≡ held_before_store p word
 over_holds m p word (Shaded y) mark over shading stores =
     ap (λ y. record holds_nothing { shaded = y }) (stores ∙ ap (λ b. cond b 0 (target word)) (sym mark))
 over_holds m p word _ mark over shading stores = absurd cc
@@ -118,14 +114,14 @@ constant_target : (k : Command) → target (constant_word k) ≡ 0
 constant_target (Set d v) = target-number v
 constant_target _ = target-nil
 
-module _ (c : Config) (h : Heap) (hs : ℕ → Holding) (p : Pass) (k : Command)
+module _ (c : Config) (h : Heap) (hs : ℕ → WorkInHand) (p : Pass) (k : Command)
     (sweep : is_sweep (h Phase) ≡ p.sweep) (cycle : cycle_of (h Phase) ≡ p.cycle)
     (kept : PhaseKept (extent c) h hs) (low : p.thread < c.threads) where
   abbrev m : ℕ
   m = payloads c.width
 
   abbrev After : Heap → FieldRow → Type 0
-  After q row = PhaseKept (extent c) q (changed hs p.thread (row_holding m p row))
+  After q row = PhaseKept (extent c) q (changed hs p.thread (row_in_hand m p row))
 
   -- the word that a row reads, and the row after it
   abbrev read : FieldRow → ℕ
@@ -135,12 +131,12 @@ module _ (c : Config) (h : Heap) (hs : ℕ → Holding) (p : Pass) (k : Command)
   next row = row_got (extent c) p k row (read row)
 
   -- where the row after it holds nothing
-  goes : (q : Heap) (row : FieldRow) → row_holding m p row ≡ holds_nothing
+  goes : (q : Heap) (row : FieldRow) → row_in_hand m p row ≡ holds_nothing
       → PhaseKept (extent c) q (changed hs p.thread holds_nothing) → After q row
-  goes q row e = subst (λ (w : Holding). PhaseKept (extent c) q (changed hs p.thread w)) (sym e)
+  goes q row e = subst (λ (w : WorkInHand). PhaseKept (extent c) q (changed hs p.thread w)) (sym e)
 
   -- a load, before which and after which the thread holds nothing
-  loads : (row : FieldRow) → hs p.thread ≡ holds_nothing → row_holding m p (next row) ≡ holds_nothing → After h (next row)
+  loads : (row : FieldRow) → hs p.thread ≡ holds_nothing → row_in_hand m p (next row) ≡ holds_nothing → After h (next row)
   loads row is e = goes h (next row) e (lets_shaded_go (extent c) h hs kept p.thread 0 low is)
 
   -- a store, with which the command is over
@@ -155,13 +151,13 @@ module _ (c : Config) (h : Heap) (hs : ℕ → Holding) (p : Pass) (k : Command)
       → is_sweep (h Phase) ≡ false → CanRefer (cycle_of (h Phase)) h (target w)
   can_store w is solid mark = record {
     dark =
-        let shaded : (hs p.thread).shaded ≡ target w = ap (λ (v : Holding). v.shaded) is ∙ ap (λ b. cond b 0 (target w)) (sym sweep ∙ mark) in
+        let shaded : (hs p.thread).shaded ≡ target w = ap (λ (v : WorkInHand). v.shaded) is ∙ ap (λ b. cond b 0 (target w)) (sym sweep ∙ mark) in
         subst (NotWhite (cycle_of (h Phase)) (λ x. h (ColourOf x))) shaded ((kept.tricolour mark).shaded p.thread low);
     solid = solid;
   }
 
   row_keeps : (row : FieldRow) → FitsAt c p k row → ReadsAt c p k row (read row)
-      → NotFree (λ x. h (ColourOf x)) (target (word_stored row)) → hs p.thread ≡ row_holding m p row
+      → NotFree (λ x. h (ColourOf x)) (target (word_stored row)) → hs p.thread ≡ row_in_hand m p row
       → After (heap_after h (row_want (extent c) p k row)) (next row)
   row_keeps (LoadRegister wanted) fits reads solid is =
       loads (LoadRegister wanted) is (register_quiet m p (extent c) k wanted (read (LoadRegister wanted))).2
@@ -179,7 +175,7 @@ module _ (c : Config) (h : Heap) (hs : ℕ → Holding) (p : Pass) (k : Command)
       let shading = barrier_shades c p r store is in
       let goes = reuses.keeps_phase c h hs (record { pass = p; row = r }) is.fits (sweep ∙ is.mark) cycle kept holds in
       barrier_is (After q) on store
-      (λ over. subst (λ (v : Holding). PhaseKept (extent c) q (changed hs p.thread v))
+      (λ over. subst (λ (v : WorkInHand). PhaseKept (extent c) q (changed hs p.thread v))
       (over_holds m p (stored_word store) on is.mark over (shading_goes_on m p.threads p.cycle r w shading)
       (block_stays m p.threads p.cycle r w shading ∙ is.stores)) goes)
       (λ _. goes)
@@ -193,22 +189,22 @@ module _ (c : Config) (h : Heap) (hs : ℕ → Holding) (p : Pass) (k : Command)
       (λ _. record { dark = λ some. absurd (some (constant_target k)); solid = λ some. absurd (some (constant_target k)) })
   row_keeps row fits reads solid is = loads row is refl
 
-pub keeps_phase : (c : Config) (h : Heap) (hs : ℕ → Holding) (f : FieldState) → FieldFits c f
+pub keeps_phase : (c : Config) (h : Heap) (hs : ℕ → WorkInHand) (f : FieldState) → FieldFits c f
     → FieldReads c f (h (place_of (field_want (extent c) f)))
     → is_sweep (h Phase) ≡ f.pass.sweep → cycle_of (h Phase) ≡ f.pass.cycle
     → NotFree (λ x. h (ColourOf x)) (target (word_stored f.row))
-    → PhaseKept (extent c) h hs → hs f.pass.thread ≡ field_holding (extent c) f
+    → PhaseKept (extent c) h hs → hs f.pass.thread ≡ field_in_hand (extent c) f
     → PhaseKept (extent c) (heap_after h (field_want (extent c) f)) (changed hs f.pass.thread
-    (field_holding (extent c) (field_got (extent c) f (h (place_of (field_want (extent c) f))))))
+    (field_in_hand (extent c) (field_got (extent c) f (h (place_of (field_want (extent c) f))))))
 keeps_phase c h hs f fits reads sweep cycle solid kept is =
     row_keeps c h hs f.pass f.command sweep cycle kept fits.thread.thread f.row fits reads solid is
 
 -- a command begins and ends with nothing in hand
-pub first_nothing : (e : Extent) (p : Pass) (k : Command) → field_holding e (at_first_row p k) ≡ holds_nothing
+pub first_nothing : (e : Extent) (p : Pass) (k : Command) → field_in_hand e (at_first_row p k) ≡ holds_nothing
 first_nothing e p (New d f) = refl
 first_nothing e p _ = refl
 
-pub over_nothing : (m : ℕ) (p : Pass) (row : FieldRow) → IsSome (field_reply row) → row_holding m p row ≡ holds_nothing
+pub over_nothing : (m : ℕ) (p : Pass) (row : FieldRow) → IsSome (field_reply row) → row_in_hand m p row ≡ holds_nothing
 over_nothing m p (Answered reply) over = refl
 over_nothing m p _ over = absurd cc
 

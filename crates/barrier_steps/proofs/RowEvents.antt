@@ -49,7 +49,7 @@ module _ (c : Config) (p : Pass) (k : Command) where
   abbrev loading : FieldRow → Loading
   loading row = row_loading (extent c) k row
 
-  -- it stays until the store, at once or behind its barrier
+  -- it stays until the store, at once or after its barrier
   before_loading : (store : FieldStore) → loading (before_store p store) ≡ store_loading (extent c) k store
   before_loading store = before_is (λ row. loading row ≡ store_loading (extent c) k store) p store (λ _. refl) (λ _. refl)
 
@@ -107,7 +107,7 @@ module _ (c : Config) (s : GraphState) (t : ℕ) where
   register_leaves k wants.Shown w = either Leaves (refers (payload_in w)) _ _ (refl, refl) (refl, refl)
   register_leaves k _ w = (refl, refl)
 
-  -- behind it the thread has loaded l
+  -- after it the thread has loaded l
   abbrev LoadsTo : Loading → ℕ → Option Event → Type 0
   LoadsTo l u o = (after_event (extent c) s o).loads u ≡ with_load s.loads t l u
 

@@ -6,23 +6,21 @@ use Rattle.block_store.specs.declared.Payload.TheVariants as payloads
 use Rattle.block_store.specs.declared.Value.TheVariants as values
 use Rattle.block_store.specs.WideOwners.{wide_of}
 use Rattle.block_store.specs.Payloads.{reference_word}
-use Rattle.block_store.proofs.PayloadWords.{target-reference}
+use Rattle.block_store.proofs.Lemmas.{target-reference}
 use Rattle.never_heap.specs.declared.Reply.TheVariants as replies
 use Rattle.object_lists.specs.Parts.{Part, Link, Field}
 use Rattle.heap_invariant.specs.graph_relation.Layouts.{layout_part, object_part}
 use Rattle.heap_invariant.specs.graph_relation.Words.{part_word}
-use Rattle.heap_invariant.specs.graph_relation.Shown.{IsValueOf}
+use Rattle.heap_invariant.specs.graph_relation.GraphOfWords.{IsValueOf}
 use Rattle.heap_invariant.specs.graph_relation.Events.{pending_registers, is_pending, object_in, ObjectIs, ValueIs, LoadIs}
-use Rattle.heap_invariant.proofs.graph_relation.ObjectLayouts.{object_layout}
-use Rattle.heap_invariant.proofs.graph_relation.WordReads.{value_read, length_read, register_read, blocks_apart, words_tell}
-use Rattle.heap_invariant.proofs.graph_relation.Loads.{name_shown}
+use Rattle.heap_invariant.proofs.Lemmas.{blocks_apart, length_read, name_shown, object_layout, register_read, value_read, words_tell}
 use Rattle.barrier_steps.specs.Rows as rows
 use Rattle.barrier_steps.specs.Replies.{FieldShown}
 use Rattle.barrier_steps.proofs.FieldRows.{to_low, from_low, other_low, expected_low, wanted_low, way_is, link_low, field_low, IsHeldWord, place_at}
 use Rattle.barrier_steps.proofs.RowEvents.{payload_read, cas_expects}
 use Rattle.barrier_steps.proofs.Decisions.{kind_length}
 
--- what stands in the blocks of an object's shape is what stands in those of the object
+-- what is in the blocks of an object's shape is what is in those of the object
 same_part : (c : Config) (k : ObjectKind) (n o j : ℕ) → shape_part c.width (kind_shape k n) o j ≡ layout_part c.width k n o j
 same_part c Record n o j = refl
 same_part c Array n o j = refl
@@ -78,7 +76,7 @@ module _ (c : Config) (m : ℕ) (K : Name → Type 0) (at : Name → ℕ → ℕ
     abbrev ordinal : ℕ
     ordinal = ordinal_at (extent c) way.shape i way.level
 
-    -- the shape that was read is the object's, and what stands there is in the object's block
+    -- the shape that was read is the object's, and what is there is in the object's block
     part_is : (j : ℕ) (p : Part) → shape_part c.width way.shape ordinal j ≡ p → object_part c.width (object_of s.graph is.name) ordinal j ≡ p
     part_is j p e = sym (ap (λ f. shape_part c.width f ordinal j) is.shape
         ∙ same_part c (object_of s.graph is.name).kind (length (object_of s.graph is.name).fields) ordinal j) ∙ e

@@ -4,7 +4,7 @@ use Rattle.block_store.specs.Places.{Extent}
 use Rattle.never_heap.specs.declared.Entry.{Entry}
 use Rattle.never_heap.specs.Graphs.{Graph}
 use Rattle.never_heap.specs.Histories.{HistoryItem, Did}
-use Rattle.never_heap.specs.RightWork.{units_told}
+use Rattle.never_heap.specs.RightWork.{requested_units}
 use Rattle.heap_invariant.specs.name_invariant.Pictures.{Task, no_task}
 use Rattle.barrier_steps.specs.Rows.{FieldState}
 use Rattle.barrier_steps.specs.Deciding.{is_deciding}
@@ -21,7 +21,7 @@ entry_on g f = record {
   thread = f.pass.thread;
   command = f.command;
   reply = answer g f.pass.thread f.command;
-  work = units_told f.command;
+  work = requested_units f.command;
 }
 
 -- the graph and the order after the event that reads w

@@ -124,7 +124,7 @@ abbrev pub constant_set : Command → Value
 constant_set (commands.Set d v) = values.Int v
 constant_set _ = values.Nil
 
--- the event at which thread t in command k loads a register, in which w stands
+-- the event at which thread t in command k loads a register, in which w is
 abbrev pub register_event : ℕ → Command → Purpose → ℕ → Option Event
 register_event t k wants.Object w = if refers (payload_in w)
     then Some (events.ReadObject t (from_register k)) else None

@@ -18,7 +18,7 @@ use Rattle.never_heap.specs.declared.Command.TheVariants as commands
 use Rattle.never_heap.specs.declared.Reply.{Reply}
 use Rattle.never_heap.specs.declared.Reply.TheVariants as replies
 use Rattle.block_store.specs.Registers.{register_block, register_slot}
-use Rattle.heap_machine.specs.Holdings.{Holding, holds_nothing}
+use Rattle.heap_machine.specs.WorkInHand.{WorkInHand, holds_nothing}
 use Rattle.heap_machine.specs.Operations.{Operation, Load, Exchange, CompareExchange}
 use Rattle.heap_machine.specs.declared.pass.Pass.{Pass}
 use Rattle.heap_machine.specs.declared.Step.{Step}
@@ -33,7 +33,7 @@ use Rattle.barrier_steps.specs.declared.rows.FieldStore.TheVariants.{Moved, Pend
 use Rattle.grey_steps.specs.declared.rows.GreyRow.{GreyRow}
 use Rattle.grey_steps.specs.declared.rows.GreyRow.TheVariants.{TakeOwn}
 use Rattle.grey_steps.specs.Rows as marking
-use Rattle.grey_steps.specs.Rows.{grey_over, grey_holding}
+use Rattle.grey_steps.specs.Rows.{grey_over, grey_in_hand}
 use Rattle.barrier_steps.specs.Operands.{to_register, from_register, other_register, field_index, constant_word, expected_register}
 use Rattle.barrier_steps.specs.Walks.{shape_length, links_to, link_at, field_at}
 
@@ -124,7 +124,7 @@ register_wanted k (wants.Stored way) = other_register k
 register_wanted k (wants.Second word) = other_register k
 register_wanted k _ = from_register k
 
--- where the field of command k stands, at the end of its way
+-- where the field of command k is, at the end of its way
 abbrev pub field_place : Extent → Command → TreePath → Place
 field_place e k way = PayloadOf way.block (field_at e way.shape (field_index k))
 
@@ -299,13 +299,13 @@ field_decided _ = false
 
 -- what the thread holds before the event of a row, where a block has this many payloads: what the
 -- barrier holds, and then that the block was shaded to which a reference is stored
-abbrev pub held_before_store : Pass → ℕ → Holding
+abbrev pub held_before_store : Pass → ℕ → WorkInHand
 held_before_store p word = record holds_nothing { shaded = shaded_for p word }
 
-abbrev pub row_holding : ℕ → Pass → FieldRow → Holding
-row_holding width p (Shade r store) = grey_holding width r
-row_holding width p (Store store) = held_before_store p (stored_word store)
-row_holding width p _ = holds_nothing
+abbrev pub row_in_hand : ℕ → Pass → FieldRow → WorkInHand
+row_in_hand width p (Shade r store) = grey_in_hand width r
+row_in_hand width p (Store store) = held_before_store p (stored_word store)
+row_in_hand width p _ = holds_nothing
 
-abbrev pub field_holding : Extent → FieldState → Holding
-field_holding e s = row_holding (payloads e.width) s.pass s.row
+abbrev pub field_in_hand : Extent → FieldState → WorkInHand
+field_in_hand e s = row_in_hand (payloads e.width) s.pass s.row

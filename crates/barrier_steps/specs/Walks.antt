@@ -1,5 +1,5 @@
 -- The way from the first block of an object to one of its fields: how many links there are, and
--- where each stands.
+-- where each is.
 use Rattle.std.specs.Prelude.{ℕ}
 use Rattle.block_store.specs.Places.{Extent}
 use Rattle.block_store.specs.declared.Shape.{Shape}
@@ -18,12 +18,12 @@ abbrev pub links_to : Extent → Shape → ℕ → ℕ
 links_to e (shapes.List f) i = (record_slot e.width i).0
 links_to e (shapes.Tree n) i = array_depth e.width n
 
--- at which payload the link stands that leads on to field i, after l links
+-- at which payload the link is that leads on to field i, after l links
 abbrev pub link_at : Extent → Shape → ℕ → ℕ → ℕ
 link_at e (shapes.List f) i l = 0
 link_at e (shapes.Tree n) i l = array_turn e.width n i l
 
--- at which payload field i stands in its block
+-- at which payload field i is in its block
 abbrev pub field_at : Extent → Shape → ℕ → ℕ
 field_at e (shapes.List f) i = (record_slot e.width i).1
 field_at e (shapes.Tree n) i = array_turn e.width n i (array_depth e.width n)

@@ -16,7 +16,7 @@ ghost use Rattle.never_heap.specs.Bounds.{IsCommandInRange};
 ghost use Rattle.never_heap.specs.Steps.{blocks_of};
 ghost use Rattle.heap_invariant.specs.graph_relation.Layouts.{shape_part};
 ghost use Rattle.heap_invariant.specs.graph_relation.Words.{block_words};
-ghost use Rattle.heap_invariant.specs.graph_relation.Shown.{heads, named, IsSized};
+ghost use Rattle.heap_invariant.specs.graph_relation.GraphOfWords.{heads, named, IsSized};
 ghost use Rattle.heap_invariant.specs.graph_relation.Events.{GraphState, Follows, Guard, with_load};
 ghost use Rattle.heap_machine.specs.Operations.{place_of, heap_after, Fits};
 ghost use Rattle.heap_machine.specs.Readings.{StoresHeld, IsHeld};
@@ -52,7 +52,7 @@ pub fn rows_stay_in_the_heap()
 {}
 
 /// A part is decided exactly after its linearization point, of which there is one at most, and it
-/// has a reply only behind it. That never says that an object was made.
+/// has a reply only after it. That never says that an object was made.
 pub fn rows_decide_once()
     ensures first { (w : Width) (k : Command) → blocks_of w k ≡ 0
         → field_decided (first_row k) ≡ false }

@@ -610,7 +610,7 @@ impl FieldPass {
         }
     }
 
-    // After a register in which this word stands.
+    // After a register in which this word is.
     #[inline(always)]
     fn after_register(&self, places: &Places, wanted: Purpose, read: u64) -> FieldRow
         requires word { IsSome (payload_of read) }

@@ -12,16 +12,16 @@ ghost use Rattle.block_store.specs.Places.{Extent, extent, Phase, Cursor, Colour
 ghost use Rattle.never_heap.specs.declared.Command.{Command};
 ghost use Rattle.never_heap.specs.Graphs.{Graph};
 ghost use Rattle.never_heap.specs.Histories.{HistoryItem};
-ghost use Rattle.heap_invariant.specs.name_invariant.Kept.{IsKept};
+ghost use Rattle.heap_invariant.specs.name_invariant.Invariant.{Invariant};
 ghost use Rattle.heap_invariant.specs.name_invariant.Pictures.{Task, Names, picture};
-ghost use Rattle.heap_machine.specs.Holdings.{Holding, holds_nothing, sweep_held};
+ghost use Rattle.heap_machine.specs.WorkInHand.{WorkInHand, holds_nothing, sweep_held};
 ghost use Rattle.heap_machine.specs.Operations.{place_of, heap_after};
 ghost use Rattle.heap_machine.specs.PhaseKept.{PhaseKept};
 ghost use Rattle.heap_machine.specs.Readings.{IsHeld};
 ghost use Rattle.heap_machine.specs.Solid.{NotFree};
 ghost use Rattle.heap_machine.specs.Sweeping.{no_claim};
 ghost use Rattle.heap_machine.specs.declared.pass.Pass.{Pass};
-ghost use Rattle.barrier_steps.specs.Rows.{FieldState, at_first_row, word_stored, field_want, field_got, field_reply, field_holding};
+ghost use Rattle.barrier_steps.specs.Rows.{FieldState, at_first_row, word_stored, field_want, field_got, field_reply, field_in_hand};
 ghost use Rattle.barrier_steps.specs.Fits.{FieldFits, FieldReads};
 ghost use Rattle.barrier_steps.specs.Decided.{field_task, graph_on, order_on};
 ghost use Rattle.barrier_steps.specs.Deciding.{is_deciding};
@@ -32,18 +32,18 @@ ghost use Rattle.barrier_steps.specs.Replies.{answer, reply_due, IsKnown};
 /// Free. A command begins and ends with nothing in hand. Each word stays one that its place can
 /// hold.
 pub fn rows_keep_the_heap()
-    ensures kept { (c : Config) (h : Heap) (hs : ℕ → Holding) (f : FieldState) → FieldFits c f
+    ensures kept { (c : Config) (h : Heap) (hs : ℕ → WorkInHand) (f : FieldState) → FieldFits c f
         → FieldReads c f (h (place_of (field_want (extent c) f)))
         → is_sweep (h Phase) ≡ f.pass.sweep → cycle_of (h Phase) ≡ f.pass.cycle
         → NotFree (λ x. h (ColourOf x)) (target (word_stored f.row))
-        → PhaseKept (extent c) h hs → hs f.pass.thread ≡ field_holding (extent c) f
+        → PhaseKept (extent c) h hs → hs f.pass.thread ≡ field_in_hand (extent c) f
         → PhaseKept (extent c) (heap_after h (field_want (extent c) f))
-        (changed hs f.pass.thread (field_holding (extent c)
+        (changed hs f.pass.thread (field_in_hand (extent c)
         (field_got (extent c) f (h (place_of (field_want (extent c) f)))))) }
     ensures first { (e : Extent) (p : Pass) (k : Command)
-        → field_holding e (at_first_row p k) ≡ holds_nothing }
+        → field_in_hand e (at_first_row p k) ≡ holds_nothing }
     ensures over { (e : Extent) (f : FieldState) → IsSome (field_reply f.row)
-        → field_holding e f ≡ holds_nothing }
+        → field_in_hand e f ≡ holds_nothing }
     ensures words { (c : Config) (h : Heap) (f : FieldState) → FieldFits c f → IsHeld c h
         → IsHeld c (heap_after h (field_want (extent c) f)) }
 {}
@@ -58,8 +58,8 @@ pub fn rows_keep_the_names()
         (tasks : ℕ → Task) (f : FieldState) → FieldFits c f → field_reply f.row ≡ None
         → is_sweep (h Phase) ≡ f.pass.sweep → cycle_of (h Phase) ≡ f.pass.cycle
         → tasks f.pass.thread ≡ field_task (extent c) f
-        → IsKept c (picture g order h names tasks)
-        → IsKept c (picture (graph_on g f (h (place_of (field_want (extent c) f))))
+        → Invariant c (picture g order h names tasks)
+        → Invariant c (picture (graph_on g f (h (place_of (field_want (extent c) f))))
         (order_on g order f (h (place_of (field_want (extent c) f))))
         (heap_after h (field_want (extent c) f)) names
         (changed tasks f.pass.thread (field_task (extent c)
@@ -67,12 +67,12 @@ pub fn rows_keep_the_names()
     ensures solid { (c : Config) (g : Graph) (order : List HistoryItem) (h : Heap) (names : Names)
         (tasks : ℕ → Task) (f : FieldState) → FieldFits c f
         → tasks f.pass.thread ≡ field_task (extent c) f
-        → IsKept c (picture g order h names tasks)
+        → Invariant c (picture g order h names tasks)
         → NotFree (λ x. h (ColourOf x)) (target (word_stored f.row)) }
     ensures due { (c : Config) (g : Graph) (order : List HistoryItem) (h : Heap) (names : Names)
         (tasks : ℕ → Task) (f : FieldState) → FieldFits c f
         → tasks f.pass.thread ≡ field_task (extent c) f
-        → IsKept c (picture g order h names tasks) → IsKnown g f
+        → Invariant c (picture g order h names tasks) → IsKnown g f
         → (reply_due (graph_on g f (h (place_of (field_want (extent c) f))))
         (field_got (extent c) f (h (place_of (field_want (extent c) f))))
         ≡ (if is_deciding f.command f.row (h (place_of (field_want (extent c) f)))
@@ -82,7 +82,7 @@ pub fn rows_keep_the_names()
     ensures reads { (c : Config) (g : Graph) (order : List HistoryItem) (h : Heap) (names : Names)
         (tasks : ℕ → Task) (f : FieldState) → FieldFits c f
         → tasks f.pass.thread ≡ field_task (extent c) f
-        → IsKept c (picture g order h names tasks) → IsHeld c h → field_reply f.row ≡ None
+        → Invariant c (picture g order h names tasks) → IsHeld c h → field_reply f.row ≡ None
         → FieldReads c f (h (place_of (field_want (extent c) f))) }
 {}
 
@@ -97,7 +97,7 @@ pub fn rows_leave_the_gate()
         → is_grey (h (ColourOf x)) ≡ true
         → heap_after h (field_want (extent c) f) (ColourOf x) ≡ h (ColourOf x) }
     ensures scans { (c : Config) (f : FieldState) → FieldFits c f
-        → (field_holding (extent c) f).found ≡ 0 }
+        → (field_in_hand (extent c) f).found ≡ 0 }
     ensures claims { (c : Config) (f : FieldState)
-        → sweep_held (field_holding (extent c) f) ≡ no_claim }
+        → sweep_held (field_in_hand (extent c) f) ≡ no_claim }
 {}

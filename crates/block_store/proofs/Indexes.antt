@@ -65,7 +65,7 @@ pub differ : (e : Extent) (p q : Place) → in_range e p ≡ true → in_range e
     → index e p ≡ index e q → p ≡ q
 differ e p q a b i = sym (back e p a) ∙ ap (place_at e) i ∙ back e q b
 
--- k words behind the colour of a block are below the number of words
+-- k words after the colour of a block are below the number of words
 in_words : (e : Extent) (x k : ℕ) → is_block e x ≡ true → k < block_size e
     → block_index e x + k < words_count e
 in_words e x k h low =

@@ -8,3 +8,4 @@ pub mod PhaseWords
 pub mod Indexes
 pub mod Registers
 pub mod Totals
+pub mod Lemmas

@@ -1,4 +1,4 @@
--- Where registers stand, over both widths.
+-- Where registers are, over both widths.
 use Rattle.std.proofs.Common.{◌≡◌, ℕ, ◌+◌, ◌-◌, ◌*◌, ◌/◌, ◌%◌, ◌<◌, ◌≤◌, refl, arith}
 use Rattle.block_store.specs.declared.Width.{Width}
 use Rattle.block_store.specs.declared.Width.TheVariants.{Four, Eight}
@@ -41,7 +41,7 @@ pub arrays_small : (w : Width) → (3 ≤ register_blocks w) × (register_blocks
 arrays_small Four = (omega arith, omega arith)
 arrays_small Eight = (omega arith, omega arith)
 
--- the arrays lie one behind the other, from block 1 on
+-- the arrays lie one after the other, from block 1 on
 pub root_first : (w : Width) → root_block w 0 ≡ 1
 root_first Four = refl
 root_first Eight = refl
@@ -81,7 +81,7 @@ pub end_more : (w : Width) (n m : ℕ) → n ≤ m → registers_end w n ≤ reg
 end_more Four n m h = omega arith
 end_more Eight n m h = omega arith
 
--- a register stands in a block of its thread's array, behind the root
+-- a register is in a block of its thread's array, after the root
 pub slot_low : (w : Width) (r : ℕ) → register_slot w r < payloads w
 slot_low Four r = omega arith
 slot_low Eight r = omega arith
@@ -103,7 +103,7 @@ pub register_low : (w : Width) (n t r : ℕ) → t < n → r < REGISTERS
 register_low Four n t r h l = omega arith
 register_low Eight n t r h l = omega arith
 
--- no register stands in the root of an array
+-- no register is in the root of an array
 pub not_root : (w : Width) (t r u : ℕ) → r < REGISTERS → register_block w t r ≡ root_block w u → ⊥
 not_root Four t r u l e = omega arith
 not_root Eight t r u l e = omega arith
@@ -115,7 +115,7 @@ pub one_register : (w : Width) (t r u q : ℕ) → r < REGISTERS → q < REGISTE
 one_register Four t r u q l m e f = (omega arith, omega arith)
 one_register Eight t r u q l m e f = (omega arith, omega arith)
 
--- the registers that stand in blocks of their own thread alone
+-- the registers that are in blocks of their own thread alone
 pub own_array : (w : Width) (t r u q : ℕ) → r < REGISTERS → q < REGISTERS
     → register_block w t r ≡ register_block w u q → t ≡ u
 own_array Four t r u q l m e = omega arith
@@ -163,7 +163,7 @@ pub root_in : (w : Width) (n t : ℕ) → t < n → root_block w t ≤ registers
 root_in Four n t h = omega arith
 root_in Eight n t h = omega arith
 
--- the ordinal of a register's block, behind the root
+-- the ordinal of a register's block, after the root
 pub register_ordinal_of : (w : Width) (t r : ℕ) → r < REGISTERS
     → register_ordinal w (register_block w t r) ≡ 1 + r / payloads w
 register_ordinal_of Four t r h = omega arith

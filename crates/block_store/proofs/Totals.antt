@@ -1,4 +1,4 @@
--- Sums over the numbers below n, and how often a number stands in a list.
+-- Sums over the numbers below n, and how often a number is in a list.
 use Rattle.std.proofs.Common.{◌≡◌, ℕ, zero, suc, ◌≤◌, ◌<◌, refl, arith, ◌+◌, eqb, ap, List, [], ◌∷◌, ◌++◌, length, inl, inr, ne_eqb}
 use Rattle.std.proofs.lemmas.Bool.{cases_eq}
 use Rattle.block_store.specs.Counts.{total, times}
@@ -26,7 +26,7 @@ pub total_nought : (n : ℕ) → total n (λ x. 0) ≡ 0
 total_nought zero = refl
 total_nought (suc n) = let rest : total n (λ x. 0) ≡ 0 = total_nought n in omega arith
 
--- how often a number stands in two lists, and in the numbers from 1 to n
+-- how often a number is in two lists, and in the numbers from 1 to n
 pub times_append : (x : ℕ) (xs ys : List ℕ) → times x (xs ++ ys) ≡ times x xs + times x ys
 times_append x [] ys = omega arith
 times_append x (y ∷ xs) ys = omega (arith, times_append x xs ys)
@@ -50,7 +50,7 @@ one_at_most (suc n) y = elim (cases_eq (suc n) y) [
       omega (arith, one_at_most n y)
 ]
 
--- the numbers from 1 to n stand in a list at most as often as it is long
+-- the numbers from 1 to n are in a list at most as often as it is long
 pub all_times : (n : ℕ) (ys : List ℕ) → total n (λ x. times (suc x) ys) ≤ length ys
 all_times n [] = omega (arith, total_nought n)
 all_times n (y ∷ ys) = omega (

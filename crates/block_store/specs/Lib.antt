@@ -10,4 +10,4 @@ pub mod Phases
 pub mod Places
 pub mod Heaps
 pub mod Counts
-pub mod Texts
+pub mod ErrorTexts

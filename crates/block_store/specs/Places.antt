@@ -68,7 +68,7 @@ words_count e = 3 + 2 * e.threads + block_size e * e.blocks
 abbrev pub bytes : Config → ℕ
 bytes c = 8 * words_count (extent c)
 
--- the place of block x whose word is k words behind the colour
+-- the place of block x whose word is k words after the colour
 abbrev pub in_block : ℕ → ℕ → Place
 in_block x k =
     cond (k == 0) (ColourOf x)

@@ -1,4 +1,4 @@
--- Where the registers of threads stand: each thread's are an array of 16 elements, and the arrays
+-- Where the registers of threads are: each thread's are an array of 16 elements, and the arrays
 -- take the first blocks of the heap, thread by thread. This is the one place with the numbers of
 -- that layout, for either width.
 use Rattle.std.specs.Prelude.{ℕ, ◌+◌, ◌-◌, ◌*◌, ◌/◌, ◌%◌}
@@ -15,7 +15,7 @@ abbrev pub register_block : Width → ℕ → ℕ → ℕ
 register_block Four t r = 5 * t + 2 + r / 4
 register_block Eight t r = 3 * t + 2 + r / 8
 
--- the payload of that block at which the register stands
+-- the payload of that block at which the register is
 abbrev pub register_slot : Width → ℕ → ℕ
 register_slot Four r = r % 4
 register_slot Eight r = r % 8

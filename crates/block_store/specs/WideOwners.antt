@@ -1,4 +1,4 @@
--- The words of owners whose serials take 43 bits. The bits of a serial above its 24 lowest stand
+-- The words of owners whose serials take 43 bits. The bits of a serial above its 24 lowest are
 -- above the thread, so that the word of a small serial is that of `Owners`.
 use Rattle.std.specs.Prelude.{ℕ, ◌+◌, ◌*◌, ◌/◌, ◌%◌, ◌^◌, ◌<◌, ◌≤◌, nat_le, ◌&&◌, if◌then◌else◌, Option, Some, None}
 use Rattle.block_store.specs.declared.Owner.{Owner}

@@ -74,9 +74,9 @@ pub fn writes_are_of_places()
         → heap_of e (slice_set ws (index e p) v) ≡ put_at (heap_of e ws) p v }
 {}
 
-/// In blocks of either width the register arrays of threads lie one behind the other, from block 1
-/// on, and each block of them is of one thread and ordinal. Each register stands in a block of its
-/// thread's array behind the root, and distinct registers at distinct places.
+/// In blocks of either width the register arrays of threads lie one after the other, from block 1
+/// on, and each block of them is of one thread and ordinal. Each register is in a block of its
+/// thread's array after the root, and distinct registers at distinct places.
 pub fn registers_are_placed()
     ensures first { (w : Width) → root_block w 0 ≡ 1 }
     ensures next { (w : Width) (t : ℕ) → root_block w (t + 1) ≡ root_block w t + register_blocks w }

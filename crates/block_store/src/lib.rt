@@ -6,7 +6,7 @@ ghost use Rattle.std.specs.Prelude.{◌≡◌, ◌<◌, ◌≤◌, ◌↔◌, Is
 ghost use Rattle.block_store.specs.Configs.{IsInBounds};
 ghost use Rattle.block_store.specs.Places.{bytes};
 ghost use Rattle.block_store.specs.Registers.{root_block, register_block, register_slot, registers_end};
-ghost use Rattle.block_store.specs.Texts.{out_of_memory_text};
+ghost use Rattle.block_store.specs.ErrorTexts.{out_of_memory_text};
 ghost use Rattle.block_store.specs.Widths.{payloads, register_blocks};
 
 mod colours;
@@ -83,7 +83,7 @@ impl Width {
         self.registers() * threads
     }
 
-    /// The block of register `r` of thread `t`, and the payload at which it stands. Both numbers
+    /// The block of register `r` of thread `t`, and the payload at which it is. Both numbers
     /// are below 16.
     #[tactic(auto, using(crate::proofs::Registers::block_by, crate::proofs::Registers::slot_by))]
     pub fn register(self, t: u32, r: u32) -> (u32, u32)
@@ -112,7 +112,7 @@ impl OutOfMemory {
 
 impl fmt::Display for OutOfMemory {
     ghost use Rattle.std.specs.Prelude.{Some};
-    ghost use Rattle.block_store.specs.Texts.{out_of_memory_text};
+    ghost use Rattle.block_store.specs.ErrorTexts.{out_of_memory_text};
 
     ghost output = { λ _. Some out_of_memory_text };
 

@@ -1,5 +1,5 @@
 -- What a state builds, for the rules of kept names; and where these hold, what it has written
--- stands.
+-- is.
 use Rattle.std.proofs.Common.{
   ◌≡◌,
   ℕ,
@@ -28,7 +28,7 @@ use Rattle.never_heap.specs.Histories.{HistoryItem}
 use Rattle.heap_invariant.specs.graph_relation.Words.{block_words}
 use Rattle.heap_invariant.specs.name_invariant.Building.{Build, build_blocks, IsBuild}
 use Rattle.heap_invariant.specs.name_invariant.Pictures.{Names, Task}
-use Rattle.heap_machine.specs.Holdings.{Holding}
+use Rattle.heap_machine.specs.WorkInHand.{WorkInHand}
 use Rattle.build_steps.specs.declared.rows.BuildRow.{BuildRow}
 use Rattle.build_steps.specs.declared.rows.BuildRow.TheVariants.{
   ReadCount,
@@ -45,9 +45,9 @@ use Rattle.build_steps.specs.Naming.{
   built_object,
   row_build,
 }
-use Rattle.build_steps.specs.Rows.{BuildState, build_over, row_holding, build_holding}
+use Rattle.build_steps.specs.Rows.{BuildState, build_over, row_in_hand, build_in_hand}
 use Rattle.build_steps.specs.Standing.{IsWhole, IsBegun, Stands, left_of, begun_of}
-use Rattle.build_steps.proofs.Once.{row_holds}
+use Rattle.build_steps.proofs.DistinctHeldBlocks.{row_holds}
 use Rattle.build_steps.proofs.Parts.{has_blocks}
 use Rattle.build_steps.proofs.Shapes.{made_blocks, payload_made, shape_made}
 
@@ -62,7 +62,7 @@ pub over_builds_none : (W : Width) (s : BuildState) → build_over s.row ≡ tru
 over_builds_none W s e = over_row W s s.row e
 
 holds_row : (c : Config) (s : BuildState) (r : BuildRow) → RowFits c s.blocks s.held r
-    → HoldsBuild (row_build c.width s r) (row_holding s.blocks s.held r)
+    → HoldsBuild (row_build c.width s r) (row_in_hand s.blocks s.held r)
 holds_row c s ReadCount f = tt
 holds_row c s (Reserve seen) f = tt
 holds_row c s Built f = tt
@@ -70,7 +70,7 @@ holds_row c s Refused f = tt
 holds_row c s r f = λ o low left. row_holds c s.blocks s.held r o f low left
 
 pub holds_build : (c : Config) (s : BuildState) → BuildFits c s
-    → HoldsBuild (build_of c.width s) (build_holding s)
+    → HoldsBuild (build_of c.width s) (build_in_hand s)
 holds_build c s f = holds_row c s s.row f.row
 
 -- the object takes the state's blocks
@@ -140,7 +140,7 @@ pub thread_low : (c : Config) (s : BuildState) → BuildFits c s → s.thread < 
 thread_low c s f = subst (λ n. s.thread < n) f.threads f.thread
 
 pub pictured_stands : (c : Config) (g : Graph) (order : List HistoryItem) (h : Heap)
-    (names : Names) (tasks : ℕ → Task) (hs : ℕ → Holding) (s : BuildState)
+    (names : Names) (tasks : ℕ → Task) (hs : ℕ → WorkInHand) (s : BuildState)
     → IsPictured c g order h names tasks hs s → is_built s.row ≡ false → Stands c.width h s
 pictured_stands c g order h names tasks hs s p e =
     let k = p.kept.builds s.thread (thread_low c s p.fits) in

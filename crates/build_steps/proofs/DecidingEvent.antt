@@ -11,10 +11,10 @@ use Rattle.never_heap.specs.declared.Reply.TheVariants as answers
 use Rattle.never_heap.specs.Graphs.{Graph, next_name}
 use Rattle.never_heap.specs.Histories.{HistoryItem, Did}
 use Rattle.never_heap.specs.Steps.{blocks_of, step}
-use Rattle.never_heap.proofs.StepAnswers.{blocks_answer, blocks_make}
-use Rattle.heap_invariant.specs.name_invariant.Kept.{IsKept}
+use Rattle.never_heap.proofs.Lemmas.{blocks_answer, blocks_make}
+use Rattle.heap_invariant.specs.name_invariant.Invariant.{Invariant}
 use Rattle.heap_invariant.specs.name_invariant.Pictures.{Names, Task, picture}
-use Rattle.heap_machine.specs.Holdings.{Holding}
+use Rattle.heap_machine.specs.WorkInHand.{WorkInHand}
 use Rattle.heap_machine.specs.Operations.{place_of, heap_after}
 use Rattle.build_steps.specs.declared.rows.BuildRow.{BuildRow}
 use Rattle.build_steps.specs.declared.rows.BuildRow.TheVariants.{ReadCount, Publish}
@@ -49,7 +49,7 @@ use Rattle.build_steps.proofs.Shapes.{command_made, graph_made}
 use Rattle.build_steps.proofs.WantedPlaces.{register_in_range}
 
 module _ (c : Config) (g : Graph) (order : List HistoryItem) (h : Heap) (names : Names)
-    (tasks : ℕ → Task) (hs : ℕ → Holding) (s : BuildState)
+    (tasks : ℕ → Task) (hs : ℕ → WorkInHand) (s : BuildState)
     (p : IsPictured c g order h names tasks hs s) where
   abbrev W : Width
   W = c.width
@@ -85,7 +85,7 @@ module _ (c : Config) (g : Graph) (order : List HistoryItem) (h : Heap) (names :
 
     -- the rules hold where the order has one entry more, with this reply
     abbrev DecidedAt : Graph → Heap → Names → Reply → Type 0
-    DecidedAt g' j names' reply = IsKept c (picture g'
+    DecidedAt g' j names' reply = Invariant c (picture g'
         (order ++ Did (built_entry s reply work) ∷ []) j names'
         (with_task_build tasks s.thread None))
 
@@ -94,7 +94,7 @@ module _ (c : Config) (g : Graph) (order : List HistoryItem) (h : Heap) (names :
         → DecidedAt g (heap_after h (row_want W s r)) names (answers.Full (full_cycle s.cycle))
     full_row ReadCount build e =
         let entry = built_entry s (answers.Full (full_cycle s.cycle)) work in
-        subst (λ k. IsKept c k)
+        subst (λ k. Invariant c k)
         (pictured_self g (order ++ Did entry ∷ []) h names tasks s.thread None build)
         (answered c inside g order h names tasks s.thread low p.kept entry low p.loading
         (inr (refl, blocks_make W s.command some)) refl)
@@ -105,7 +105,7 @@ module _ (c : Config) (g : Graph) (order : List HistoryItem) (h : Heap) (names :
         → DecidedAt (step g s.thread s.command).0 (heap_after h (row_want W s r))
         (names_made names (next_name g s.thread) (built_at s)) (step g s.thread s.command).1
     publish_row Publish all build e =
-        subst (λ k. IsKept c k) (λ i. picture (graph_made W g s.thread s.command some i)
+        subst (λ k. Invariant c k) (λ i. picture (graph_made W g s.thread s.command some i)
         (order ++ Did (record {
           thread = s.thread;
           command = command_made W s.command some i;

@@ -1,4 +1,4 @@
--- Lists of blocks that are held: how often a block stands in one, and in its first blocks.
+-- Lists of blocks that are held: how often a block is in one, and in its first blocks.
 use Rattle.std.proofs.Common.{
   ◌≡◌,
   ℕ,

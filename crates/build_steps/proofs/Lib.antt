@@ -6,8 +6,8 @@ pub mod ReuseRulesKept
 pub mod WrittenBlocks
 pub mod PublishedObject
 pub mod MarkRulesKept
-pub mod Together
-pub mod Once
+pub mod AllRules
+pub mod DistinctHeldBlocks
 pub mod LinearizationPoints
 pub mod Order
 pub mod Shapes

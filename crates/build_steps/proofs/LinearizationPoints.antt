@@ -76,7 +76,7 @@ pub either : (P : BuildRow → Type 0) (b : Bool) (q r : BuildRow) → P q → P
 either P true q r x y = x
 either P false q r x y = y
 
--- what holds of all rows in which a part goes on holds behind each row that does not end it
+-- what holds of all rows in which a part goes on holds after each row that does not end it
 module _ (P : BuildRow → Type 0) (take : (u : ℕ) → P (TakeFree u))
     (collect : (a u : ℕ) → P (Collect a u)) (put : (a : ℕ) → P (PutRest a))
     (owner : (o : ℕ) → P (WriteOwner o)) where

@@ -22,37 +22,26 @@ use Rattle.std.proofs.Common.{
 }
 use Rattle.block_store.specs.declared.Config.{Config}
 use Rattle.block_store.specs.Colours.{is_free, black_word}
-use Rattle.block_store.proofs.ColourWords.{
-  not_grey_black,
-  not_free_black,
-  black-white,
-  free_is,
-  not_grey_free,
-}
+use Rattle.block_store.proofs.Lemmas.{black-white, changed_self, free_is, free_not_grey, not_free_black, not_grey_black, not_grey_free, target-reference}
 use Rattle.block_store.specs.Heaps.{Heap, put_at}
 use Rattle.block_store.specs.Payloads.{target, reference_word}
 use Rattle.block_store.specs.Widths.{payloads}
 use Rattle.block_store.specs.Registers.{register_block, register_slot}
-use Rattle.block_store.proofs.PayloadWords.{target-reference}
 use Rattle.block_store.specs.Places.{extent, ColourOf, PayloadOf}
 use Rattle.block_store.specs.Counts.{changed}
-use Rattle.heap_machine.specs.Grey.{GreyHolding, no_grey, GreyKept}
+use Rattle.heap_machine.specs.Grey.{GreyInHand, no_grey, GreyKept}
 use Rattle.heap_machine.specs.HeapKept.{CanRefer, CanColour}
-use Rattle.heap_machine.specs.Holdings.{Holding, grey_held, tricolour_held}
+use Rattle.heap_machine.specs.WorkInHand.{WorkInHand, grey_held, tricolour_held}
 use Rattle.heap_machine.specs.Operations.{Operation, place_of, heap_after}
 use Rattle.heap_machine.specs.ReuseKept.{ReuseKept}
 use Rattle.heap_machine.specs.Solid.{SolidKept}
 use Rattle.heap_machine.specs.Tricolour.{
-  TricolourHolding,
+  TricolourInHand,
   no_tricolour,
   TricolourKept,
   is_of_tricolour,
 }
-use Rattle.block_store.proofs.Functions.{changed_self}
-use Rattle.block_store.proofs.ColourWords.{free_not_grey}
-use Rattle.heap_machine.proofs.GreyBlocks.{kept_other, kept_other_colour}
-use Rattle.heap_machine.proofs.Solids.{solid_other, solid_colour, solid_payload}
-use Rattle.heap_machine.proofs.Tricolours.{tricolour_other, kept_colour, kept_payload}
+use Rattle.heap_machine.proofs.Lemmas.{kept_colour, kept_other, kept_other_colour, kept_payload, solid_colour, solid_other, solid_payload, tricolour_other}
 use Rattle.build_steps.specs.declared.rows.BuildRow.{BuildRow}
 use Rattle.build_steps.specs.declared.rows.BuildRow.TheVariants.{
   ReadCount,
@@ -76,8 +65,8 @@ use Rattle.build_steps.specs.Rows.{
   row_want,
   build_want,
   build_got,
-  row_holding,
-  build_holding,
+  row_in_hand,
+  build_in_hand,
 }
 use Rattle.build_steps.specs.Fits.{RowFits, BuildFits}
 use Rattle.build_steps.specs.Standing.{left_of, begun_of, Stands}
@@ -165,7 +154,7 @@ module _ (c : Config) (h : Heap) (s : BuildState) (P : Heap → Type 0) where
   row_rule Built e other refer colour f k free p = p
   row_rule Refused e other refer colour f k free p = p
 
-no_grey_row : (k : ℕ) (held : List ℕ) (r : BuildRow) → grey_held (row_holding k held r) ≡ no_grey
+no_grey_row : (k : ℕ) (held : List ℕ) (r : BuildRow) → grey_held (row_in_hand k held r) ≡ no_grey
 no_grey_row k held (TakeFree u) = refl
 no_grey_row k held (Collect a u) = refl
 no_grey_row k held (PutRest a) = refl
@@ -176,7 +165,7 @@ no_grey_row k held (WriteColour o) = refl
 no_grey_row k held _ = refl
 
 no_tricolour_row : (k : ℕ) (held : List ℕ) (r : BuildRow)
-    → tricolour_held (row_holding k held r) ≡ no_tricolour
+    → tricolour_held (row_in_hand k held r) ≡ no_tricolour
 no_tricolour_row k held (TakeFree u) = refl
 no_tricolour_row k held (Collect a u) = refl
 no_tricolour_row k held (PutRest a) = refl
@@ -186,14 +175,14 @@ no_tricolour_row k held (WritePayload o j) = refl
 no_tricolour_row k held (WriteColour o) = refl
 no_tricolour_row k held _ = refl
 
-pub holds_no_grey : (s : BuildState) → grey_held (build_holding s) ≡ no_grey
+pub holds_no_grey : (s : BuildState) → grey_held (build_in_hand s) ≡ no_grey
 holds_no_grey s = no_grey_row s.blocks s.held s.row
 
-pub holds_no_tricolour : (s : BuildState) → tricolour_held (build_holding s) ≡ no_tricolour
+pub holds_no_tricolour : (s : BuildState) → tricolour_held (build_in_hand s) ≡ no_tricolour
 holds_no_tricolour s = no_tricolour_row s.blocks s.held s.row
 
--- the rule of the grey blocks speaks of no payload: no row needs what stands
-grey_row : (c : Config) (h : Heap) (s : BuildState) (gs : ℕ → GreyHolding) (r : BuildRow)
+-- the rule of the grey blocks speaks of no payload: no row needs what is
+grey_row : (c : Config) (h : Heap) (s : BuildState) (gs : ℕ → GreyInHand) (r : BuildRow)
     → ((o : ℕ) → r ≡ WriteColour o → is_free (h (ColourOf (built_at s o))) ≡ true)
     → GreyKept c.threads h gs → GreyKept c.threads (heap_after h (row_want c.width s r)) gs
 grey_row c h s gs (WriteColour o) free k =
@@ -219,8 +208,8 @@ grey_row c h s gs Publish free k =
     kept_other c.threads h gs (row_want c.width s Publish) refl k
 
 -- the state after the event holds of a rule what the state before did
-module _ (c : Config) (h : Heap) (hs : ℕ → Holding) (s : BuildState) (f : BuildFits c s)
-    (reuse : ReuseKept (extent c) h hs) (e : hs s.thread ≡ build_holding s) where
+module _ (c : Config) (h : Heap) (hs : ℕ → WorkInHand) (s : BuildState) (f : BuildFits c s)
+    (reuse : ReuseKept (extent c) h hs) (e : hs s.thread ≡ build_in_hand s) where
   abbrev next : BuildState
   next = build_got (extent c) s (h (place_of (build_want (extent c) s)))
 
@@ -231,23 +220,23 @@ module _ (c : Config) (h : Heap) (hs : ℕ → Holding) (s : BuildState) (f : Bu
       let low = g.1 in
       still_free (extent c) h hs reuse s f.threads f.some f.thread
       (subst (λ n. s.thread < n) f.threads f.thread) o (WriteColour o) (omega arith)
-      (e ∙ ap (λ r. row_holding s.blocks s.held r) is) refl
+      (e ∙ ap (λ r. row_in_hand s.blocks s.held r) is) refl
 
-  grey_same : changed (λ u. grey_held (hs u)) s.thread (grey_held (build_holding next))
+  grey_same : changed (λ u. grey_held (hs u)) s.thread (grey_held (build_in_hand next))
       ≡ (λ u. grey_held (hs u))
-  grey_same = changed_self (λ u. grey_held (hs u)) s.thread (grey_held (build_holding next))
+  grey_same = changed_self (λ u. grey_held (hs u)) s.thread (grey_held (build_in_hand next))
       (ap grey_held e ∙ holds_no_grey s ∙ sym (holds_no_grey next))
 
   tricolour_same : changed (λ u. tricolour_held (hs u)) s.thread
-      (tricolour_held (build_holding next))
+      (tricolour_held (build_in_hand next))
       ≡ (λ u. tricolour_held (hs u))
   tricolour_same =
-      changed_self (λ u. tricolour_held (hs u)) s.thread (tricolour_held (build_holding next))
+      changed_self (λ u. tricolour_held (hs u)) s.thread (tricolour_held (build_in_hand next))
       (ap tricolour_held e ∙ holds_no_tricolour s ∙ sym (holds_no_tricolour next))
 
   pub keeps_grey : GreyKept c.threads h (λ u. grey_held (hs u))
       → GreyKept c.threads (heap_after h (build_want (extent c) s))
-      (changed (λ u. grey_held (hs u)) s.thread (grey_held (build_holding next)))
+      (changed (λ u. grey_held (hs u)) s.thread (grey_held (build_in_hand next)))
   keeps_grey k =
       subst (λ gs. GreyKept c.threads (heap_after h (build_want (extent c) s)) gs) (sym grey_same)
       (grey_row c h s (λ u. grey_held (hs u)) s.row free_here k)
@@ -255,9 +244,9 @@ module _ (c : Config) (h : Heap) (hs : ℕ → Holding) (s : BuildState) (f : Bu
   pub keeps_tricolour : Stands c.width h s
       → TricolourKept (extent c) s.cycle h (λ u. tricolour_held (hs u))
       → TricolourKept (extent c) s.cycle (heap_after h (build_want (extent c) s))
-      (changed (λ u. tricolour_held (hs u)) s.thread (tricolour_held (build_holding next)))
+      (changed (λ u. tricolour_held (hs u)) s.thread (tricolour_held (build_in_hand next)))
   keeps_tricolour stands k =
-      let ts : ℕ → TricolourHolding = λ u. tricolour_held (hs u) in
+      let ts : ℕ → TricolourInHand = λ u. tricolour_held (hs u) in
       subst (λ gs. TricolourKept (extent c) s.cycle (heap_after h (build_want (extent c) s)) gs)
       (sym tricolour_same)
       (row_rule c h s (λ g. TricolourKept (extent c) s.cycle g ts) s.row refl

@@ -12,20 +12,21 @@ use Rattle.block_store.specs.Phases.{bit}
 use Rattle.block_store.specs.Places.{FreeCount, FreeList, ColourOf, ShapeOf, PayloadOf, extent, is_block}
 use Rattle.block_store.specs.Registers.{registers_end}
 use Rattle.block_store.specs.Widths.{payloads}
-use Rattle.block_store.proofs.Functions.{funext, bit_le}
+use Rattle.block_store.proofs.Lemmas.{bit_le, funext}
 use Rattle.never_heap.specs.Graphs.{Graph, count_of}
 use Rattle.never_heap.specs.Histories.{HistoryItem}
 use Rattle.never_heap.specs.Steps.{length_made}
 use Rattle.heap_invariant.specs.graph_relation.Layouts.{layout_blocks}
 use Rattle.heap_invariant.specs.name_invariant.Building.{Build, IsHeldOnce}
 use Rattle.heap_invariant.specs.name_invariant.Events.{reserved, IsFreeBlock}
-use Rattle.heap_invariant.specs.name_invariant.Kept.{IsKept}
+use Rattle.heap_invariant.specs.name_invariant.Invariant.{Invariant}
 use Rattle.heap_invariant.specs.name_invariant.Pictures.{Names, Task, picture}
-use Rattle.heap_invariant.proofs.name_invariant.HeldBlocks.{some_is}
-use Rattle.heap_machine.specs.FreeBlocks.{FreeHolding}
-use Rattle.heap_machine.specs.Holdings.{Holding, free_held}
+use Rattle.heap_invariant.proofs.Lemmas.{some_is}
+use Rattle.heap_machine.specs.FreeBlocks.{FreeInHand}
+use Rattle.heap_machine.specs.WorkInHand.{WorkInHand, free_held}
 use Rattle.heap_machine.specs.Operations.{place_of, heap_after}
-use Rattle.heap_machine.proofs.FreeBlocks.{free_in_hand, free_one_held, free_held as held_is_free}
+use Rattle.heap_machine.proofs.Lemmas.{free_in_hand, free_one_held}
+use Rattle.heap_machine.proofs.FreeBlocks.{free_held as held_is_free}
 use Rattle.build_steps.specs.declared.rows.BuildRow.{BuildRow}
 use Rattle.build_steps.specs.declared.rows.BuildRow.TheVariants.{
   ReadCount,
@@ -45,7 +46,7 @@ use Rattle.build_steps.specs.LinearizationPoints.{decides, is_counting, is_publi
 use Rattle.build_steps.specs.Fits.{RowFits}
 use Rattle.build_steps.specs.Naming.{IsPictured, build_of, built_object, made_kind, row_build, with_task_build, word_read}
 use Rattle.build_steps.specs.Objects.{block_at}
-use Rattle.build_steps.specs.Rows.{BuildState, after_collect, after_colour, after_payload, after_take, build_got, build_want, built_at, held_got, holds_first, list_of, row_got, row_holding, row_want}
+use Rattle.build_steps.specs.Rows.{BuildState, after_collect, after_colour, after_payload, after_take, build_got, build_want, built_at, held_got, holds_first, list_of, row_got, row_in_hand, row_want}
 use Rattle.build_steps.proofs.BuildOfState.{sized, thread_low}
 use Rattle.build_steps.proofs.LinearizationPoints.{either}
 use Rattle.build_steps.proofs.Held.{first_has, times_first}
@@ -79,7 +80,7 @@ held_more xs x = funext _ _ (λ o. elim (cases_eq (length xs) o) [
   ])
 ])
 
--- a block that stands once in a list is that of one ordinal
+-- a block that occurs once in a list is that of one ordinal
 once_at : (xs : List ℕ) (o p : ℕ) → o < length xs → p < suc o
     → times (block_at xs o) (take (suc o) xs) ≤ 1 → block_at xs o ≡ block_at xs p → o ≡ p
 once_at xs o p low plow one same = elim (cases_eq o p) [
@@ -133,7 +134,7 @@ module _ (W : Width) (s : BuildState) where
   ]
 
 module _ (c : Config) (inside : IsInBounds c) (g : Graph) (order : List HistoryItem) (h : Heap)
-    (names : Names) (tasks : ℕ → Task) (hs : ℕ → Holding) (s : BuildState)
+    (names : Names) (tasks : ℕ → Task) (hs : ℕ → WorkInHand) (s : BuildState)
     (p : IsPictured c g order h names tasks hs s) where
   abbrev W : Width
   W = c.width
@@ -146,11 +147,11 @@ module _ (c : Config) (inside : IsInBounds c) (g : Graph) (order : List HistoryI
 
   -- the rules hold of the picture of a heap in which the thread is at build o
   abbrev KeptAt : Heap → Option Build → Type 0
-  KeptAt j o = IsKept c (picture g order j names (with_task_build tasks s.thread o))
+  KeptAt j o = Invariant c (picture g order j names (with_task_build tasks s.thread o))
 
   -- what the thread builds stays
   stays : (o : Option Build) → (tasks s.thread).build ≡ o → KeptAt h o
-  stays o is = subst (λ k. IsKept c k) (pictured_self g order h names tasks s.thread o is) p.kept
+  stays o is = subst (λ k. Invariant c k) (pictured_self g order h names tasks s.thread o is) p.kept
 
   few_names : count_of g s.thread + 1 < 2 ^ 43
   few_names =
@@ -191,15 +192,15 @@ module _ (c : Config) (inside : IsInBounds c) (g : Graph) (order : List HistoryI
       (reserves c inside g order h names tasks s.thread low p.kept v (made_kind s.command)
       (length_made s.command) build few_names few_blocks few_threads)
 
-  -- the first block of the hand is a Free one behind the registers
-  hand_free : (a u : ℕ) → 1 ≤ a → a ≤ c.blocks → hs s.thread ≡ row_holding s.blocks s.held (Collect a u)
+  -- the first block of the private list is a Free one after the registers
+  private_is_free : (a u : ℕ) → 1 ≤ a → a ≤ c.blocks → hs s.thread ≡ row_in_hand s.blocks s.held (Collect a u)
       → IsFreeBlock c (picture g order h names tasks) a
-  hand_free a u some high hold =
-      let fs : ℕ → FreeHolding = λ v. free_held (hs v) in
-      let hand : (fs s.thread).hand ≡ a = ap (λ (w : Holding). w.free_hand) hold in
+  private_is_free a u some high hold =
+      let fs : ℕ → FreeInHand = λ v. free_held (hs v) in
+      let list : (fs s.thread).list ≡ a = ap (λ (w : WorkInHand). w.free_list) hold in
       let there = free_in_hand (extent c) h fs p.reuse.free s.thread low (λ z. omega arith) in
       let at : (is_block (extent c) a && is_free (h (ColourOf a))) ≡ true =
-      subst (λ x. (is_block (extent c) x && is_free (h (ColourOf x))) ≡ true) hand there in
+      subst (λ x. (is_block (extent c) x && is_free (h (ColourOf x))) ≡ true) list there in
       let free = (and_parts (is_block (extent c) a) (is_free (h (ColourOf a))) at).1 in (
         elim (cases_lt (registers_end W c.threads) a) [
           | inl behind ↦ behind
@@ -211,7 +212,7 @@ module _ (c : Config) (inside : IsInBounds c) (g : Graph) (order : List HistoryI
       )
 
   collect_row : (a u : ℕ) → 1 ≤ a → a ≤ c.blocks → length s.held < s.blocks
-      → hs s.thread ≡ row_holding s.blocks s.held (Collect a u)
+      → hs s.thread ≡ row_in_hand s.blocks s.held (Collect a u)
       → (tasks s.thread).build ≡ Some (built_object s s.blocks 0)
       → KeptAt h (Some (built_object (record s { held = s.held ++ a ∷ [] }) s.blocks 0))
   collect_row a u some high few hold build =
@@ -226,18 +227,18 @@ module _ (c : Config) (inside : IsInBounds c) (g : Graph) (order : List HistoryI
         step = 0;
       })
       (collects c inside g order h names tasks s.thread low p.kept b build a
-      (omega (arith, sized c s p.fits s.blocks 0)) (hand_free a u some high hold))
+      (omega (arith, sized c s p.fits s.blocks 0)) (private_is_free a u some high hold))
 
   -- of the blocks that are held and not coloured yet, only that of ordinal o is its block
   held_once : (o step : ℕ) → o < length s.held → hs s.thread ≡ holds_first (o + 1) s.held
       → (tasks s.thread).build ≡ Some (built_object s (o + 1) step)
       → IsHeldOnce c.threads (λ u. (tasks u).build) s.thread o (built_at s o)
   held_once o step here hold build u q b ulow is qlow left same =
-      let fs : ℕ → FreeHolding = λ v. free_held (hs v) in
+      let fs : ℕ → FreeInHand = λ v. free_held (hs v) in
       let x = built_at s o in
       let next : o + 1 ≡ suc o = omega arith in
       let held : (fs s.thread).held ≡ take (suc o) s.held =
-      ap (λ (w : Holding). w.held) hold ∙ ap (λ n. take n s.held) next in
+      ap (λ (w : WorkInHand). w.held) hold ∙ ap (λ n. take n s.held) next in
       let count : times x (fs s.thread).held ≡ times x (take (suc o) s.held) =
       ap (λ ys. times x ys) held in
       let mine : 1 ≤ times x (fs s.thread).held =
@@ -313,7 +314,7 @@ module _ (c : Config) (inside : IsInBounds c) (g : Graph) (order : List HistoryI
   read r = h (place_of (row_want W s r))
 
   goes_row : (r : BuildRow) → RowFits c s.blocks s.held r
-      → hs s.thread ≡ row_holding s.blocks s.held r
+      → hs s.thread ≡ row_in_hand s.blocks s.held r
       → (tasks s.thread).build ≡ row_build W s r
       → (is_publishing r || (is_counting r && ltb (read r) s.blocks)) ≡ false
       → KeptAt (heap_after h (row_want W s r))
@@ -352,4 +353,4 @@ module _ (c : Config) (inside : IsInBounds c) (g : Graph) (order : List HistoryI
   pub goes_on : decides s (word_read c h s) ≡ false
       → KeptAt (heap_after h (build_want (extent c) s))
       (build_of W (build_got (extent c) s (word_read c h s)))
-  goes_on e = goes_row s.row p.fits.row p.holding p.build e
+  goes_on e = goes_row s.row p.fits.row p.work_in_hand p.build e

@@ -1,4 +1,4 @@
--- What stands in the blocks of the object that a command makes.
+-- What is in the blocks of the object that a command makes.
 use Rattle.std.proofs.Common.{
   ◌≡◌,
   ◌≢◌,
@@ -25,7 +25,7 @@ use Rattle.std.proofs.lemmas.Bool.{cases_Bool}
 use Rattle.block_store.specs.declared.Config.{Config}
 use Rattle.block_store.specs.declared.Width.{Width}
 use Rattle.block_store.specs.Widths.{payloads}
-use Rattle.block_store.proofs.Registers.{many}
+use Rattle.block_store.proofs.Lemmas.{many}
 use Rattle.object_lists.specs.Parts.{link_in, field_below}
 use Rattle.object_lists.specs.Records.{record_part, list_part, room}
 use Rattle.object_lists.specs.Layouts.{IsLayout}

@@ -14,7 +14,7 @@ use Rattle.block_store.specs.Payloads.{reference_word}
 use Rattle.block_store.specs.Places.{Place, Phase, FreeCount, ColourOf, OwnerOf, ShapeOf, PayloadOf}
 use Rattle.block_store.specs.Registers.{register_block, register_slot}
 use Rattle.block_store.specs.Widths.{payloads}
-use Rattle.block_store.proofs.Functions.{changed_self}
+use Rattle.block_store.proofs.Lemmas.{changed_self}
 use Rattle.never_heap.specs.declared.Entry.{Entry}
 use Rattle.never_heap.specs.declared.Reply.TheVariants as replies
 use Rattle.never_heap.specs.Graphs.{Graph, ObjectKind, count_of, next_name, with_object, with_register}
@@ -25,10 +25,10 @@ use Rattle.heap_invariant.specs.graph_relation.Made.{new_object}
 use Rattle.heap_invariant.specs.name_invariant.Building.{Build, build_in, build_blocks, build_owner, build_shape, build_payload, IsHeldOnce}
 use Rattle.heap_invariant.specs.name_invariant.Events.{KeptEvent, apply, Guard, collected, making, reserved, IsBuilding, IsFreeBlock, IsWriting}
 use Rattle.heap_invariant.specs.name_invariant.Events.KeptEvent.{Answer, Reserve, Collect, WriteOwner, WriteShape, WritePayload, WriteColour, Publish}
-use Rattle.heap_invariant.specs.name_invariant.Kept.{IsKept}
+use Rattle.heap_invariant.specs.name_invariant.Invariant.{Invariant}
 use Rattle.heap_invariant.specs.name_invariant.Pictures.{Names, Task, picture}
 use Rattle.heap_invariant.specs.name_invariant.States.{KeptState}
-use Rattle.heap_invariant.proofs.name_invariant.ChangedTasks.{build_changed}
+use Rattle.heap_invariant.proofs.Lemmas.{build_changed}
 use Rattle.heap_invariant.proofs.name_invariant.Steps.{step_kept}
 use Rattle.build_steps.specs.Naming.{names_made, with_task_build}
 
@@ -61,7 +61,7 @@ module _ (c : Config) (s : KeptState) (t : ℕ) (b : Build) (low : t < c.threads
 
 module _ (c : Config) (inside : IsInBounds c) (g : Graph) (order : List HistoryItem) (h : Heap)
     (names : Names) (tasks : ℕ → Task) (t : ℕ) (low : t < c.threads)
-    (k : IsKept c (picture g order h names tasks)) where
+    (k : Invariant c (picture g order h names tasks)) where
   abbrev now : KeptState
   now = picture g order h names tasks
 
@@ -70,14 +70,14 @@ module _ (c : Config) (inside : IsInBounds c) (g : Graph) (order : List HistoryI
       (e : KeptEvent) → Guard c now e
       → apply c now e
       ≡ record (picture g' order' j names' tasks) { builds = changed (λ u. (tasks u).build) t o }
-      → IsKept c (picture g' order' j names' (with_task_build tasks t o))
+      → Invariant c (picture g' order' j names' (with_task_build tasks t o))
   goes g' order' j names' o e guard same =
-      subst (λ s. IsKept c s) (same ∙ sym (build_changed g' order' j names' tasks t o))
+      subst (λ s. Invariant c s) (same ∙ sym (build_changed g' order' j names' tasks t o))
       (step_kept c inside now e k guard)
 
   pub reserves : (v : ℕ) (kind : ObjectKind) (size : ℕ) → (tasks t).build ≡ None
       → count_of g t + 1 < 2 ^ 43 → layout_blocks c.width kind size ≤ 1024 → t ≤ 16
-      → IsKept c (picture g order (put_at h FreeCount v) names
+      → Invariant c (picture g order (put_at h FreeCount v) names
       (with_task_build tasks t (Some (reserved c now t kind size))))
   reserves v kind size none few most thread =
       goes g order (put_at h FreeCount v) names (Some (reserved c now t kind size))
@@ -86,7 +86,7 @@ module _ (c : Config) (inside : IsInBounds c) (g : Graph) (order : List HistoryI
   -- a command is answered that changes nothing
   pub answered : (entry : Entry) → entry.thread < c.threads → (tasks entry.thread).loading ≡ unloaded
       → IsAnswered g (Did entry) → after g (Did entry) ≡ g
-      → IsKept c (picture g (order ++ Did entry ∷ []) h names tasks)
+      → Invariant c (picture g (order ++ Did entry ∷ []) h names tasks)
   answered entry there idle legal same = step_kept c inside now (Answer entry) k (
     (there, subst (λ (l : Loading). IsPrompt l) (sym idle) refl, legal),
     same,
@@ -97,7 +97,7 @@ module _ (c : Config) (inside : IsInBounds c) (g : Graph) (order : List HistoryI
     at_it = ap build_in is
 
     pub collects : (x : ℕ) → b.collected < build_blocks c.width b → IsFreeBlock c now x
-        → IsKept c (picture g order h names (with_task_build tasks t (Some (collected b x))))
+        → Invariant c (picture g order h names (with_task_build tasks t (Some (collected b x))))
     collects x few free = goes g order h names (Some (collected b x)) (Collect t x) (
       builds_it c now t b low is,
       subst (λ (y : Build). y.collected < build_blocks c.width y) (sym at_it) few,
@@ -113,7 +113,7 @@ module _ (c : Config) (inside : IsInBounds c) (g : Graph) (order : List HistoryI
       guard words step = writing c now t b low is o words all next step once
 
       pub writes_owner : b.step ≡ 0
-          → IsKept c (picture g order (put_at h (OwnerOf (b.held o)) (build_owner b o)) names
+          → Invariant c (picture g order (put_at h (OwnerOf (b.held o)) (build_owner b o)) names
           (with_task_build tasks t (Some (record b { step = 1 }))))
       writes_owner step =
           goes g order (put_at h (OwnerOf (b.held o)) (build_owner b o)) names
@@ -125,7 +125,7 @@ module _ (c : Config) (inside : IsInBounds c) (g : Graph) (order : List HistoryI
           }) at_it)
 
       pub writes_shape : b.step ≡ 1
-          → IsKept c (picture g order (put_at h (ShapeOf (b.held o)) (build_shape b)) names
+          → Invariant c (picture g order (put_at h (ShapeOf (b.held o)) (build_shape b)) names
           (with_task_build tasks t (Some (record b { step = 2 }))))
       writes_shape step =
           goes g order (put_at h (ShapeOf (b.held o)) (build_shape b)) names
@@ -137,7 +137,7 @@ module _ (c : Config) (inside : IsInBounds c) (g : Graph) (order : List HistoryI
           }) at_it)
 
       pub writes_payload : (j : ℕ) → j < payloads c.width → b.step ≡ j + 2
-          → IsKept c (picture g order
+          → Invariant c (picture g order
           (put_at h (PayloadOf (b.held o) j) (build_payload c.width b o j)) names
           (with_task_build tasks t (Some (record b { step = j + 3 }))))
       writes_payload j few step =
@@ -149,7 +149,7 @@ module _ (c : Config) (inside : IsInBounds c) (g : Graph) (order : List HistoryI
           }) at_it)
 
       pub writes_colour : b.step ≡ payloads c.width + 2
-          → IsKept c (picture g order
+          → Invariant c (picture g order
           (put_at h (ColourOf (b.held o)) (black_word (cycle_of (h Phase)))) names
           (with_task_build tasks t (Some (record b { left = o; step = 0 }))))
       writes_colour step =
@@ -163,7 +163,7 @@ module _ (c : Config) (inside : IsInBounds c) (g : Graph) (order : List HistoryI
 
     pub publishes : (d work : ℕ) → b.collected ≡ build_blocks c.width b → b.left ≡ 0
         → d < REGISTERS → (tasks t).loading ≡ unloaded
-        → IsKept c (picture
+        → Invariant c (picture
         (with_register (with_object g t (new_object b.kind b.size)) t d (Ref (next_name g t)))
         (order ++ Did (record {
           thread = t;

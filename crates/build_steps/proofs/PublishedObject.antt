@@ -32,9 +32,7 @@ use Rattle.block_store.specs.Colours.{black_word}
 use Rattle.block_store.specs.Heaps.{Heap, put_at}
 use Rattle.block_store.specs.Payloads.{target, reference_word}
 use Rattle.block_store.specs.Registers.{register_block, register_slot, registers_end}
-use Rattle.block_store.proofs.PayloadWords.{target-reference, target-nil}
-use Rattle.block_store.proofs.Registers.{register_low}
-use Rattle.block_store.proofs.Totals.{times_more}
+use Rattle.block_store.proofs.Lemmas.{register_low, target-nil, target-reference, times_more}
 use Rattle.block_store.specs.Places.{Extent, extent, ColourOf, PayloadOf}
 use Rattle.object_lists.specs.Parts.{Link, Field, Blank, link_in}
 use Rattle.never_heap.specs.declared.Command.{Command}
@@ -136,7 +134,7 @@ pub publish_event : (c : Config) (s : BuildState) → is_publishing s.row ≡ tr
     → build_want (extent c) s ≡ Exchange (made_place c.width s) (reference_word (built_at s 0))
 publish_event c s e = ap (row_want c.width s) (row_publishes 0 s.row e)
 
--- the register is in no block behind the registers
+-- the register is in no block after the registers
 register_off : (c : Config) (s : BuildState) (x : ℕ) → BuildFits c s
     → registers_end c.width (s.thread + 1) < x
     → is_of_block x (made_place c.width s) ≡ false

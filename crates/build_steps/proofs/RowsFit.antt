@@ -30,8 +30,7 @@ use Rattle.std.proofs.Common.{
 use Rattle.std.proofs.lemmas.Bool.{cases_Bool, cases_eq}
 use Rattle.block_store.specs.declared.Config.{Config}
 use Rattle.block_store.specs.Widths.{payloads}
-use Rattle.block_store.proofs.Registers.{wide}
-use Rattle.block_store.proofs.Indexes.{hand_block}
+use Rattle.block_store.proofs.Lemmas.{hand_block, wide}
 use Rattle.block_store.specs.Colours.{link}
 use Rattle.block_store.specs.Places.{extent, IsBlock}
 use Rattle.never_heap.specs.declared.Command.{Command}

@@ -34,12 +34,7 @@ use Rattle.block_store.specs.Shapes.{shape_of}
 use Rattle.block_store.specs.Widths.{payloads}
 use Rattle.block_store.specs.Registers.{register_block, register_slot}
 use Rattle.block_store.specs.Places.{extent, in_range, is_block, IsBlock, PayloadOf}
-use Rattle.block_store.proofs.ColourWords.{colour-black, link-black}
-use Rattle.block_store.proofs.WideWords.{read_wide}
-use Rattle.block_store.proofs.PayloadWords.{payload-code, target-reference, target-nil}
-use Rattle.block_store.proofs.Registers.{register_some, register_low, slot_low}
-use Rattle.block_store.proofs.ShapeWords.{shape-code}
-use Rattle.block_store.proofs.Indexes.{block_in}
+use Rattle.block_store.proofs.Lemmas.{block_in, colour-black, link-black, payload-code, read_wide, register_low, register_some, shape-code, slot_low, target-nil, target-reference}
 use Rattle.object_lists.specs.Parts.{link_in}
 use Rattle.never_heap.specs.declared.Command.{Command}
 use Rattle.never_heap.specs.declared.Command.TheVariants.{New, Arr}
@@ -94,7 +89,7 @@ reference_held c x j p few block =
       subst (λ z. z ≤ c.blocks) (sym (target-reference p)) high,
     )
 
--- what stands in a new object: nil, and references to its own blocks
+-- what is in a new object: nil, and references to its own blocks
 link_held : (c : Config) (held : List ℕ) (x j : ℕ) (r : Option ℕ) → c.blocks ≤ 65535
     → ((p : ℕ) → r ≡ Some p → IsBlock c (block_at held p))
     → CanHold (extent c) (PayloadOf x j) (link_word held r)

@@ -1,4 +1,4 @@
--- What a part has written stands until it is published.
+-- What a part has written is until it is published.
 use Rattle.std.proofs.Common.{◌≡◌, ℕ, zero, suc, ◌<◌, ◌≤◌, ◌+◌, ◌-◌, true, false, refl, arith, subst, sym, ap, inl, inr, eqb, ltb, eq-eqb, ne_eqb, ltb-true, ltb-false, List, [], ◌∷◌, length}
 use Rattle.std.proofs.lemmas.Bool.{cases_Bool, cases_eq, and_left}
 use Rattle.block_store.specs.declared.Config.{Config}
@@ -239,7 +239,7 @@ module _ (w : Width) (h : Heap) (s : BuildState) (o : ℕ) (once : HeldOnce s.he
         links = λ j low some. absurd (omega arith);
       }) k
 
-  -- payload j is the next, and stands among the first n words then
+  -- payload j is the next, and is among the first n words then
   payload_begun : (j n : ℕ) → n ≡ j + 3 → IsBegun w h s o (j + 2)
       → IsBegun w (put_at h (PayloadOf (built_at s o) j) (built_payload w s o j)) s o n
   payload_begun j n many b = record {

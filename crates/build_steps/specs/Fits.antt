@@ -35,8 +35,8 @@ abbrev pub RowFits : Config → ℕ → List ℕ → BuildRow → Type 0
 RowFits c k held ReadCount = held ≡ []
 RowFits c k held (Reserve seen) = (held ≡ []) × (k ≤ seen) × (seen ≤ c.blocks)
 RowFits c k held (TakeFree u) = (u < c.threads) × (length held < k)
-RowFits c k held (Collect hand u) = IsBlock c hand × (u < c.threads) × (length held < k)
-RowFits c k held (PutRest hand) = IsBlock c hand × (length held ≡ k)
+RowFits c k held (Collect list u) = IsBlock c list × (u < c.threads) × (length held < k)
+RowFits c k held (PutRest list) = IsBlock c list × (length held ≡ k)
 RowFits c k held (WriteOwner o) = IsOrdinal k held o
 RowFits c k held (WriteShape o) = IsOrdinal k held o
 RowFits c k held (WritePayload o j) = IsOrdinal k held o × (j < payloads c.width)

@@ -34,10 +34,10 @@ use Rattle.never_heap.specs.Steps.{length_made}
 use Rattle.heap_invariant.specs.graph_relation.Events.{unloaded}
 use Rattle.heap_invariant.specs.graph_relation.Made.{with_blocks}
 use Rattle.heap_invariant.specs.name_invariant.Building.{Build}
-use Rattle.heap_invariant.specs.name_invariant.Kept.{IsKept}
+use Rattle.heap_invariant.specs.name_invariant.Invariant.{Invariant}
 use Rattle.heap_invariant.specs.name_invariant.Pictures.{Names, Task, picture}
 use Rattle.heap_invariant.specs.name_invariant.States.{with_name}
-use Rattle.heap_machine.specs.Holdings.{Holding}
+use Rattle.heap_machine.specs.WorkInHand.{WorkInHand}
 use Rattle.heap_machine.specs.Operations.{place_of}
 use Rattle.heap_machine.specs.ReuseKept.{ReuseKept}
 use Rattle.build_steps.specs.declared.rows.BuildRow.{BuildRow}
@@ -48,7 +48,7 @@ use Rattle.build_steps.specs.declared.rows.BuildRow.TheVariants.{
   Refused,
 }
 use Rattle.build_steps.specs.Fits.{BuildFits}
-use Rattle.build_steps.specs.Rows.{BuildState, built_at, build_want, build_holding}
+use Rattle.build_steps.specs.Rows.{BuildState, built_at, build_want, build_in_hand}
 use Rattle.build_steps.specs.Standing.{left_of, begun_of}
 
 -- what the command makes
@@ -91,15 +91,15 @@ abbrev pub build_of : Width → BuildState → Option Build
 build_of W s = row_build W s s.row
 
 -- what is held for an object and not coloured yet is among the Free blocks that a thread holds
-abbrev pub HoldsBuild : Option Build → Holding → Type 0
-HoldsBuild build holding =
-    IfSome build (λ b. (o : ℕ) → o < b.collected → o < b.left → 1 ≤ times (b.held o) holding.held)
+abbrev pub HoldsBuild : Option Build → WorkInHand → Type 0
+HoldsBuild build work_in_hand =
+    IfSome build (λ b. (o : ℕ) → o < b.collected → o < b.left → 1 ≤ times (b.held o) work_in_hand.held)
 
 -- thread t is at this build, and else at what it was
 abbrev pub with_task_build : (ℕ → Task) → ℕ → Option Build → ℕ → Task
 with_task_build tasks t b = changed tasks t (record (tasks t) { build = b })
 
--- the names with one that was made, whose object stands at these blocks
+-- the names with one that was made, whose object is at these blocks
 abbrev pub names_made : Names → Name → (ℕ → ℕ) → Names
 names_made names a blocks = record {
   at = with_blocks names.at a blocks;
@@ -121,12 +121,12 @@ built_entry s reply work =
 -- threads build with blocks that they hold; of this thread the picture says what its state does,
 -- with nothing loaded; and the object's name is the thread's next.
 pub record IsPictured (c : Config) (g : Graph) (order : List HistoryItem) (h : Heap) (names : Names)
-    (tasks : ℕ → Task) (hs : ℕ → Holding) (s : BuildState) : Type 0 where
+    (tasks : ℕ → Task) (hs : ℕ → WorkInHand) (s : BuildState) : Type 0 where
   pub fits : BuildFits c s
   pub cycle : cycle_of (h Phase) ≡ s.cycle
   pub reuse : ReuseKept (extent c) h hs
-  pub holding : hs s.thread ≡ build_holding s
-  pub kept : IsKept c (picture g order h names tasks)
+  pub work_in_hand : hs s.thread ≡ build_in_hand s
+  pub kept : Invariant c (picture g order h names tasks)
   pub builds : (u : ℕ) → u < c.threads → HoldsBuild (tasks u).build (hs u)
   pub build : (tasks s.thread).build ≡ build_of c.width s
   pub loading : (tasks s.thread).loading ≡ unloaded

@@ -1,4 +1,4 @@
--- The object that a command makes: its register, its shape, and what stands in its blocks.
+-- The object that a command makes: its register, its shape, and what is in its blocks.
 use Rattle.std.specs.Prelude.{ℕ, Option, Some, None, List, slice_index}
 use Rattle.block_store.specs.declared.Width.{Width}
 use Rattle.block_store.specs.Payloads.{reference_word}
@@ -21,7 +21,7 @@ made_shape (New d f) = record_word f
 made_shape (Arr d e) = array_word e
 made_shape _ = 0
 
--- what stands at payload j of ordinal o, in blocks of this width
+-- what is at payload j of ordinal o, in blocks of this width
 abbrev pub made_part : Width → Command → ℕ → ℕ → Part
 made_part w (New d f) o j = record_part w f o j
 made_part w (Arr d e) o j = array_part w e o j

@@ -44,7 +44,7 @@ use Rattle.never_heap.specs.declared.Command.{Command}
 use Rattle.never_heap.specs.declared.Reply.{Reply}
 use Rattle.never_heap.specs.declared.Reply.TheVariants as replies
 use Rattle.never_heap.specs.Steps.{blocks_of}
-use Rattle.heap_machine.specs.Holdings.{Holding, holds_nothing}
+use Rattle.heap_machine.specs.WorkInHand.{WorkInHand, holds_nothing}
 use Rattle.heap_machine.specs.Operations.{Operation, Load, Exchange, CompareExchange}
 use Rattle.heap_machine.specs.declared.Step.{Step}
 use Rattle.heap_machine.specs.declared.Step.TheVariants.{Went, Waited, Over}
@@ -97,7 +97,7 @@ built_shape s = made_shape s.command
 abbrev pub built_payload : Width → BuildState → ℕ → ℕ → ℕ
 built_payload w s o j = link_word s.held (link_in (made_part w s.command o j))
 
--- where the register of the command stands
+-- where the register of the command is
 abbrev pub made_place : Width → BuildState → Place
 made_place w s =
     let r = made_register s.command in PayloadOf (register_block w s.thread r) (register_slot w r)
@@ -107,8 +107,8 @@ abbrev pub row_want : Width → BuildState → BuildRow → Operation
 row_want w s ReadCount = Load FreeCount
 row_want w s (Reserve seen) = CompareExchange FreeCount seen (seen - s.blocks)
 row_want w s (TakeFree u) = Exchange (FreeList (list_of s.thread s.threads u)) 0
-row_want w s (Collect hand u) = Load (ColourOf hand)
-row_want w s (PutRest hand) = Exchange (FreeList s.thread) hand
+row_want w s (Collect list u) = Load (ColourOf list)
+row_want w s (PutRest list) = Exchange (FreeList s.thread) list
 row_want w s (WriteOwner o) = Exchange (OwnerOf (built_at s o)) (built_owner s o)
 row_want w s (WriteShape o) = Exchange (ShapeOf (built_at s o)) (built_shape s)
 row_want w s (WritePayload o j) = Exchange (PayloadOf (built_at s o) j) (built_payload w s o j)
@@ -117,7 +117,7 @@ row_want w s Publish = Exchange (made_place w s) (reference_word (built_at s 0))
 row_want w s Built = Load Phase
 row_want w s Refused = Load Phase
 
--- the next list of n, and behind the last the first
+-- the next list of n, and after the last the first
 abbrev pub next_list : ℕ → ℕ → ℕ
 next_list n u = if nat_lt (u + 1) n then u + 1 else 0
 
@@ -129,19 +129,19 @@ after_count k w = if nat_lt w k then Refused else Reserve w
 abbrev pub after_reserve : ℕ → ℕ → BuildRow
 after_reserve seen w = if w == seen then TakeFree 0 else ReadCount
 
--- after the u-th list was taken: one that is not empty is the hand
+-- after the u-th list was taken: one that is not empty is the private list
 abbrev pub after_take : ℕ → ℕ → ℕ → BuildRow
 after_take n u w = if w == 0 then TakeFree (next_list n u) else Collect w u
 
--- after the last of k blocks was collected, with the rest of the list in the hand
+-- after the last of k blocks was collected, with the rest of its private list
 abbrev pub after_last : ℕ → ℕ → BuildRow
-after_last k hand = if hand == 0 then WriteOwner (k - 1) else PutRest hand
+after_last k list = if list == 0 then WriteOwner (k - 1) else PutRest list
 
 -- after a block of the u-th list was collected, which is the count-th
 abbrev pub after_collect : ℕ → ℕ → ℕ → ℕ → ℕ → BuildRow
-after_collect k n count hand u =
-    if count == k then after_last k hand
-    else if hand == 0 then TakeFree (next_list n u) else Collect hand u
+after_collect k n count list u =
+    if count == k then after_last k list
+    else if list == 0 then TakeFree (next_list n u) else Collect list u
 
 -- after payload j of ordinal o was written, of as many as a block has
 abbrev pub after_payload : ℕ → ℕ → ℕ → BuildRow
@@ -156,8 +156,8 @@ abbrev pub row_got : Width → BuildState → BuildRow → ℕ → BuildRow
 row_got w s ReadCount v = after_count s.blocks v
 row_got w s (Reserve seen) v = after_reserve seen v
 row_got w s (TakeFree u) v = after_take s.threads u v
-row_got w s (Collect hand u) v = after_collect s.blocks s.threads (length s.held + 1) (link v) u
-row_got w s (PutRest hand) v = WriteOwner (s.blocks - 1)
+row_got w s (Collect list u) v = after_collect s.blocks s.threads (length s.held + 1) (link v) u
+row_got w s (PutRest list) v = WriteOwner (s.blocks - 1)
 row_got w s (WriteOwner o) v = WriteShape o
 row_got w s (WriteShape o) v = WritePayload o 0
 row_got w s (WritePayload o j) v = after_payload (payloads w) o j
@@ -168,7 +168,7 @@ row_got w s Refused v = Refused
 
 -- the blocks that are then held
 abbrev pub held_got : List ℕ → BuildRow → List ℕ
-held_got held (Collect hand u) = held ++ hand ∷ []
+held_got held (Collect list u) = held ++ list ∷ []
 held_got held _ = held
 
 -- A row waits where it lost the reservation, and where the last list was empty. The event that
@@ -226,34 +226,34 @@ building w t n c serial command capacity = record {
 }
 
 -- the thread holds the blocks of the first n ordinals, which are Free still
-abbrev pub holds_first : ℕ → List ℕ → Holding
+abbrev pub holds_first : ℕ → List ℕ → WorkInHand
 holds_first n held = record holds_nothing { held = take n held; reserved = n }
 
 -- what the thread holds before the event of a row, for k blocks. Its own list is the first that it
 -- takes, and stays empty until it puts the rest there
-abbrev pub row_holding : ℕ → List ℕ → BuildRow → Holding
-row_holding k held (TakeFree u) = record holds_nothing {
+abbrev pub row_in_hand : ℕ → List ℕ → BuildRow → WorkInHand
+row_in_hand k held (TakeFree u) = record holds_nothing {
   free_emptied = nat_lt 0 (u + length held);
   held = held;
   reserved = k;
 }
-row_holding k held (Collect hand u) = record holds_nothing {
-  free_hand = hand;
+row_in_hand k held (Collect list u) = record holds_nothing {
+  free_list = list;
   free_emptied = true;
   held = held;
   reserved = k;
 }
-row_holding k held (PutRest hand) = record holds_nothing {
-  free_hand = hand;
+row_in_hand k held (PutRest list) = record holds_nothing {
+  free_list = list;
   free_emptied = true;
   held = held;
   reserved = k;
 }
-row_holding k held (WriteOwner o) = holds_first (o + 1) held
-row_holding k held (WriteShape o) = holds_first (o + 1) held
-row_holding k held (WritePayload o j) = holds_first (o + 1) held
-row_holding k held (WriteColour o) = holds_first (o + 1) held
-row_holding k held _ = holds_nothing
+row_in_hand k held (WriteOwner o) = holds_first (o + 1) held
+row_in_hand k held (WriteShape o) = holds_first (o + 1) held
+row_in_hand k held (WritePayload o j) = holds_first (o + 1) held
+row_in_hand k held (WriteColour o) = holds_first (o + 1) held
+row_in_hand k held _ = holds_nothing
 
-abbrev pub build_holding : BuildState → Holding
-build_holding s = row_holding s.blocks s.held s.row
+abbrev pub build_in_hand : BuildState → WorkInHand
+build_in_hand s = row_in_hand s.blocks s.held s.row

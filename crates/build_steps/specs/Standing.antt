@@ -90,7 +90,7 @@ IsNextWord many k r r' =
     (left_of k r' ≡ left_of k r) × (begun_of many r' ≡ begun_of many r + 1)
     ⊎ (left_of k r' + 1 ≡ left_of k r) × (begun_of many r ≡ many + 2) × (begun_of many r' ≡ 0)
 
--- what the part has written stands in the heap
+-- what the part has written is in the heap
 pub record Stands (w : Width) (h : Heap) (s : BuildState) : Type 0 where
   pub whole : (o : ℕ) → left_of s.blocks s.row ≤ o → o < s.blocks → IsWhole w h s o
   pub begun : (o : ℕ) → suc o ≡ left_of s.blocks s.row

@@ -18,12 +18,12 @@ ghost use Rattle.block_store.specs.Counts.{changed, times};
 ghost use Rattle.heap_machine.specs.Grey.{no_grey, GreyKept};
 ghost use Rattle.heap_machine.specs.Tricolour.{no_tricolour, TricolourKept};
 ghost use Rattle.heap_machine.specs.Solid.{SolidKept};
-ghost use Rattle.heap_machine.specs.Holdings.{Holding, holds_nothing, grey_held, tricolour_held};
+ghost use Rattle.heap_machine.specs.WorkInHand.{WorkInHand, holds_nothing, grey_held, tricolour_held};
 ghost use Rattle.heap_machine.specs.Operations.{place_of, heap_after, Fits};
 ghost use Rattle.heap_machine.specs.Readings.{StoresHeld};
 ghost use Rattle.heap_machine.specs.PhaseKept.{PhaseKept};
 ghost use Rattle.heap_machine.specs.ReuseKept.{ReuseKept};
-ghost use Rattle.build_steps.specs.Rows.{BuildState, built_at, built_payload, made_place, build_want, build_got, build_step, build_over, build_reply, build_holding, building, full_cycle};
+ghost use Rattle.build_steps.specs.Rows.{BuildState, built_at, built_payload, made_place, build_want, build_got, build_step, build_over, build_reply, build_in_hand, building, full_cycle};
 ghost use Rattle.build_steps.specs.Fits.{BuildFits, BuildReads};
 ghost use Rattle.build_steps.specs.LinearizationPoints.{is_counting, is_writing, is_publishing, is_built, is_refused, decides, is_last};
 ghost use Rattle.build_steps.specs.Standing.{left_of, IsNextWord, IsWhole, Stands, HeldOnce, IsElsewhere, AllRead, build_after, heap_written};
@@ -49,22 +49,22 @@ pub fn rows_stay_in_the_heap()
         → StoresHeld c (build_want (extent c) s) }
 {}
 
-/// Each event keeps that each Free block stands in one place and is counted, that no block is
+/// Each event keeps that each Free block is in one place and is counted, that no block is
 /// claimed twice, and that what was passed is not white, while the other threads hold what they
 /// held and the cycle is the part's. A part begins and ends with nothing held.
 pub fn rows_keep_reuse()
-    ensures kept { (c : Config) (h : Heap) (hs : ℕ → Holding) (s : BuildState)
+    ensures kept { (c : Config) (h : Heap) (hs : ℕ → WorkInHand) (s : BuildState)
         → BuildFits c s → cycle_of (h Phase) ≡ s.cycle
-        → ReuseKept (extent c) h hs → hs s.thread ≡ build_holding s
+        → ReuseKept (extent c) h hs → hs s.thread ≡ build_in_hand s
         → ReuseKept (extent c) (heap_after h (build_want (extent c) s))
         (changed hs s.thread
-        (build_holding (build_got (extent c) s (h (place_of (build_want (extent c) s)))))) }
+        (build_in_hand (build_got (extent c) s (h (place_of (build_want (extent c) s)))))) }
     ensures first { (w : Width) (t n c serial : ℕ) (k : Command) (capacity : ℕ)
-        → build_holding (building w t n c serial k capacity) ≡ holds_nothing }
-    ensures over { (s : BuildState) → build_over s.row ≡ true → build_holding s ≡ holds_nothing }
+        → build_in_hand (building w t n c serial k capacity) ≡ holds_nothing }
+    ensures over { (s : BuildState) → build_over s.row ≡ true → build_in_hand s ≡ holds_nothing }
 {}
 
-/// What a part has written stands: of each ordinal that it has made black the owner with the
+/// What a part has written is: of each ordinal that it has made black the owner with the
 /// object's name, the shape, the links and nils, and the colour; of the one before it the words
 /// that it has written. Each of its events before it publishes keeps that, whatever it reads,
 /// where no block is held twice; and a write of a place of no held block keeps it.
@@ -87,7 +87,7 @@ pub fn words_are_written_in_order()
 
 /// What is published is the whole object: all its blocks are black and show the name with their
 /// ordinals, the command's shape, the links of its layout and nils; and the command's register
-/// then refers to the first of them. So it is behind all events of a part, whatever they read,
+/// then refers to the first of them. So it is after all events of a part, whatever they read,
 /// where no block is held twice and nobody else writes what is held. A link is written when the
 /// block to which it refers is black already.
 pub fn what_is_published()
@@ -120,43 +120,43 @@ pub fn what_is_published()
         (heap_written (extent c) h (building c.width t n cycle serial k capacity) vs) s o }
 {}
 
-/// Each event keeps that a grey block stands in one place, while the other threads hold what they
-/// held; a part holds no grey block. Where what it has written stands, each event keeps, in the
+/// Each event keeps that a grey block is in one place, while the other threads hold what they
+/// held; a part holds no grey block. Where what it has written is, each event keeps, in the
 /// colours of its cycle, that no black block refers to a white one, and that no block that is not
 /// Free refers to a Free one.
 pub fn rows_keep_marking()
-    ensures grey { (c : Config) (h : Heap) (hs : ℕ → Holding) (s : BuildState) → BuildFits c s
-        → ReuseKept (extent c) h hs → hs s.thread ≡ build_holding s
+    ensures grey { (c : Config) (h : Heap) (hs : ℕ → WorkInHand) (s : BuildState) → BuildFits c s
+        → ReuseKept (extent c) h hs → hs s.thread ≡ build_in_hand s
         → GreyKept c.threads h (λ u. grey_held (hs u))
         → GreyKept c.threads (heap_after h (build_want (extent c) s))
         (changed (λ u. grey_held (hs u)) s.thread
-        (grey_held (build_holding
+        (grey_held (build_in_hand
         (build_got (extent c) s (h (place_of (build_want (extent c) s))))))) }
-    ensures tricolour { (c : Config) (h : Heap) (hs : ℕ → Holding) (s : BuildState) → BuildFits c s
-        → ReuseKept (extent c) h hs → hs s.thread ≡ build_holding s → Stands c.width h s
+    ensures tricolour { (c : Config) (h : Heap) (hs : ℕ → WorkInHand) (s : BuildState) → BuildFits c s
+        → ReuseKept (extent c) h hs → hs s.thread ≡ build_in_hand s → Stands c.width h s
         → TricolourKept (extent c) s.cycle h (λ u. tricolour_held (hs u))
         → TricolourKept (extent c) s.cycle (heap_after h (build_want (extent c) s))
         (changed (λ u. tricolour_held (hs u)) s.thread
-        (tricolour_held (build_holding
+        (tricolour_held (build_in_hand
         (build_got (extent c) s (h (place_of (build_want (extent c) s))))))) }
-    ensures solid { (c : Config) (h : Heap) (hs : ℕ → Holding) (s : BuildState) → BuildFits c s
-        → ReuseKept (extent c) h hs → hs s.thread ≡ build_holding s → Stands c.width h s
+    ensures solid { (c : Config) (h : Heap) (hs : ℕ → WorkInHand) (s : BuildState) → BuildFits c s
+        → ReuseKept (extent c) h hs → hs s.thread ≡ build_in_hand s → Stands c.width h s
         → SolidKept (extent c) s.cycle h
         → SolidKept (extent c) s.cycle (heap_after h (build_want (extent c) s)) }
-    ensures holds_no_grey { (s : BuildState) → grey_held (build_holding s) ≡ no_grey }
+    ensures holds_no_grey { (s : BuildState) → grey_held (build_in_hand s) ≡ no_grey }
     ensures holds_no_tricolour { (s : BuildState)
-        → tricolour_held (build_holding s) ≡ no_tricolour }
+        → tricolour_held (build_in_hand s) ≡ no_tricolour }
 {}
 
 /// Each event keeps all rules of the heap at once, while the other threads hold what they held,
-/// what the part has written stands, and the cycle is the part's. No event writes the phase.
+/// what the part has written is, and the cycle is the part's. No event writes the phase.
 pub fn rows_keep_the_heap()
-    ensures kept { (c : Config) (h : Heap) (hs : ℕ → Holding) (s : BuildState) → BuildFits c s
+    ensures kept { (c : Config) (h : Heap) (hs : ℕ → WorkInHand) (s : BuildState) → BuildFits c s
         → cycle_of (h Phase) ≡ s.cycle → Stands c.width h s
-        → PhaseKept (extent c) h hs → hs s.thread ≡ build_holding s
+        → PhaseKept (extent c) h hs → hs s.thread ≡ build_in_hand s
         → PhaseKept (extent c) (heap_after h (build_want (extent c) s))
         (changed hs s.thread
-        (build_holding (build_got (extent c) s (h (place_of (build_want (extent c) s)))))) }
+        (build_in_hand (build_got (extent c) s (h (place_of (build_want (extent c) s)))))) }
     ensures phase { (c : Config) (h : Heap) (s : BuildState)
         → heap_after h (build_want (extent c) s) Phase ≡ h Phase }
 {}
@@ -166,15 +166,15 @@ pub fn rows_keep_the_heap()
 /// holds of the Free blocks.
 pub fn held_blocks_are_distinct()
     ensures first { HeldOnce [] }
-    ensures kept { (c : Config) (h : Heap) (hs : ℕ → Holding) (s : BuildState) → BuildFits c s
-        → ReuseKept (extent c) h hs → hs s.thread ≡ build_holding s → HeldOnce s.held
+    ensures kept { (c : Config) (h : Heap) (hs : ℕ → WorkInHand) (s : BuildState) → BuildFits c s
+        → ReuseKept (extent c) h hs → hs s.thread ≡ build_in_hand s → HeldOnce s.held
         → HeldOnce (build_got (extent c) s (h (place_of (build_want (extent c) s)))).held }
     ensures apart { (held : List ℕ) (i j : ℕ) → HeldOnce held → i < length held → j < length held
         → block_at held i ≡ block_at held j → i ≡ j }
     ensures left { (c : Config) (s : BuildState) (o : ℕ) → BuildFits c s → o < length s.held
-        → o < left_of s.blocks s.row → 1 ≤ times (built_at s o) (build_holding s).held }
-    ensures free { (c : Config) (h : Heap) (hs : ℕ → Holding) (s : BuildState) (o : ℕ)
-        → BuildFits c s → ReuseKept (extent c) h hs → hs s.thread ≡ build_holding s
+        → o < left_of s.blocks s.row → 1 ≤ times (built_at s o) (build_in_hand s).held }
+    ensures free { (c : Config) (h : Heap) (hs : ℕ → WorkInHand) (s : BuildState) (o : ℕ)
+        → BuildFits c s → ReuseKept (extent c) h hs → hs s.thread ≡ build_in_hand s
         → o < length s.held → o < left_of s.blocks s.row
         → is_free (h (ColourOf (built_at s o))) ≡ true }
 {}

@@ -1,6 +1,6 @@
 //! Building, one atomic operation at a time: the blocks of an object are reserved and collected
 //! from the free lists, written from the last to the first, and published by one store. The
-//! blocks that are held stand in a room that the caller lends, so building takes no memory.
+//! blocks that are held are in a room that the caller lends, so building takes no memory.
 #![tactic(auto)]
 
 mod laws;

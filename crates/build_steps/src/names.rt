@@ -14,15 +14,15 @@ ghost use Rattle.never_heap.specs.Histories.{HistoryItem, Did};
 ghost use Rattle.never_heap.specs.Steps.{step};
 ghost use Rattle.heap_invariant.specs.graph_relation.Words.{block_words};
 ghost use Rattle.heap_invariant.specs.name_invariant.Building.{IsBuild};
-ghost use Rattle.heap_invariant.specs.name_invariant.Kept.{IsKept};
+ghost use Rattle.heap_invariant.specs.name_invariant.Invariant.{Invariant};
 ghost use Rattle.heap_invariant.specs.name_invariant.Pictures.{Names, Task, picture};
-ghost use Rattle.heap_machine.specs.Holdings.{Holding};
+ghost use Rattle.heap_machine.specs.WorkInHand.{WorkInHand};
 ghost use Rattle.heap_machine.specs.Operations.{heap_after};
 ghost use Rattle.heap_machine.specs.Readings.{IsHeld};
 ghost use Rattle.build_steps.specs.LinearizationPoints.{decides, is_counting, is_publishing, is_built};
 ghost use Rattle.build_steps.specs.Fits.{BuildFits};
 ghost use Rattle.build_steps.specs.Naming.{HoldsBuild, IsPictured, build_of, built_entry, names_made, with_task_build, word_read};
-ghost use Rattle.build_steps.specs.Rows.{BuildState, built_at, build_want, build_got, build_over, build_reply, build_holding, building, full_cycle};
+ghost use Rattle.build_steps.specs.Rows.{BuildState, built_at, build_want, build_got, build_over, build_reply, build_in_hand, building, full_cycle};
 ghost use Rattle.build_steps.specs.Standing.{Stands};
 
 /// Each event of a thread that builds keeps the rules of kept names on the picture of the heap. An
@@ -33,29 +33,29 @@ ghost use Rattle.build_steps.specs.Standing.{Stands};
 /// thread builds nothing.
 pub fn rows_keep_the_names()
     ensures goes_on { (c : Config) (g : Graph) (order : List HistoryItem) (h : Heap) (names : Names)
-        (tasks : ℕ → Task) (hs : ℕ → Holding) (s : BuildState) → IsInBounds c
+        (tasks : ℕ → Task) (hs : ℕ → WorkInHand) (s : BuildState) → IsInBounds c
         → IsPictured c g order h names tasks hs s → decides s (word_read c h s) ≡ false
-        → IsKept c (picture g order (heap_after h (build_want (extent c) s)) names
+        → Invariant c (picture g order (heap_after h (build_want (extent c) s)) names
         (with_task_build tasks s.thread
         (build_of c.width (build_got (extent c) s (word_read c h s))))) }
     ensures full { (c : Config) (g : Graph) (order : List HistoryItem) (h : Heap) (names : Names)
-        (tasks : ℕ → Task) (hs : ℕ → Holding) (s : BuildState) (work : ℕ) → IsInBounds c
+        (tasks : ℕ → Task) (hs : ℕ → WorkInHand) (s : BuildState) (work : ℕ) → IsInBounds c
         → IsPictured c g order h names tasks hs s
         → (is_counting s.row && nat_lt (word_read c h s) s.blocks) ≡ true
-        → IsKept c (picture g
+        → Invariant c (picture g
         (order ++ Did (built_entry s (replies.Full (full_cycle s.cycle)) work) ∷ [])
         (heap_after h (build_want (extent c) s)) names
         (with_task_build tasks s.thread None)) }
     ensures published { (c : Config) (g : Graph) (order : List HistoryItem) (h : Heap)
-        (names : Names) (tasks : ℕ → Task) (hs : ℕ → Holding) (s : BuildState) (work : ℕ)
+        (names : Names) (tasks : ℕ → Task) (hs : ℕ → WorkInHand) (s : BuildState) (work : ℕ)
         → IsInBounds c → IsPictured c g order h names tasks hs s → is_publishing s.row ≡ true
-        → IsKept c (picture (step g s.thread s.command).0
+        → Invariant c (picture (step g s.thread s.command).0
         (order ++ Did (built_entry s (step g s.thread s.command).1 work) ∷ [])
         (heap_after h (build_want (extent c) s))
         (names_made names (next_name g s.thread) (built_at s))
         (with_task_build tasks s.thread None)) }
     ensures reply { (c : Config) (g : Graph) (order : List HistoryItem) (h : Heap) (names : Names)
-        (tasks : ℕ → Task) (hs : ℕ → Holding) (s : BuildState) (v : ℕ)
+        (tasks : ℕ → Task) (hs : ℕ → WorkInHand) (s : BuildState) (v : ℕ)
         → IsPictured c g order h names tasks hs s → is_publishing s.row ≡ true
         → (build_reply (build_got (extent c) s v) ≡ Some (step g s.thread s.command).1)
         × ((step g s.thread s.command).1 ≡ replies.New (next_name g s.thread)) }
@@ -68,10 +68,10 @@ pub fn states_build_what_they_hold()
         → build_of w (building w t n cycle serial k capacity) ≡ None }
     ensures over { (w : Width) (s : BuildState) → build_over s.row ≡ true → build_of w s ≡ None }
     ensures held { (c : Config) (s : BuildState) → BuildFits c s
-        → HoldsBuild (build_of c.width s) (build_holding s) }
+        → HoldsBuild (build_of c.width s) (build_in_hand s) }
 {}
 
-/// Where those rules hold, what a part has written stands; and each event keeps that the words are
+/// Where those rules hold, what a part has written is; and each event keeps that the words are
 /// ones that their places can hold.
 pub fn written_blocks_stand()
     ensures build { (c : Config) (h : Heap) (s : BuildState) → BuildFits c s
@@ -79,7 +79,7 @@ pub fn written_blocks_stand()
         IsBuild c.width c.threads c.blocks s.cycle (λ x. h (ColourOf x)) (block_words h) b)
         → is_built s.row ≡ false → Stands c.width h s }
     ensures pictured { (c : Config) (g : Graph) (order : List HistoryItem) (h : Heap)
-        (names : Names) (tasks : ℕ → Task) (hs : ℕ → Holding) (s : BuildState)
+        (names : Names) (tasks : ℕ → Task) (hs : ℕ → WorkInHand) (s : BuildState)
         → IsPictured c g order h names tasks hs s → is_built s.row ≡ false → Stands c.width h s }
     ensures held { (c : Config) (h : Heap) (s : BuildState) → BuildFits c s → IsHeld c h
         → IsHeld c (heap_after h (build_want (extent c) s)) }

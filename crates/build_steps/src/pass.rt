@@ -80,7 +80,7 @@ fn list_of(thread: u32, threads: u32, u: u32) -> u32
     if next < threads { next } else { next - threads }
 }
 
-// The next list, and behind the last the first.
+// The next list, and after the last the first.
 fn next_list(threads: u32, u: u32) -> u32
     requires { (u < threads) × (threads ≤ 16) }
     ensures { result ≡ Rows.next_list threads u }
@@ -121,39 +121,39 @@ fn after_take(threads: u32, u: u32, head: u64) -> BuildRow
         }
     } else {
         BuildRow::Collect {
-            hand: head as u32,
+            list: head as u32,
             u,
         }
     }
 }
 
-// After the last block was collected, with the rest of its list in the hand.
-fn after_last(blocks: u32, hand: u32) -> BuildRow
+// After the last block was collected, with the rest of its list in the private list.
+fn after_last(blocks: u32, list: u32) -> BuildRow
     requires { 1 ≤ blocks }
-    ensures { result ≡ Rows.after_last blocks hand }
+    ensures { result ≡ Rows.after_last blocks list }
 {
-    if hand == 0 {
+    if list == 0 {
         BuildRow::WriteOwner {
             ordinal: blocks - 1,
         }
     } else {
-        BuildRow::PutRest { hand }
+        BuildRow::PutRest { list }
     }
 }
 
 // After a block of the u-th list was collected, which is the count-th.
-fn after_collect(blocks: u32, threads: u32, count: usize, hand: u32, u: u32) -> BuildRow
+fn after_collect(blocks: u32, threads: u32, count: usize, list: u32, u: u32) -> BuildRow
     requires { (1 ≤ blocks) × (u < threads) × (threads ≤ 16) }
-    ensures { result ≡ Rows.after_collect blocks threads count hand u }
+    ensures { result ≡ Rows.after_collect blocks threads count list u }
 {
     if count == blocks as usize {
-        after_last(blocks, hand)
-    } else if hand == 0 {
+        after_last(blocks, list)
+    } else if list == 0 {
         BuildRow::TakeFree {
             u: next_list(threads, u),
         }
     } else {
-        BuildRow::Collect { hand, u }
+        BuildRow::Collect { list, u }
     }
 }
 
@@ -267,11 +267,11 @@ impl BuildPass {
             WriteOwner { ordinal } => self.makes(WriteOwner { ordinal }, places, memory, shared),
             WriteShape { ordinal } => self.makes(WriteShape { ordinal }, places, memory, shared),
             WriteColour { ordinal } => self.makes(WriteColour { ordinal }, places, memory, shared),
-            Collect { hand, u } => self.makes(Collect { hand, u }, places, memory, shared),
+            Collect { list, u } => self.makes(Collect { list, u }, places, memory, shared),
             ReadCount => self.makes(ReadCount, places, memory, shared),
             Reserve { seen } => self.makes(Reserve { seen }, places, memory, shared),
             TakeFree { u } => self.makes(TakeFree { u }, places, memory, shared),
-            PutRest { hand } => self.makes(PutRest { hand }, places, memory, shared),
+            PutRest { list } => self.makes(PutRest { list }, places, memory, shared),
             Publish => self.makes(Publish, places, memory, shared),
             Built => self.makes(Built, places, memory, shared),
             Refused => self.makes(Refused, places, memory, shared),
@@ -382,8 +382,8 @@ impl BuildPass {
             TakeFree { u } => {
                 Op::exchange(places.free_list(list_of(self.thread, self.threads, u)), 0)
             }
-            Collect { hand, .. } => Op::load(places.colour(hand)),
-            PutRest { hand } => Op::exchange(places.free_list(self.thread), hand as u64),
+            Collect { list, .. } => Op::load(places.colour(list)),
+            PutRest { list } => Op::exchange(places.free_list(self.thread), list as u64),
             WriteOwner { ordinal } => {
                 Op::exchange(places.owner(self.block(ordinal)), self.owner(ordinal))
             }
@@ -444,8 +444,8 @@ impl BuildPass {
     {
         let step = self.step(places, row, word);
         let next = self.after(places, row, word);
-        if let BuildRow::Collect { hand, .. } = row {
-            self.room.push_reserved(hand);
+        if let BuildRow::Collect { list, .. } = row {
+            self.room.push_reserved(list);
         }
         self.row = next;
         step

@@ -1,6 +1,6 @@
 //! The rows of building: one variant for each event.
 
-/// The next event of building, or how the part ended. `hand` is the first block of a list that the
+/// The next event of building, or how the part ended. `list` is the first block of a list that the
 /// thread has taken, and no longer in that list; 1 to the number of blocks. `ordinal` is below the
 /// number of the object's blocks, `j` is below the number of payloads, and `u` is below the number
 /// of threads.
@@ -12,10 +12,11 @@ pub enum BuildRow {
     Reserve { seen: u64 },
     /// Takes the free list of thread `(thread + u) mod threads`, so its own first.
     TakeFree { u: u32 },
-    /// Loads the colour of the first block in the hand, which goes out of the hand and is held.
-    Collect { hand: u32, u: u32 },
-    /// Puts the hand in the thread's own free list.
-    PutRest { hand: u32 },
+    /// Loads the colour of the first block in the private list, which goes out of the private list
+    /// and is held.
+    Collect { list: u32, u: u32 },
+    /// Puts the private list in the thread's own free list.
+    PutRest { list: u32 },
     /// Writes the owner of the block of this ordinal.
     WriteOwner { ordinal: u32 },
     /// Writes the shape of the block of this ordinal.

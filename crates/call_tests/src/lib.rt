@@ -1,6 +1,7 @@
-//! Tests of the top call of `rtheap`: whole calls over streams in memory.
+//! Tests of whole calls over streams in memory: of `rtheap`, and of the programs on the heap.
 #![tactic(auto)]
 
+mod application_tests;
 #[cfg(test)]
 mod comparing;
 #[cfg(test)]

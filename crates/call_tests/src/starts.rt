@@ -2,7 +2,7 @@
 
 ghost use Rattle.std.specs.Prelude.{◌≡◌, ◌≤◌, ◌<◌, ◌⊎◌, All, Any, IfSome, IfNone};
 
-/// How many blocks are reachable at the start of a cycle that comes behind so many units, at least
+/// How many blocks are reachable at the start of a cycle that comes after so many units, at least
 /// `before` and fewer than `after`.
 pub fn blocks_at_start(starts: &[(u64, u64)], before: u64, after: u64) -> Option<u64>
     ensures found { IfSome result (λ blocks. Any (λ start.

@@ -1,4 +1,4 @@
--- A command is served within its bound, and what the heap stands for then.
+-- A command is served within its bound, and what the heap represents then.
 use Rattle.std.proofs.Common.{◌≡◌, ℕ, zero, suc, ◌+◌, ◌*◌, ◌^◌, ◌≤◌, Bool, true, false, cond, ltb, ◌&&◌, eqb, eqb-true, subst, List, [], ◌∷◌, ◌++◌, length, length-append, append-nil, get_or, map, take, refl, sym, ap, ◌∙◌, arith, inl, inr}
 use Rattle.std.proofs.lemmas.Bool.{cases_lt, and_parts}
 use Rattle.std.proofs.lemmas.List.{append_cancel_left}
@@ -14,14 +14,13 @@ use Rattle.never_heap.specs.declared.Entry.{Entry}
 use Rattle.never_heap.specs.declared.Reply.{Reply}
 use Rattle.never_heap.specs.Bounds.{IsCommandInBounds}
 use Rattle.never_heap.specs.Histories.{part, replay}
-use Rattle.never_heap.specs.RightWork.{units_told, units_owed}
+use Rattle.never_heap.specs.RightWork.{requested_units, units_owed}
 use Rattle.heap_system.specs.Lives.{sum_after, objects_of, most_units, most_objects}
 use Rattle.heap_system.specs.Units.{IsRight}
-use Rattle.heap_system.proofs.RunLaws.{entries_right}
+use Rattle.heap_system.proofs.Lemmas.{IsSettled, Kept, entries_right, lone_ends, near_ends, owed_works, rest_is, sum_last, sum_more, works_append}
 use Rattle.control_heap.proofs.GrownJobs.{HasRoomFor}
 use Rattle.never_heap.specs.Steps.{blocks_of}
-use Rattle.never_heap.proofs.HistoryGrowth.{part_append}
-use Rattle.never_heap.proofs.CommandBounds.{blocks_low, told_low}
+use Rattle.never_heap.proofs.Lemmas.{blocks_low, part_append, told_low}
 use Rattle.barrier_steps.specs.Operands.{is_idle}
 use Rattle.rate_plan.specs.solo_bound.Prices.{allocation_bound, idle_bound, other_bound}
 use Rattle.heap_system.specs.Parts.{Rest}
@@ -31,16 +30,9 @@ use Rattle.heap_system.specs.Alone.{IsQuiet, HasCommand, EndsWithin, after_alone
 use Rattle.heap_system.specs.Locals.{LocalState, begun, command_of, entries_of, is_done, is_rest, owed, turn_of, works, IsLocal}
 use Rattle.heap_system.specs.Machines.{Run, IsAfterTurns, local_in, next_effect}
 use Rattle.heap_system.specs.Pictures.{waiting}
-use Rattle.heap_system.proofs.Kept.{Kept}
-use Rattle.heap_system.proofs.OwedAndPaid.{works_append}
-use Rattle.heap_system.proofs.TurnFacts.{rest_is}
-use Rattle.heap_system.proofs.SeenAndKept.{IsSettled}
-use Rattle.heap_system.proofs.alone.Near.{near_ends}
-use Rattle.heap_system.proofs.alone.Runs.{lone_ends}
-use Rattle.heap_system.proofs.TraceSums.{sum_more, sum_last, owed_works}
 use Rattle.control_heap.specs.Controls.{ControlOf, Stands, Answers, Machine, Served, GoesOn, asked, HasLeft, given_to, moved_times, entries_in}
 use Rattle.control_heap.specs.Growth.{run_grown, given}
-use Rattle.control_heap.proofs.Behind.{behind, behind_done, command_same, given_behind, history_of}
+use Rattle.control_heap.proofs.DroppedHistory.{behind, behind_done, command_same, given_behind, history_of}
 use Rattle.control_heap.proofs.HeapAsRun.{Carries, IsSafe, carried, events_grown, kept_of, low, safe}
 use Rattle.control_heap.proofs.GrownRuns.{local_grown}
 use Rattle.control_heap.proofs.Items.{Added, added_alone}
@@ -55,13 +47,13 @@ bound_low c rate k bounds few single fits = by (ltb 0 (blocks_of c.width k)) (is
         let blocks : blocks_of c.width k ≤ c.object = blocks_low c k fits in
         subst (λ n. allocation_bound n (blocks_of c.width k) rate ≤ 2 ^ 40) (sym single) (omega (arith, price, blocks, bounds.object))
 
-    idle : idle_bound c.threads (units_told k) ≤ 2 ^ 40
-    idle = subst (λ n. idle_bound n (units_told k) ≤ 2 ^ 40) (sym single) (omega (arith, told_low c k fits))
+    idle : idle_bound c.threads (requested_units k) ≤ 2 ^ 40
+    idle = subst (λ n. idle_bound n (requested_units k) ≤ 2 ^ 40) (sym single) (omega (arith, told_low c k fits))
 
     other : other_bound c.object ≤ 2 ^ 40
     other = omega (arith, bounds.object)
 
-    by : (a b : Bool) → cond a (allocation_bound c.threads (blocks_of c.width k) rate) (cond b (idle_bound c.threads (units_told k)) (other_bound c.object)) ≤ 2 ^ 40
+    by : (a b : Bool) → cond a (allocation_bound c.threads (blocks_of c.width k) rate) (cond b (idle_bound c.threads (requested_units k)) (other_bound c.object)) ≤ 2 ^ 40
     by true b = made
     by false true = idle
     by false false = other

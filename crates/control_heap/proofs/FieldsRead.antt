@@ -13,17 +13,17 @@ use Rattle.block_store.specs.Payloads.{reference_word}
 use Rattle.block_store.specs.Places.{PayloadOf, ShapeOf, extent}
 use Rattle.block_store.specs.Widths.{payloads}
 use Rattle.block_store.specs.Registers.{register_block, register_slot}
-use Rattle.block_store.proofs.PayloadWords.{payload-code}
+use Rattle.block_store.proofs.Lemmas.{payload-code}
 use Rattle.never_heap.specs.Graphs.{Graph, Object, ObjectKind, Record, Array, field_of, object_of, register_of}
 use Rattle.never_heap.specs.Histories.{replay}
 use Rattle.object_lists.specs.Layouts.{IsWay}
 use Rattle.object_lists.specs.Parts.{Part, Field}
 use Rattle.heap_invariant.specs.graph_relation.Events.{is_pending, pending_registers}
 use Rattle.heap_invariant.specs.graph_relation.Layouts.{kind_shape, layout_part, object_blocks, shape_part}
-use Rattle.heap_invariant.specs.graph_relation.Shown.{IsValueOf, Shows, heads}
+use Rattle.heap_invariant.specs.graph_relation.GraphOfWords.{IsValueOf, Shows, heads}
 use Rattle.heap_invariant.specs.graph_relation.Words.{block_words, part_word, value_word}
-use Rattle.heap_invariant.proofs.graph_relation.ObjectLayouts.{object_layout}
-use Rattle.heap_invariant.proofs.graph_relation.WordReads.{length_read, owner_read, register_read, value_read as word_read}
+use Rattle.heap_invariant.proofs.Lemmas.{length_read, object_layout, owner_read, register_read}
+use Rattle.heap_invariant.proofs.graph_relation.WordReads.{value_read as word_read}
 use Rattle.barrier_steps.specs.Rows.{object_or_nil, shape_in, shape_or_empty}
 use Rattle.barrier_steps.specs.Walks.{field_at, link_at, links_to, ordinal_at, shape_length}
 use Rattle.barrier_steps.proofs.Decisions.{kind_length}
@@ -31,14 +31,13 @@ use Rattle.barrier_steps.proofs.FieldRows.{field_low, link_low, way_is}
 use Rattle.heap_system.specs.Locals.{is_rest, task}
 use Rattle.heap_system.specs.Machines.{Run, local_in}
 use Rattle.heap_system.specs.Pictures.{tasks_in}
-use Rattle.heap_system.proofs.Kept.{Kept}
-use Rattle.heap_system.proofs.TurnFacts.{rest_is}
+use Rattle.heap_system.proofs.Lemmas.{Kept, rest_is}
 use Rattle.control_heap.specs.Controls.{ControlOf, Stands}
 use Rattle.control_heap.specs.Readings.{HasFields, HasNoObject, block_read, field_read, fields_read, payload_block, payload_value, value_read, walked}
 use Rattle.control_heap.proofs.CommandBound.{rests}
 use Rattle.control_heap.proofs.HeapAsRun.{kept_of, low}
 
--- what stands in the blocks of an object's shape is what stands in those of the object
+-- what is in the blocks of an object's shape is what is in those of the object
 same_part : (c : Config) (k : ObjectKind) (n o j : ℕ) → shape_part c.width (kind_shape k n) o j ≡ layout_part c.width k n o j
 same_part c Record n o j = refl
 same_part c Array n o j = refl
@@ -66,7 +65,7 @@ module _ (c : Config) (few : c.blocks ≤ 65535) (K : Name → Type 0) (g : Grap
     pub long : shape_length shape ≡ length object.fields
     long = kind_length object.kind (length object.fields)
 
-    -- what stands in a block of the object
+    -- what is in a block of the object
     stands : (o j : ℕ) (p : Part) → o < object_blocks c.width object → j < payloads c.width → shape_part c.width shape o j ≡ p
         → h (PayloadOf (at a o) j) ≡ part_word (heads at) (at a) (field_of object) p
     stands o j p there small is =

@@ -9,35 +9,29 @@ use Rattle.block_store.specs.Heaps.{heap_of}
 use Rattle.block_store.specs.Phases.{cycle_of, is_sweep}
 use Rattle.block_store.specs.Places.{ColourOf, FreeCount, Phase, extent, words_count}
 use Rattle.block_store.specs.Widths.{payloads}
-use Rattle.block_store.proofs.Functions.{total_none}
+use Rattle.block_store.proofs.Lemmas.{total_none}
 use Rattle.rate_plan.specs.Rates.{IsRate}
 use Rattle.rate_plan.proofs.Rates.{one_rate, opening_room}
 use Rattle.never_heap.specs.declared.Command.{Command}
 use Rattle.never_heap.specs.declared.Command.TheVariants as commands
 use Rattle.never_heap.specs.Bounds.{IsCommandInBounds}
 use Rattle.never_heap.specs.Cycles.{graph_at}
-use Rattle.never_heap.specs.Given.{given}
+use Rattle.never_heap.specs.GivenBlocks.{given}
 use Rattle.never_heap.specs.Histories.{replay, starts_in}
 use Rattle.never_heap.specs.LiveBlocks.{live_blocks}
-use Rattle.never_heap.specs.RightWork.{units_owed, units_told}
+use Rattle.never_heap.specs.RightWork.{units_owed, requested_units}
 use Rattle.never_heap.specs.Steps.{blocks_of}
-use Rattle.never_heap.proofs.StepAnswers.{owes_told}
+use Rattle.never_heap.proofs.Lemmas.{owes_told}
 use Rattle.rate_plan.specs.solo_bound.Near.{near_bound, near_other_bound}
 use Rattle.heap_machine.specs.FreeBlocks.{FreeKept, count_free}
-use Rattle.heap_machine.specs.Holdings.{free_held, holds_nothing}
-use Rattle.heap_invariant.specs.cycle_tally.Kept.{live_before}
+use Rattle.heap_machine.specs.WorkInHand.{free_held, holds_nothing}
+use Rattle.heap_invariant.specs.cycle_tally.TallyInvariant.{live_before}
 use Rattle.heap_invariant.specs.cycle_tally.Tallies.{given_now, reserved_now}
 use Rattle.heap_system.specs.Locals.{is_rest, view}
 use Rattle.heap_system.specs.Machines.{Run, heap_in, local_in}
-use Rattle.heap_system.specs.Pictures.{holding, holdings_in}
+use Rattle.heap_system.specs.Pictures.{work_in_hand, work_in_hand_of}
 use Rattle.heap_system.specs.Alone.{most_events}
-use Rattle.heap_system.proofs.Kept.{Kept}
-use Rattle.heap_system.proofs.LawsOf.{laws_of}
-use Rattle.heap_system.proofs.RunTally.{RunTallied, run_tallied}
-use Rattle.heap_system.proofs.TalliesOf.{tallies_of}
-use Rattle.heap_system.proofs.TallyLaw.{reserved_for}
-use Rattle.heap_system.proofs.TurnFacts.{rest_is}
-use Rattle.heap_system.proofs.alone.Near.{makes_near, owes_blocks, serves_near}
+use Rattle.heap_system.proofs.Lemmas.{Kept, RunTallied, laws_of, makes_near, owes_blocks, reserved_for, rest_is, run_tallied, serves_near, tallies_of}
 use Rattle.control_heap.specs.Controls.{ControlOf, Stands}
 use Rattle.control_heap.specs.Gauges.{cycle_before, live_at_start, live_or_made, most_operations}
 use Rattle.control_heap.proofs.CommandBound.{config_is, rate_is, rests}
@@ -59,18 +53,18 @@ module _ {M : Type 0} (h : ControlOf M) (r : Run) (st : Stands h r) where
   started = ap (λ ws. cycle_of (heap_of (extent h.config) ws Phase)) (sym st.words) ∙ sym kept.names.ordered.started
 
   -- the thread is at rest and holds nothing, so that all Free blocks are counted
-  rests_here : (t : ℕ) → t < h.config.threads → holding h.config (local_in h.config r t).part ≡ holds_nothing
+  rests_here : (t : ℕ) → t < h.config.threads → work_in_hand h.config (local_in h.config r t).part ≡ holds_nothing
   rests_here t tl =
       let zero_is : 0 ≡ t = (let s = st.single in omega (arith, tl, s)) in
       let rest : is_rest (local_in h.config r 0).part ≡ true = ap (λ l. is_rest l.part) st.thread ∙ rests h r st in
-      subst (λ u. holding h.config (local_in h.config r u).part ≡ holds_nothing) zero_is
-      (ap (holding h.config) (rest_is (local_in h.config r 0).part rest))
+      subst (λ u. work_in_hand h.config (local_in h.config r u).part ≡ holds_nothing) zero_is
+      (ap (work_in_hand h.config) (rest_is (local_in h.config r 0).part rest))
 
   free_here : heap_of (extent h.config) h.words FreeCount ≡ count_free (extent h.config) (λ x. heap_of (extent h.config) h.words (ColourOf x))
   free_here =
-      let all : FreeKept (extent h.config) (heap_in h.config r.state) (λ t. free_held (holdings_in h.config r.state t)) = kept.rules.reuse.free in
-      let reserved : total h.config.threads (λ t. (free_held (holdings_in h.config r.state t)).reserved) ≡ 0 = total_none h.config.threads _ (λ t tl. ap (λ w. (free_held w).reserved) (rests_here t tl)) in
-      let freed : total h.config.threads (λ t. (free_held (holdings_in h.config r.state t)).freed) ≡ 0 = total_none h.config.threads _ (λ t tl. ap (λ w. (free_held w).freed) (rests_here t tl)) in
+      let all : FreeKept (extent h.config) (heap_in h.config r.state) (λ t. free_held (work_in_hand_of h.config r.state t)) = kept.rules.reuse.free in
+      let reserved : total h.config.threads (λ t. (free_held (work_in_hand_of h.config r.state t)).reserved) ≡ 0 = total_none h.config.threads _ (λ t tl. ap (λ w. (free_held w).reserved) (rests_here t tl)) in
+      let freed : total h.config.threads (λ t. (free_held (work_in_hand_of h.config r.state t)).freed) ≡ 0 = total_none h.config.threads _ (λ t tl. ap (λ w. (free_held w).freed) (rests_here t tl)) in
       subst (λ ws. heap_of (extent h.config) ws FreeCount ≡ count_free (extent h.config) (λ x. heap_of (extent h.config) ws (ColourOf x))) st.words
       (omega (arith, all.credit, reserved, freed))
 
@@ -131,7 +125,7 @@ module _ {M : Type 0} (h : ControlOf M) (r : Run) (st : Stands h r) (k : Command
       → (p : ℕ) → IsRate h.config p → n ≡ most_operations h.config p k
   other_here units taken n owed blocks none is p planned =
       let zero_is : blocks_of h.config.width k ≡ 0 = sym blocks ∙ omega (arith, none) in
-      let units_is : units ≡ units_told k = owed_here units owed p planned ∙ owes_told h.config.width p k zero_is in
+      let units_is : units ≡ requested_units k = owed_here units owed p planned ∙ owes_told h.config.width p k zero_is in
       is ∙ (λ i. near_other_bound (sym st.single i) (payloads h.config.width) h.config.blocks (units_is i) (most_events h.config k))
       ∙ sym (serves_near h.config k p zero_is)
 

@@ -1,4 +1,4 @@
--- An opening, a job and a run, with one command more behind a trace.
+-- An opening, a job and a run, with one command more after a trace.
 use Rattle.std.proofs.Common.{◌≡◌, ℕ, suc, ◌+◌, ◌<◌, ◌≤◌, Bool, true, false, cond, eqb, eqb-true, List, [], ◌∷◌, ◌++◌, length, length-append, get_or, map, refl, sym, ap, ◌∙◌, arith, subst}
 use Rattle.std.specs.List.{AllByRecursion}
 use Rattle.block_store.specs.declared.Config.{Config}
@@ -9,8 +9,7 @@ use Rattle.never_heap.specs.RightWork.{units_owed}
 use Rattle.heap_system.specs.Lives.{IsLife, sum_after, objects_of, most_commands, most_units, most_objects}
 use Rattle.heap_system.specs.Locals.{at_start}
 use Rattle.heap_system.specs.Machines.{State, Run, IsJob, IsOpening, IsRunOf, starts_from, opened}
-use Rattle.heap_system.proofs.Always.{opening_kept}
-use Rattle.heap_system.proofs.TraceSums.{sum_more}
+use Rattle.heap_system.proofs.Lemmas.{opening_kept, sum_more}
 use Rattle.control_heap.specs.Growth.{given, grown, state_grown, run_grown, AllGo, extended}
 use Rattle.control_heap.proofs.GrownRuns.{after_grown}
 
@@ -42,7 +41,7 @@ module _ (c : Config) (t : ℕ) (k : Command) where
   all_more [] all one = (one, tt)
   all_more (y ∷ x) all one = (all.0, all_more x all.1 one)
 
-  -- there is room for one command more behind this trace
+  -- there is room for one command more after this trace
   pub record HasRoomFor (x : List Command) : Type 0 where
     pub few : length x < most_commands
     pub units : (rate : ℕ) → IsRate c rate → sum_after (units_owed c.width rate) 0 x + units_owed c.width rate k ≤ most_units

@@ -1,4 +1,4 @@
--- Turns that are events do not look behind the traces.
+-- Turns that are events do not look after the traces.
 use Rattle.std.proofs.Common.{◌≡◌, ℕ, ◌+◌, ◌-◌, ◌<◌, Bool, true, false, cond, eqb, lt-ltb, le-ltb, eq-eqb, ne_eqb, subst, not, ◌&&◌, List, [], ◌∷◌, ◌++◌, length, length-append, get_or, set, map, refl, sym, ap, ◌∙◌, arith, inl, inr, ◌⊎◌}
 use Rattle.std.proofs.Math.ListN.{get_or-map, get_or-append}
 use Rattle.std.proofs.lemmas.Bool.{cases_lt}
@@ -8,16 +8,14 @@ use Rattle.block_store.specs.Places.{extent}
 use Rattle.never_heap.specs.declared.Command.{Command}
 use Rattle.never_heap.specs.declared.Command.TheVariants as commands
 use Rattle.never_heap.specs.Histories.{HistoryItem, replay}
-use Rattle.never_heap.specs.RightWork.{units_owed, units_told}
+use Rattle.never_heap.specs.RightWork.{units_owed, requested_units}
 use Rattle.never_heap.specs.Steps.{blocks_of}
 use Rattle.heap_machine.specs.Operations.{op_at, op_place, words_after}
-use Rattle.heap_system.specs.Parts.{Part, Rest, Enter, Serve, Mark, Sweep, Build, Retry, ToChange, PhaseChange, Leave}
+use Rattle.heap_system.specs.Parts.{Part, Rest, Enter, Access, Mark, Sweep, Build, Retry, LeaveToChangePhase, PhaseChange, Leave}
 use Rattle.heap_system.specs.Locals.{LocalState, Effect, IsLocal, PartFits, command_of, entries_of, balance_got, made_got, effect, part_want, part_got, local_got, is_done, is_rest}
 use Rattle.heap_system.specs.Machines.{State, Run, IsJob, local_at, no_local, heap_in, word_read, next_effect, event_done, has_event, items_by, next, after_turns}
 use Rattle.heap_system.specs.Naming.{renamed}
-use Rattle.heap_system.proofs.Kept.{Kept}
-use Rattle.heap_system.proofs.Always.{turn_kept}
-use Rattle.heap_system.proofs.LawsOf.{laws_of}
+use Rattle.heap_system.proofs.Lemmas.{Kept, laws_of, turn_kept}
 use Rattle.control_heap.specs.Growth.{given, grown, state_grown, run_grown, AllGo}
 
 -- a thread that is not done has its command, or goes out
@@ -33,12 +31,12 @@ looks l fits going = by l.part fits.part going
       | inr over ↦ (let b : true ≡ false = sym (eq-eqb (length l.log) (length l.trace) (omega (arith, over, fits.log))) ∙ e in cc)
     ]
     by (Enter g) f e = inl f.2
-    by (Serve s) f e = inl f.1
+    by (Access s) f e = inl f.1
     by (Mark m) f e = inl f.1
     by (Sweep s) f e = inl f.1
     by (Build b) f e = inl f.1
     by Retry f e = inl f
-    by ToChange f e = inl f.0
+    by LeaveToChangePhase f e = inl f.0
     by (PhaseChange g) f e = inl f.3
     by Leave f e = inr refl
 
@@ -52,7 +50,7 @@ module _ (t : ℕ) (k : Command) where
       record (local_got l w) {
         trace = l.trace ++ k ∷ [];
         log = l.log ++ entries_of l.thread m l.spent e.reply;
-        balance = balance_got e (units_told m) (blocks_of l.config.width m) l.balance;
+        balance = balance_got e (requested_units m) (blocks_of l.config.width m) l.balance;
         made = made_got m e.reply l.made;
         part = part_got l.config l.thread (record {
           command = m;

@@ -11,15 +11,10 @@ use Rattle.heap_machine.specs.Operations.{op_at, op_place, words_after, SumFits}
 use Rattle.heap_system.specs.Alone.{after_alone}
 use Rattle.heap_system.specs.Locals.{LocalState, LocalReads, is_done, local_got, op_wanted, part_want}
 use Rattle.heap_system.specs.Machines.{State, Run, IsAfterTurns, event_done, has_event, local_at, local_in, next, no_local, opened, turned, word_read}
-use Rattle.heap_system.proofs.Always.{opening_kept, run_kept}
-use Rattle.heap_system.proofs.ThreadAccounts.{local_reads}
-use Rattle.heap_system.proofs.Kept.{Kept}
-use Rattle.heap_system.proofs.LawsOf.{laws_of}
-use Rattle.heap_system.proofs.TurnFacts.{after_last}
-use Rattle.heap_system.proofs.KeptByTurns.{cell, sums}
+use Rattle.heap_system.proofs.Lemmas.{Kept, after_last, cell, laws_of, local_reads, opening_kept, run_kept, sums}
 use Rattle.control_heap.specs.Controls.{IsByEvents, Machine, moved, moved_times, GoesOn}
 use Rattle.control_heap.specs.Growth.{run_grown}
-use Rattle.control_heap.proofs.Behind.{behind, behind_got, behind_done}
+use Rattle.control_heap.proofs.DroppedHistory.{behind, behind_got, behind_done}
 use Rattle.control_heap.proofs.GrownRuns.{go_more, go_grown}
 use Rattle.control_heap.proofs.GrownJobs.{HasRoomFor, job_grown, run_extended}
 

@@ -10,34 +10,23 @@ use Rattle.block_store.specs.Counts.{times, total}
 use Rattle.block_store.specs.Phases.{bit, is_sweep}
 use Rattle.block_store.specs.Places.{ColourOf, Phase, extent}
 use Rattle.block_store.specs.Registers.{registers_end}
-use Rattle.block_store.proofs.Functions.{total_none}
-use Rattle.block_store.proofs.Totals.{total_below, times_append, total_plus, none_above}
+use Rattle.block_store.proofs.Lemmas.{none_above, times_append, total_below, total_none, total_plus}
 use Rattle.never_heap.specs.declared.Command.{Command}
 use Rattle.never_heap.specs.Cycles.{after_start, before_start, graph_at}
 use Rattle.never_heap.specs.Graphs.{Graph, object_of, same_name, start_graph}
 use Rattle.never_heap.specs.Histories.{replay, replay_from, starts_in}
 use Rattle.never_heap.specs.LiveBlocks.{live_blocks, live_of, object_blocks}
 use Rattle.never_heap.specs.Reach.{names, reachable}
-use Rattle.never_heap.proofs.LiveBlocksBound.{once_below, live_sum}
-use Rattle.never_heap.proofs.NameLists.{same_itself}
-use Rattle.never_heap.proofs.ReachSteps.{reachable_named}
-use Rattle.never_heap.proofs.StartGraph.{threads_of_start}
-use Rattle.never_heap.proofs.UnchangedBySteps.{replay_shape, threads_of_replay}
-use Rattle.never_heap.proofs.CycleGrowth.{replay_parts}
+use Rattle.never_heap.proofs.Lemmas.{blocks_at, length_blocks, length_these, live_sum, once_below, reachable_named, replay_parts, replay_shape, same_itself, these, threads_of_replay, threads_of_start}
 use Rattle.heap_invariant.specs.graph_relation.Events.{pending_registers}
 use Rattle.heap_invariant.specs.graph_relation.Words.{block_words}
-use Rattle.heap_invariant.proofs.graph_relation.WordReads.{blocks_apart}
+use Rattle.heap_invariant.proofs.Lemmas.{blocks_apart, one_of, reached_kept, reached_solid, same_blocks}
 use Rattle.heap_invariant.specs.name_invariant.States.{Kept}
-use Rattle.heap_invariant.proofs.name_invariant.FlipAndStart.{reached_kept}
-use Rattle.heap_invariant.proofs.name_invariant.ReachedBlocks.{reached_solid}
 use Rattle.heap_machine.specs.FreeBlocks.{count_free}
 use Rattle.heap_system.specs.Machines.{Run, heap_in}
 use Rattle.heap_system.specs.Pictures.{kept_state, tasks_in}
-use Rattle.heap_system.proofs.Kept.{Kept as KeptRun}
+use Rattle.heap_system.proofs.invariant.Invariant.{Kept as KeptRun}
 use Rattle.heap_invariant.specs.cycle_tally.InUse.{graph_then}
-use Rattle.heap_invariant.proofs.cycle_tally.MadeNames.{same_blocks}
-use Rattle.heap_invariant.proofs.cycle_tally.BlockLists.{blocks_at, length_blocks, length_these, these}
-use Rattle.heap_invariant.proofs.cycle_tally.InUse.{one_of}
 use Rattle.control_heap.proofs.KnownAtStart.{KnowsStart}
 
 one_there : (n y : ℕ) → 0 < y → y ≤ n → total n (λ x. bit (eqb (suc x) y)) ≡ 1
@@ -68,7 +57,7 @@ all_counted : (n : ℕ) (ys : List ℕ) → Within n ys → total n (λ x. times
 all_counted n [] w = total_none n (λ x. 0) (λ x l. refl)
 all_counted n (y ∷ ys) w = omega (arith, total_plus n (λ x. bit (eqb (suc x) y)) (λ x. times (suc x) ys), one_there n y w.0 w.1, all_counted n ys w.2)
 
--- what stands in a placement has an ordinal, and no more than one
+-- what is in a placement has an ordinal, and no more than one
 find_these : (f : ℕ → ℕ) (k x : ℕ) → 1 ≤ times x (these f k) → (o : ℕ) × (o < k) × (x ≡ f o)
 find_these f zero x h = absurd (omega arith)
 find_these f (suc k) x h = elim (cases_eq x (f k)) [

@@ -3,7 +3,7 @@ use Rattle.std.proofs.Common.{◌≡◌, ℕ, zero, suc, Bool, true, false, cond
 use Rattle.block_store.specs.declared.Config.{Config}
 use Rattle.never_heap.specs.declared.Command.{Command}
 use Rattle.never_heap.specs.Histories.{HistoryItem, Started, Did, part}
-use Rattle.never_heap.proofs.HistoryGrowth.{part_append}
+use Rattle.never_heap.proofs.Lemmas.{part_append}
 use Rattle.heap_system.specs.Alone.{after_alone}
 use Rattle.heap_system.specs.Locals.{Effect, Verdict, Open, AsStep, Refused, command_of}
 use Rattle.heap_system.specs.Machines.{Run, State, decided, items_by, entries_by, starts_by, has_event, local_at, next_effect, next}

@@ -9,19 +9,15 @@ use Rattle.never_heap.specs.Cycles.{graph_at}
 use Rattle.never_heap.specs.Graphs.{Graph, next_name, same_name}
 use Rattle.never_heap.specs.Histories.{HistoryItem, Started, replay, starts_in}
 use Rattle.never_heap.specs.Reach.{reachable}
-use Rattle.never_heap.proofs.CycleGrowth.{graph_at_more, graph_at_next}
-use Rattle.never_heap.proofs.HistoryGrowth.{starts_append}
+use Rattle.never_heap.proofs.Lemmas.{graph_at_more, graph_at_next, starts_append}
 use Rattle.heap_invariant.specs.name_invariant.Pictures.{Names}
 use Rattle.heap_invariant.specs.cycle_tally.InUse.{graph_then}
 use Rattle.build_steps.specs.LinearizationPoints.{is_publishing}
-use Rattle.heap_system.specs.Parts.{Part, Rest, Enter, Serve, Mark, Sweep, Build, Retry, ToChange, PhaseChange, Leave}
+use Rattle.heap_system.specs.Parts.{Part, Rest, Enter, Access, Mark, Sweep, Build, Retry, LeaveToChangePhase, PhaseChange, Leave}
 use Rattle.heap_system.specs.Locals.{Effect, Verdict, Open, command_of, effect}
 use Rattle.heap_system.specs.Machines.{Run, IsAfterTurns, IsJob, after_turns, entries_by, has_event, heap_in, items_by, local_at, next, next_effect, opened, starts_by}
 use Rattle.heap_system.specs.Naming.{Naming, Same, Lost, Begun, Shaded, Made, renamed}
-use Rattle.heap_system.proofs.Always.{opening_kept, turn_kept}
-use Rattle.heap_system.proofs.Kept.{Kept}
-use Rattle.heap_system.proofs.LawsOf.{laws_of}
-use Rattle.heap_system.proofs.OrderGrowth.{entries_start_none}
+use Rattle.heap_system.proofs.Lemmas.{Kept, entries_start_none, laws_of, opening_kept, turn_kept}
 
 -- over an order and the names that are known
 abbrev pub KnowsThen : Config → List HistoryItem → (Name → Bool) → Type 0
@@ -45,12 +41,12 @@ not_begun n v none is = absurd (let z : false ≡ true = sym none ∙ is in cc)
 begun_open : (c : Config) (p : Part) (w : ℕ) → is_begun (effect c p w).naming ≡ true → (effect c p w).verdict ≡ Open
 begun_open c Rest w is = refl
 begun_open c (Enter g) w is = refl
-begun_open c (Serve f) w is = not_begun Same (effect c (Serve f) w).verdict refl is
+begun_open c (Access f) w is = not_begun Same (effect c (Access f) w).verdict refl is
 begun_open c (Mark m) w is = refl
 begun_open c (Sweep s) w is = refl
 begun_open c (Build b) w is = not_begun (effect c (Build b) w).naming (effect c (Build b) w).verdict (begun_builds (is_publishing b.row) _) is
 begun_open c Retry w is = refl
-begun_open c ToChange w is = refl
+begun_open c LeaveToChangePhase w is = refl
 begun_open c (PhaseChange g) w is = refl
 begun_open c Leave w is = refl
 

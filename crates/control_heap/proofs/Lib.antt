@@ -1,4 +1,4 @@
-pub mod Behind
+pub mod DroppedHistory
 pub mod HeapAsRun
 pub mod CommandBound
 pub mod GrownRuns
@@ -11,6 +11,8 @@ pub mod KnownAtStart
 pub mod InUse
 pub mod GaugesRead
 pub mod FieldsRead
+pub mod ElementWords
+pub mod PathsRead
 pub mod Pace
 pub mod WayBacks
 pub mod GrownJobs
@@ -18,3 +20,4 @@ pub mod ServeLoop
 pub mod Counts
 pub mod SeenRead
 pub mod StillUnused
+pub mod RunGrowth

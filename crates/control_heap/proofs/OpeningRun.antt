@@ -1,4 +1,4 @@
--- The opening heap stands for the run of a job without a command.
+-- The opening heap represents the run of a job without a command.
 use Rattle.std.proofs.Common.{◌≡◌, ℕ, ◌≤◌, true, false, ◌+◌, List, [], ◌∷◌, length, refl, sym, ap, ◌∙◌, arith}
 use Rattle.block_store.specs.declared.Config.{Config}
 use Rattle.block_store.specs.declared.PhaseWord.{PhaseWord}
@@ -6,7 +6,7 @@ use Rattle.block_store.specs.Configs.{IsInBounds}
 use Rattle.block_store.specs.Heaps.{heap_of}
 use Rattle.block_store.specs.Phases.{inside_of, is_closed}
 use Rattle.block_store.specs.Places.{Place, Phase, extent, in_range, words_count}
-use Rattle.block_store.proofs.PhaseWords.{inside-code, closed-code}
+use Rattle.block_store.proofs.Lemmas.{closed-code, inside-code}
 use Rattle.rate_plan.specs.Rates.{IsRate, IsAdmitted}
 use Rattle.never_heap.specs.declared.Command.{Command}
 use Rattle.never_heap.specs.Histories.{Started}

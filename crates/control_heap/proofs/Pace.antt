@@ -3,7 +3,7 @@ use Rattle.std.proofs.Common.{◌≡◌, ℕ, zero, suc, ◌+◌, ◌*◌, ◌<�
 use Rattle.block_store.specs.declared.Config.{Config}
 use Rattle.block_store.specs.Colours.{black_word}
 use Rattle.block_store.specs.Counts.{total}
-use Rattle.block_store.proofs.Functions.{total_same}
+use Rattle.block_store.proofs.Lemmas.{total_same}
 use Rattle.rate_plan.specs.Rates.{IsRate}
 use Rattle.never_heap.specs.declared.Command.{Command}
 use Rattle.never_heap.specs.declared.Reply.{Reply}
@@ -11,21 +11,14 @@ use Rattle.never_heap.specs.Bounds.{IsCommandInBounds}
 use Rattle.never_heap.specs.Histories.{replay, starts_in, work_in}
 use Rattle.work_account.specs.Accounts.{units_in}
 use Rattle.heap_invariant.specs.cycle_tally.Tallies.{made_now, units_now}
-use Rattle.heap_invariant.proofs.cycle_tally.CycleUnits.{few_units}
+use Rattle.heap_invariant.proofs.Lemmas.{few_units}
 use Rattle.heap_system.specs.declared.Turn.TheVariants.{Went}
 use Rattle.heap_system.specs.Alone.{after_alone}
 use Rattle.heap_system.specs.Costs.{units_so_far}
 use Rattle.heap_system.specs.Locals.{LocalState, Effect, command_of, is_done, turn_of}
 use Rattle.heap_system.specs.Machines.{Run, IsJob, answer, local_at, local_in, next, next_effect, starts_by}
 use Rattle.heap_system.specs.Naming.{Naming, Begun}
-use Rattle.heap_system.proofs.Always.{turn_kept}
-use Rattle.heap_system.proofs.Kept.{Kept}
-use Rattle.heap_system.proofs.KeptByTurns.{effect_here, next_is}
-use Rattle.heap_system.proofs.LawsOf.{laws_of}
-use Rattle.heap_system.proofs.RunTally.{RunTallied, run_tallied, spent_is, after, event_tallied}
-use Rattle.heap_system.proofs.TallyLaw.{past_by}
-use Rattle.heap_system.proofs.TalliesOf.{tallies_of}
-use Rattle.heap_system.proofs.OrderGrowth.{starts_after}
+use Rattle.heap_system.proofs.Lemmas.{Kept, RunTallied, after, effect_here, event_tallied, laws_of, next_is, past_by, run_tallied, spent_is, starts_after, tallies_of, turn_kept}
 use Rattle.control_heap.specs.Controls.{ControlOf, Stands, Answers, HasLeft}
 use Rattle.control_heap.specs.Growth.{given, grown, run_grown, state_grown}
 use Rattle.control_heap.proofs.CommandBound.{begins, not_done}
@@ -45,7 +38,7 @@ spent_grown : (k : Command) (b : Bool) (l : LocalState) → (cond b (given k l) 
 spent_grown k true l = refl
 spent_grown k false l = refl
 
--- Run z is behind run r: so many cycles more have begun, and the units of all cycles before the
+-- Run z is after run r: so many cycles more have begun, and the units of all cycles before the
 -- present one are at most two a block more for each.
 pub record Onward (c : Config) (rate : ℕ) (r z : Run) (from : RunTallied c rate r) : Type 0 where
   pub counts : RunTallied c rate z

@@ -10,16 +10,15 @@ use Rattle.block_store.specs.declared.Value.TheVariants.{Nil, Int, Ref}
 use Rattle.block_store.specs.declared.TheConstants.{REGISTERS}
 use Rattle.block_store.specs.Heaps.{Heap, heap_of}
 use Rattle.block_store.specs.declared.Payload.TheVariants as payload_words
-use Rattle.block_store.proofs.PayloadWords.{payload-code}
+use Rattle.block_store.proofs.Lemmas.{payload-code}
 use Rattle.block_store.specs.Places.{PayloadOf, ShapeOf, OwnerOf, extent}
 use Rattle.block_store.specs.Registers.{register_block, register_slot}
 use Rattle.never_heap.specs.Graphs.{Graph, Object, ObjectKind, Record, Array, field_of, has_name, mutator_at, object_of, register_of}
 use Rattle.never_heap.specs.Histories.{replay}
 use Rattle.heap_invariant.specs.graph_relation.Layouts.{kind_shape}
-use Rattle.heap_invariant.specs.graph_relation.Shown.{IsValueOf, heads}
+use Rattle.heap_invariant.specs.graph_relation.GraphOfWords.{IsValueOf, heads}
 use Rattle.heap_invariant.specs.graph_relation.Words.{block_words, value_word}
-use Rattle.heap_invariant.proofs.graph_relation.ObjectLayouts.{object_layout}
-use Rattle.heap_invariant.proofs.graph_relation.WordReads.{owner_read}
+use Rattle.heap_invariant.proofs.Lemmas.{object_layout, owner_read}
 use Rattle.barrier_steps.specs.Rows.{object_in, object_or_nil, shape_in}
 use Rattle.barrier_steps.specs.Walks.{shape_length}
 use Rattle.heap_system.specs.Machines.{Run}

@@ -15,8 +15,7 @@ use Rattle.block_store.specs.declared.Config.{Config}
 use Rattle.heap_system.specs.Machines.{Run}
 use Rattle.heap_system.specs.Lives.{objects_of}
 use Rattle.heap_system.specs.Parts.{Rest}
-use Rattle.heap_system.proofs.Runs.{ran_on}
-use Rattle.heap_system.proofs.TurnFacts.{rest_is}
+use Rattle.heap_system.proofs.Lemmas.{ran_on, rest_is}
 use Rattle.control_heap.specs.Controls.{HasLeft, HasMade, ControlOf, Machine, Served, HasAnswered, HasBegun, Stands, GoesOn, moved, moved_times, given_to}
 use Rattle.control_heap.proofs.HeapAsRun.{IsSafe}
 use Rattle.control_heap.proofs.CommandBound.{config_is, rests, has_answered, events_few, events_near, never_long, stays_safe}
@@ -92,7 +91,7 @@ module _ {M : Type 0} (may : M → Unit {0} → Op → Type 0) (acts : Acts M (U
       let has = keeps x (op_wanted t) w y acted in
       moves_on m n (machine shows x t) at (op_wanted t) refl w has.0 (shows y) has.1 (local_got t w) refl
 
-  -- any number of events may come behind these
+  -- any number of events may come after these
   pub may_run : (k n : ℕ) (x : M) (t : LocalState) → machine shows x t ≡ moved_times n m
       → GoesOn n m → MayRun may acts k x tt t
   may_run zero n x t at goes = tt
@@ -170,7 +169,7 @@ module _ {M : Type 0} (may : M → Unit {0} → Op → Type 0) (acts : Acts M (U
   pub may_begin : MayRun may acts longest first tt l
   may_begin = may_run longest 0 first l refl (λ i low. absurd (omega (arith, low)))
 
--- the heap behind a command
+-- the heap after a command
 abbrev pub behind_it : {M : Type 0} → ControlOf M → Command → Machine → M → ControlOf M
 behind_it h k z m = record { config = h.config; memory = m; words = z.words; thread = z.thread; count = h.count + 1; objects = h.objects + objects_of k }
 

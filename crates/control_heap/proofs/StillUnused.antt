@@ -8,8 +8,7 @@ use Rattle.heap_system.specs.Lives.{objects_of, sum_after}
 use Rattle.heap_system.specs.Locals.{LocalState, command_of, entries_of, is_rest, works}
 use Rattle.heap_system.specs.Machines.{Run, local_in}
 use Rattle.heap_system.specs.Pictures.{waiting}
-use Rattle.heap_system.proofs.Kept.{Kept}
-use Rattle.heap_system.proofs.TurnFacts.{rest_is}
+use Rattle.heap_system.proofs.Lemmas.{Kept, rest_is}
 use Rattle.control_heap.specs.Controls.{ControlOf, Stands, asked}
 use Rattle.control_heap.specs.Unused.{IsUnused}
 use Rattle.control_heap.proofs.HeapAsRun.{kept_of, low}

@@ -1,4 +1,4 @@
--- Behind two cycles that began with few live blocks nothing is answered full.
+-- After two cycles that began with few live blocks nothing is answered full.
 use Rattle.std.proofs.Common.{◌≡◌, ℕ, zero, suc, ◌+◌, ◌-◌, ◌*◌, ◌<◌, ◌≤◌, max, true, false, List, [], ◌∷◌, ◌++◌, append_assoc, append-nil, map, refl, sym, ap, ◌∙◌, subst, arith}
 use Rattle.block_store.specs.declared.Config.{Config}
 use Rattle.rate_plan.specs.Rates.{IsRate}
@@ -11,18 +11,13 @@ use Rattle.never_heap.specs.Cycles.{graph_at}
 use Rattle.never_heap.specs.Histories.{HistoryItem, Started, Did, is_full, starts_in}
 use Rattle.never_heap.specs.Licensed.{IsLicensedReply, LicensedFrom, Licensed, NoFulls}
 use Rattle.never_heap.specs.LiveBlocks.{live_blocks}
-use Rattle.never_heap.proofs.CycleGrowth.{graph_at_more}
-use Rattle.never_heap.proofs.HistoryGrowth.{starts_append}
+use Rattle.never_heap.proofs.Lemmas.{graph_at_more, starts_append}
 use Rattle.heap_system.specs.Costs.{units_so_far}
 use Rattle.heap_system.specs.Locals.{is_done}
 use Rattle.heap_system.specs.Machines.{Run, local_in, no_local}
 use Rattle.heap_system.specs.Systems.{AllDone as AllThreadsDone}
-use Rattle.heap_system.proofs.Kept.{Kept}
-use Rattle.heap_system.proofs.LawsOf.{laws_of}
-use Rattle.heap_system.proofs.RunBounds.{all_done, licensed}
-use Rattle.heap_system.proofs.RunTally.{RunTallied, run_tallied}
-use Rattle.heap_system.proofs.TalliesOf.{tallies_of}
-use Rattle.heap_system.proofs.SystemStart.{one_log}
+use Rattle.heap_system.proofs.Lemmas.{Kept, RunTallied, laws_of, licensed, one_log, run_tallied, tallies_of}
+use Rattle.heap_system.proofs.accounting.RunBounds.{all_done}
 use Rattle.control_heap.specs.Controls.{ControlOf, Stands, Answers, HasLeft, entries_in, units}
 use Rattle.control_heap.specs.WayBack.{AllDone, AreOf, HasWayBack, NoneFull, StartsSmallFrom}
 use Rattle.control_heap.proofs.HeapAsRun.{kept_of}

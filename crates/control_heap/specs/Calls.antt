@@ -114,9 +114,9 @@ IsOutcome says done refused k (Err f) = IsFaultOf done refused k f
 abbrev pub WasRefused : {M : Type 0} → ControlOf M → Command → ControlOf M → Refused → Type 0
 WasRefused old k new r = IsRefused old k r × (new ≡ old)
 
-abbrev pub HasTold : {M T : Type 0} → (T → Reply) → Acts M (Unit {0}) → ControlOf M → Command
+abbrev pub HasReturned : {M T : Type 0} → (T → Reply) → Acts M (Unit {0}) → ControlOf M → Command
     → ControlOf M → Result T Fault → Type 0
-HasTold says acts old k new =
+HasReturned says acts old k new =
     IsOutcome says (λ a. HasAsked acts old k a new) (WasRefused old k new) k
 
 -- the replies that carry no value, and yes or no

@@ -1,4 +1,4 @@
--- A heap of one thread that is asked one command at a time: the runs for which it stands, and how
+-- A heap of one thread that is asked one command at a time: the runs that it represents, and how
 -- it answers a command.
 use Rattle.std.specs.Prelude.{ℕ, zero, suc, ◌+◌, ◌<◌, ◌≤◌, ◌≡◌, ◌++◌, true, false, List, [], ◌∷◌, length, map, slice_index}
 use Rattle.block_store.specs.declared.Config.{Config}
@@ -65,7 +65,7 @@ pub record IsByEvents (c : Config) (r : Run) : Type 0 where
   pub after : IsAfterTurns c r
   pub events : AllGo c (opened c after.by_turns.first) after.turns
 
--- The heap stands for a run of one thread: its words are those of the run, and its thread is that
+-- The heap represents a run of one thread: its words are those of the run, and its thread is that
 -- of the run except for the trace and the log, of which the heap keeps the length and the sums. The
 -- thread has done all its commands, no thread is in a pass, and the gate is open.
 pub record Stands {M : Type 0} (h : ControlOf M) (r : Run) : Type 0 where
@@ -103,7 +103,7 @@ pub record Answers (c : Config) (k : Command) (a : Reply) (r z : Run) : Type 0 w
   pub command : entry.command ≡ k
   pub reply : entry.reply ≡ a
 
--- whichever run the heap stood for, after the command it stands for such a run
+-- whichever run the heap represented, after the command it represents such a run
 abbrev pub HasAnswered : {M : Type 0} → ControlOf M → Command → Reply → ControlOf M → Type 0
 HasAnswered old k reply new =
     (r : Run) → Stands old r → (z : Run) × Stands new z × Answers old.config k reply r z
@@ -128,7 +128,7 @@ AllAnswered {M} h (k ∷ ks) (a ∷ ys) z =
     (n : ControlOf M) × (n.config ≡ h.config) × HasAnswered h k a n × AllAnswered n ks ys z
 AllAnswered h _ _ z = ⊥
 
--- the heap stands for a run whose history is that of r followed by these commands and replies
+-- the heap represents a run whose history is that of r followed by these commands and replies
 pub record HasHistory {M : Type 0} (z : ControlOf M) (ks : List Command) (ys : List Reply)
     (r : Run) : Type 0 where
   pub run : Run

@@ -14,7 +14,7 @@ pub record Image : Type 0 where
 abbrev pub image_of : Control → Image
 image_of h = record { config = h.config; words = h.words }
 
--- A heap with these words stands for the run. What such a heap shows, the image shows.
+-- A heap with these words represents the run. What such a heap shows, the image shows.
 pub record HasRun (i : Image) (r : Run) : Type 0 where
   pub heap : Control
   pub same : image_of heap ≡ i

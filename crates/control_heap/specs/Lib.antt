@@ -5,6 +5,7 @@ pub mod Gauges
 pub mod Growth
 pub mod Images
 pub mod Readings
+pub mod Peeks
 pub mod Refusals
 pub mod WayBack
 pub mod Seen

@@ -2,7 +2,7 @@
 use Rattle.std.specs.Prelude.{ℕ, ◌≡◌, ◌≢◌, List, codes}
 use Rattle.block_store.specs.declared.Config.{Config}
 use Rattle.block_store.specs.Configs.{IsInBounds}
-use Rattle.block_store.specs.Texts.{out_of_memory_text}
+use Rattle.block_store.specs.ErrorTexts.{out_of_memory_text}
 use Rattle.rate_plan.specs.Rates.{IsRefusal, plan_fault_text}
 use Rattle.rate_plan.specs.declared.PlanFault.TheVariants as plans
 use Rattle.never_heap.specs.declared.Command.{Command}

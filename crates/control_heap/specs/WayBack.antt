@@ -35,10 +35,10 @@ pub record AreOf (ks : List Command) (ys : List Reply) (items : List HistoryItem
   pub commands : map (λ (e : Entry). e.command) (entries_in items) ≡ ks
   pub replies : map (λ (e : Entry). e.reply) (entries_in items) ≡ ys
 
--- A heap h that stood for run r did the commands `ks` and was then y, and did the commands `others`
--- and is then z: one history, which begins with that of r. Heap y stands for a run of order
--- `r.order ++ items` (`middle`), so each cycle start among `items` comes before the others. The
--- first commands made at most 2m units for each start among `items`, and 2m more, m being the
+-- A heap h that represented run r did the commands `ks` and was then y, and did the commands
+-- `others` and is then z: one history, which begins with that of r. Heap y represents a run of
+-- order `r.order ++ items` (`middle`), so each cycle start among `items` comes before the others.
+-- The first commands made at most 2m units for each start among `items`, and 2m more, m being the
 -- blocks of the heap (`pace`). Where two cycles began there (`two_cycles`), or the first commands
 -- made more than 4m units (`back`), and each cycle that began after r began with at most L live
 -- blocks, none of the others was answered full.

@@ -1,2 +1,2 @@
-pub mod Shown
-pub mod Asked
+pub mod ShownGraph
+pub mod RunsOfCommands

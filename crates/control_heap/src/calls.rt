@@ -4,7 +4,7 @@
 ghost use Rattle.std.specs.Prelude.{◌≡◌, IfOk};
 ghost use Rattle.never_heap.specs.declared.Command.TheVariants as commands;
 ghost use Rattle.never_heap.specs.declared.Reply.TheVariants as replies;
-ghost use Rattle.control_heap.specs.Calls.{HasTold, Says, idled, stored, tested};
+ghost use Rattle.control_heap.specs.Calls.{HasReturned, Says, idled, stored, tested};
 
 use crate::outcomes::{idle_in, length_in, name_in, outcome_of, stored_in, test_in, value_in};
 use crate::{ControlHeap, Fault, Store};
@@ -16,7 +16,7 @@ impl<M: Store> ControlHeap<M> {
     #[inline(always)]
     fn call(&mut self, command: Command) -> Result<Reply, Fault>
         ensures config { self.new.config ≡ self.old.config }
-        ensures told { HasTold (λ a. a) M.acts self.old command self.new result }
+        ensures returned { HasReturned (λ a. a) M.acts self.old command self.new result }
         ensures says { IfOk result (Says command) }
     {
         outcome_of(self.ask(command))
@@ -29,7 +29,7 @@ impl<M: Store> ControlHeap<M> {
     /// `Full` where too few blocks are free; `OutOfBounds` and `NoLifeLeft` as for `ask`.
     pub fn record(&mut self, d: u8, fields: u32) -> Result<Name, Fault>
         ensures config { self.new.config ≡ self.old.config }
-        ensures told { HasTold replies.New M.acts self.old (commands.New d fields) self.new result }
+        ensures returned { HasReturned replies.New M.acts self.old (commands.New d fields) self.new result }
     {
         let reply = self.call(Command::New { d, fields })?;
         Ok(name_in(reply))
@@ -42,7 +42,7 @@ impl<M: Store> ControlHeap<M> {
     /// `Full` where too few blocks are free; `OutOfBounds` and `NoLifeLeft` as for `ask`.
     pub fn array(&mut self, d: u8, elements: u32) -> Result<Name, Fault>
         ensures config { self.new.config ≡ self.old.config }
-        ensures told { HasTold replies.New M.acts self.old (commands.Arr d elements) self.new
+        ensures returned { HasReturned replies.New M.acts self.old (commands.Arr d elements) self.new
             result }
     {
         let reply = self.call(Command::Arr { d, elements })?;
@@ -57,7 +57,7 @@ impl<M: Store> ControlHeap<M> {
     /// has no field `i`; `OutOfBounds` and `NoLifeLeft` as for `ask`.
     pub fn get(&mut self, d: u8, s: u8, i: u64) -> Result<Value, Fault>
         ensures config { self.new.config ≡ self.old.config }
-        ensures told { HasTold replies.Val M.acts self.old (commands.Get d s i) self.new result }
+        ensures returned { HasReturned replies.Val M.acts self.old (commands.Get d s i) self.new result }
     {
         let reply = self.call(Command::Get { d, s, i })?;
         Ok(value_in(reply))
@@ -71,7 +71,7 @@ impl<M: Store> ControlHeap<M> {
     /// has no field `i`; `OutOfBounds` and `NoLifeLeft` as for `ask`.
     pub fn put(&mut self, s: u8, i: u64, v: u8) -> Result<(), Fault>
         ensures config { self.new.config ≡ self.old.config }
-        ensures told { HasTold stored M.acts self.old (commands.Put s i v) self.new result }
+        ensures returned { HasReturned stored M.acts self.old (commands.Put s i v) self.new result }
     {
         let reply = self.call(Command::Put { s, i, v })?;
         stored_in(reply);
@@ -87,7 +87,7 @@ impl<M: Store> ControlHeap<M> {
     /// has no field `i`; `OutOfBounds` and `NoLifeLeft` as for `ask`.
     pub fn swap(&mut self, s: u8, i: u64, v: u8) -> Result<Value, Fault>
         ensures config { self.new.config ≡ self.old.config }
-        ensures told { HasTold replies.Val M.acts self.old (commands.Swap s i v) self.new result }
+        ensures returned { HasReturned replies.Val M.acts self.old (commands.Swap s i v) self.new result }
     {
         let reply = self.call(Command::Swap { s, i, v })?;
         Ok(value_in(reply))
@@ -103,7 +103,7 @@ impl<M: Store> ControlHeap<M> {
     /// has no field `i`; `OutOfBounds` and `NoLifeLeft` as for `ask`.
     pub fn cas(&mut self, s: u8, i: u64, a: u8, v: u8) -> Result<bool, Fault>
         ensures config { self.new.config ≡ self.old.config }
-        ensures told { HasTold tested M.acts self.old (commands.Cas s i a v) self.new result }
+        ensures returned { HasReturned tested M.acts self.old (commands.Cas s i a v) self.new result }
     {
         let reply = self.call(Command::Cas { s, i, a, v })?;
         Ok(test_in(reply))
@@ -116,7 +116,7 @@ impl<M: Store> ControlHeap<M> {
     /// `OutOfBounds` and `NoLifeLeft` as for `ask`.
     pub fn set(&mut self, d: u8, value: u64) -> Result<(), Fault>
         ensures config { self.new.config ≡ self.old.config }
-        ensures told { HasTold stored M.acts self.old (commands.Set d value) self.new result }
+        ensures returned { HasReturned stored M.acts self.old (commands.Set d value) self.new result }
     {
         let reply = self.call(Command::Set { d, value })?;
         stored_in(reply);
@@ -130,7 +130,7 @@ impl<M: Store> ControlHeap<M> {
     /// `OutOfBounds` and `NoLifeLeft` as for `ask`.
     pub fn nil(&mut self, d: u8) -> Result<(), Fault>
         ensures config { self.new.config ≡ self.old.config }
-        ensures told { HasTold stored M.acts self.old (commands.Nil d) self.new result }
+        ensures returned { HasReturned stored M.acts self.old (commands.Nil d) self.new result }
     {
         let reply = self.call(Command::Nil { d })?;
         stored_in(reply);
@@ -144,7 +144,7 @@ impl<M: Store> ControlHeap<M> {
     /// `OutOfBounds` and `NoLifeLeft` as for `ask`.
     pub fn mov(&mut self, d: u8, s: u8) -> Result<(), Fault>
         ensures config { self.new.config ≡ self.old.config }
-        ensures told { HasTold stored M.acts self.old (commands.Mov d s) self.new result }
+        ensures returned { HasReturned stored M.acts self.old (commands.Mov d s) self.new result }
     {
         let reply = self.call(Command::Mov { d, s })?;
         stored_in(reply);
@@ -159,7 +159,7 @@ impl<M: Store> ControlHeap<M> {
     /// `NoLifeLeft` as for `ask`.
     pub fn len(&mut self, s: u8) -> Result<u64, Fault>
         ensures config { self.new.config ≡ self.old.config }
-        ensures told { HasTold replies.Len M.acts self.old (commands.Len s) self.new result }
+        ensures returned { HasReturned replies.Len M.acts self.old (commands.Len s) self.new result }
     {
         let reply = self.call(Command::Len { s })?;
         Ok(length_in(reply))
@@ -172,7 +172,7 @@ impl<M: Store> ControlHeap<M> {
     /// `OutOfBounds` and `NoLifeLeft` as for `ask`.
     pub fn same(&mut self, a: u8, b: u8) -> Result<bool, Fault>
         ensures config { self.new.config ≡ self.old.config }
-        ensures told { HasTold tested M.acts self.old (commands.Same a b) self.new result }
+        ensures returned { HasReturned tested M.acts self.old (commands.Same a b) self.new result }
     {
         let reply = self.call(Command::Same { a, b })?;
         Ok(test_in(reply))
@@ -185,7 +185,7 @@ impl<M: Store> ControlHeap<M> {
     /// `OutOfBounds` and `NoLifeLeft` as for `ask`.
     pub fn say(&mut self, s: u8) -> Result<Value, Fault>
         ensures config { self.new.config ≡ self.old.config }
-        ensures told { HasTold replies.Val M.acts self.old (commands.Say s) self.new result }
+        ensures returned { HasReturned replies.Val M.acts self.old (commands.Say s) self.new result }
     {
         let reply = self.call(Command::Say { s })?;
         Ok(value_in(reply))
@@ -198,7 +198,7 @@ impl<M: Store> ControlHeap<M> {
     /// `OutOfBounds` and `NoLifeLeft` as for `ask`.
     pub fn idle(&mut self, units: u64) -> Result<(), Fault>
         ensures config { self.new.config ≡ self.old.config }
-        ensures told { HasTold idled M.acts self.old (commands.Idle units) self.new result }
+        ensures returned { HasReturned idled M.acts self.old (commands.Idle units) self.new result }
     {
         let reply = self.call(Command::Idle { units })?;
         idle_in(reply);

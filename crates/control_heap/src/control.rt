@@ -23,6 +23,7 @@ ghost use Rattle.control_heap.specs.Gauges.{live_or_made, most_operations};
 ghost use Rattle.control_heap.specs.Refusals.{IsOpenFault, IsRefused};
 ghost use Rattle.control_heap.specs.Unused.{IsUnused};
 
+mod peeks;
 mod reads;
 mod seen;
 mod shown;
@@ -284,7 +285,7 @@ fn opened(alloc: Global, c: Config) -> Result<ControlHeap, OutOfMemory>
 }
 
 impl ControlHeap {
-    /// Opens a heap on plain words. It stands for a run in which no command is done yet. No later
+    /// Opens a heap on plain words. It represents a run in which no command is done yet. No later
     /// call allocates memory, which no clause states.
     ///
     /// # Errors
@@ -435,7 +436,7 @@ impl<M: Store> ControlHeap<M> {
     }
 
     /// Does a command and returns its reply. The command is in bounds, and the life has room for
-    /// it. Whichever run the heap stood for, it then stands for that run followed by this command
+    /// it. Whichever run the heap represented, it then represents that run followed by this command
     /// with this reply. The operations that the command takes lead from the memory before to that
     /// after.
     #[inline(always)]

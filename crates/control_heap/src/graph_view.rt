@@ -11,9 +11,9 @@ ghost use Rattle.heap_system.specs.Machines.{Run};
 ghost use Rattle.control_heap.specs.declared.control.Refused.{Refused};
 ghost use Rattle.control_heap.specs.Controls.{Control, Stands, CanOpen, HasAnswered, asked, units};
 ghost use Rattle.control_heap.specs.Refusals.{IsOpenFault, IsRefused};
-ghost use Rattle.control_heap.specs.graph_view.Asked.{HasDone, HasDoneAll, HasReplied, RefusesOne, HasRoomFor, HasUsed};
+ghost use Rattle.control_heap.specs.graph_view.RunsOfCommands.{HasDone, HasDoneAll, HasReplied, RefusesOne, HasRoomFor, HasUsed};
 ghost use Rattle.control_heap.specs.WayBack.{AllDone};
-ghost use Rattle.control_heap.specs.graph_view.Shown.{Shows, HasMetNoFull, Leaves, Goes, IsSmall, StaySmall, Follows, AllFollow, AllAreSmall, AllStaySmall, graph_at_last};
+ghost use Rattle.control_heap.specs.graph_view.ShownGraph.{Shows, HasMetNoFull, Leaves, Goes, IsSmall, StaySmall, Follows, AllFollow, AllAreSmall, AllStaySmall, graph_at_last};
 
 use crate::{ControlHeap, OpenFault, Refused, histories_are_right};
 use block_store::Config;
@@ -101,7 +101,7 @@ pub fn shown_heaps_met_no_full()
     histories_are_right();
 }
 
-/// A heap that stands for a run shows the graph that this run leaves and has met no `Full`, if at
+/// A heap that represents a run shows the graph that this run leaves and has met no `Full`, if at
 /// no moment of the run more blocks were live than the limit.
 pub fn small_histories_are_shown()
     ensures { (h : Control) (g : Graph) (r : Run) → Stands h r → replay h.config r.order ≡ g

@@ -1,4 +1,4 @@
-//! Laws about the runs for which a heap stands. Each is the contract of a function that does
+//! Laws about the runs that a heap represents. Each is the contract of a function that does
 //! nothing.
 
 ghost use Rattle.std.specs.Prelude.{◌≡◌, ◌≤◌, ℕ, List};
@@ -16,7 +16,7 @@ ghost use Rattle.control_heap.specs.Controls.{Control, Stands, AllAnswered, HasH
 ghost use Rattle.control_heap.specs.Gauges.{most_operations};
 ghost use Rattle.control_heap.specs.WayBack.{AllDone, HasWayBack};
 
-/// Of each run for which a heap stands: its order is a legal history of the heap that never frees
+/// Of each run that a heap represents: its order is a legal history of the heap that never frees
 /// (`legal`). Each entry has the work that its command owes (`right`), and the works add up to the
 /// units that the heap has counted (`units`). Each `Full` is licensed (`licensed`): so where every
 /// cycle began with at most as many live blocks as the limit, no command was answered `Full`

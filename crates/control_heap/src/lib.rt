@@ -9,6 +9,7 @@ mod gauges;
 pub mod graph_view;
 mod laws;
 pub mod outcomes;
+mod paths;
 mod readings;
 mod store;
 

@@ -1,25 +1,29 @@
 //! What is read of objects from the words of a heap, without a command.
 
-ghost use Rattle.std.specs.Prelude.{◌≡◌, ◌<◌, ◌≤◌, IfOk, length};
+ghost use Rattle.std.specs.Prelude.{ℕ, ◌≡◌, ◌<◌, ◌≤◌, ◌/◌, ◌%◌, ◌^◌, IfOk, length};
 ghost use Rattle.block_store.specs.Configs.{IsInBounds};
 ghost use Rattle.block_store.specs.Heaps.{heap_of};
 ghost use Rattle.block_store.specs.Places.{OwnerOf, PayloadOf, ShapeOf, extent, words_count};
 ghost use Rattle.block_store.specs.Registers.{register_block, register_slot};
 ghost use Rattle.block_store.specs.declared.TheConstants.{REGISTERS};
 ghost use Rattle.block_store.specs.Shapes.{IsShape};
+ghost use Rattle.block_store.specs.Widths.{payloads};
+ghost use Rattle.block_store.specs.declared.Shape.TheVariants as shapes;
 ghost use Rattle.barrier_steps.specs.Rows.{object_in, shape_in};
-ghost use Rattle.barrier_steps.specs.Walks.{field_at, link_at, links_to, shape_length};
+ghost use Rattle.barrier_steps.specs.Walks.{shape_length};
 ghost use Rattle.control_heap.specs.Readings.{block_read, field_read, fields_read, value_read};
 
-use array_trees::{depth_of, path_of};
+use array_trees::depth_of;
 use block_store::{
-    Config, Name, OutOfMemory, Payload, Places, Shape, Value, read_payload, read_shape, read_wide,
+    Config, Name, OutOfMemory, Payload, Places, Shape, Value, Width, read_payload, read_shape,
+    read_wide,
 };
 use heap_machine::Words;
 use object_lists::walk_of;
 use std::alloc::Global;
 
 /// Payload `j` of block `x`, or 0 where the heap has none.
+#[inline(always)]
 pub fn payload_at(c: &Config, words: &Words, x: u32, j: u32) -> u64
     requires bounds { IsInBounds c.now }
     requires there { length words.now ≡ words_count (extent c.now) }
@@ -32,6 +36,7 @@ pub fn payload_at(c: &Config, words: &Words, x: u32, j: u32) -> u64
 }
 
 // The owner word of block `x`, or 0 where the heap has none.
+#[inline(always)]
 fn owner_at(c: &Config, words: &Words, x: u32) -> u64
     requires bounds { IsInBounds c.now }
     requires there { length words.now ≡ words_count (extent c.now) }
@@ -44,6 +49,7 @@ fn owner_at(c: &Config, words: &Words, x: u32) -> u64
 }
 
 // The shape word of block `x`, or 0 where the heap has none.
+#[inline(always)]
 fn shape_word_at(c: &Config, words: &Words, x: u32) -> u64
     requires bounds { IsInBounds c.now }
     requires there { length words.now ≡ words_count (extent c.now) }
@@ -56,6 +62,7 @@ fn shape_word_at(c: &Config, words: &Words, x: u32) -> u64
 }
 
 /// What the object of block `x` is, a record or an array, and its length.
+#[inline(always)]
 pub fn shape_at(c: &Config, words: &Words, x: u32) -> Shape
     requires bounds { IsInBounds c.now }
     requires there { length words.now ≡ words_count (extent c.now) }
@@ -69,6 +76,7 @@ pub fn shape_at(c: &Config, words: &Words, x: u32) -> Shape
 }
 
 // The name in an owner word, as a reference; nil where there is none.
+#[inline(always)]
 fn named(owner: u64) -> Value
     ensures { result ≡ object_in owner }
 {
@@ -82,6 +90,7 @@ fn named(owner: u64) -> Value
 }
 
 /// The name of the object of block `x`, as a reference; nil where it has none.
+#[inline(always)]
 pub fn name_at(c: &Config, words: &Words, x: u32) -> Value
     requires bounds { IsInBounds c.now }
     requires there { length words.now ≡ words_count (extent c.now) }
@@ -91,6 +100,7 @@ pub fn name_at(c: &Config, words: &Words, x: u32) -> Value
 }
 
 /// The value of a payload word: nil, a number, or the name that the owner word of its block has.
+#[inline(always)]
 pub fn value_of(c: &Config, words: &Words, word: u64) -> Value
     requires bounds { IsInBounds c.now }
     requires there { length words.now ≡ words_count (extent c.now) }
@@ -104,6 +114,7 @@ pub fn value_of(c: &Config, words: &Words, word: u64) -> Value
 }
 
 /// The word of register `r` of the first thread.
+#[inline(always)]
 pub fn register_word(c: &Config, words: &Words, r: u8) -> u64
     requires bounds { IsInBounds c.now }
     requires there { length words.now ≡ words_count (extent c.now) }
@@ -116,6 +127,7 @@ pub fn register_word(c: &Config, words: &Words, r: u8) -> u64
 }
 
 /// The block to which a payload word refers, or 0.
+#[inline(always)]
 pub fn block_in(word: u64) -> u32
     ensures { result ≡ block_read word }
 {
@@ -126,6 +138,7 @@ pub fn block_in(word: u64) -> u32
 }
 
 /// How many fields or elements an object of this shape has.
+#[inline(always)]
 pub fn length_of(shape: Shape) -> u32
     ensures { result ≡ shape_length shape }
 {
@@ -135,43 +148,55 @@ pub fn length_of(shape: Shape) -> u32
     }
 }
 
-// How many links lead to field `i`.
-fn links_to(c: &Config, shape: Shape, i: u32) -> u32
-    requires { IsShape shape }
-    ensures { result ≡ links_to (extent c.now) shape i }
+// The payload that leads on to element `i` from a block so many levels above the leaves. The
+// widths are powers of two.
+#[inline(always)]
+#[tactic(auto, using(crate::proofs::ElementWords::four_turn, crate::proofs::ElementWords::eight_turn))]
+fn turn(width: Width, i: u32, height: u32) -> u32
+    requires { height ≤ 7 }
+    ensures { result ≡ i / payloads width ^ height % payloads width }
 {
-    match shape {
-        Shape::List(_) => walk_of(c.width, i).0,
-        Shape::Tree(elements) => depth_of(c.width, elements),
+    match width {
+        Width::Four => (i >> (2 * height)) % 4,
+        Width::Eight => (i >> (3 * height)) % 8,
     }
 }
 
-// The payload of the link that leads on to field `i`.
-fn link_at(c: &Config, shape: Shape, i: u32, level: u32) -> u32
-    requires shape { IsShape shape }
-    requires index { i < shape_length shape }
-    requires level { level ≤ links_to (extent c.now) shape i }
-    ensures { result ≡ link_at (extent c.now) shape i level }
+// The word of field `i` of a record, of whatever length.
+#[inline(always)]
+fn record_word(c: &Config, words: &Words, x: u32, i: u32) -> u64
+    requires bounds { IsInBounds c.now }
+    requires there { length words.now ≡ words_count (extent c.now) }
+    ensures { (f : ℕ) → result
+        ≡ field_read (extent c.now) (heap_of (extent c.now) words.now) (shapes.List f) i x }
 {
-    match shape {
-        Shape::List(_) => 0,
-        Shape::Tree(elements) => path_of(c.width, elements, i, level),
+    let (links, slot) = walk_of(c.width, i);
+    let mut block = x;
+    for _link in 0..links {
+        block = block_in(payload_at(c, words, block, 0));
     }
+    payload_at(c, words, block, slot)
 }
 
-// The payload of field `i` in its block.
-fn field_at(c: &Config, shape: Shape, i: u32) -> u32
-    requires shape { IsShape shape }
-    requires index { i < shape_length shape }
-    ensures { result ≡ field_at (extent c.now) shape i }
+// The word of element `i` of an array.
+#[inline(always)]
+fn element_word(c: &Config, words: &Words, x: u32, elements: u32, i: u32) -> u64
+    requires bounds { IsInBounds c.now }
+    requires there { length words.now ≡ words_count (extent c.now) }
+    requires few { elements ≤ 65535 }
+    ensures { result
+        ≡ field_read (extent c.now) (heap_of (extent c.now) words.now) (shapes.Tree elements) i x }
 {
-    match shape {
-        Shape::List(_) => walk_of(c.width, i).1,
-        Shape::Tree(elements) => { path_of(c.width, elements, i, depth_of(c.width, elements)) }
+    let depth = depth_of(c.width, elements);
+    let mut block = x;
+    for level in 0..depth {
+        block = block_in(payload_at(c, words, block, turn(c.width, i, depth - level)));
     }
+    payload_at(c, words, block, turn(c.width, i, 0))
 }
 
 /// The word of field `i` of the object whose first block is `x`, which has this shape.
+#[inline(always)]
 pub fn field_word(c: &Config, words: &Words, x: u32, shape: Shape, i: u32) -> u64
     requires bounds { IsInBounds c.now }
     requires there { length words.now ≡ words_count (extent c.now) }
@@ -179,11 +204,10 @@ pub fn field_word(c: &Config, words: &Words, x: u32, shape: Shape, i: u32) -> u6
     requires index { i < shape_length shape }
     ensures { result ≡ field_read (extent c.now) (heap_of (extent c.now) words.now) shape i x }
 {
-    let mut block = x;
-    for level in 0..links_to(c, shape, i) {
-        block = block_in(payload_at(c, words, block, link_at(c, shape, i, level)));
+    match shape {
+        Shape::List(_) => record_word(c, words, x, i),
+        Shape::Tree(elements) => element_word(c, words, x, elements, i),
     }
-    payload_at(c, words, block, field_at(c, shape, i))
 }
 
 /// The values of all fields of the object whose first block is `x`.

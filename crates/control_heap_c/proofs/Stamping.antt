@@ -3,7 +3,7 @@ use Rattle.std.proofs.Common.{◌≡◌, ℕ, ◌≤◌, Bool, true, false, refl
 use Rattle.std.specs.Prelude.{Option, Some, None, Result, Ok, Err}
 use Rattle.shared_heap.specs.Stamps.{HasDrawn}
 use Rattle.shared_heap.specs.Workers.{WorkerState}
-use Rattle.shared_heap.proofs.Stamps.{stamps_in_order}
+use Rattle.shared_heap.proofs.Lemmas.{stamps_in_order}
 use Rattle.control_heap_c.specs.Shared.{worker_at}
 use Rattle.control_heap_c.specs.Stamps.{BecameFollowed, BecameStamped, HasCaughtUp, Stamped, follow_status, stamp_status, stamp_told}
 use Rattle.control_heap_c.specs.declared.owned.Owned.{Owned}

@@ -24,7 +24,7 @@ abbrev pub IsOfGroup : Option Owned → Option Owned → Type 0
 IsOfGroup g h = (s : HeapState) (w : WorkerState) → home_in g ≡ Some s → worker_at h ≡ Some w
     → w.heap ≡ s.id
 
--- the group has this worker behind those that it had
+-- the group has this worker after those that it had
 pub record HasTaken (old : Option Owned) (w : WorkerState) (new : Option Owned) : Type 0 where
   pub workers : List WorkerState
   pub before : workers_in old ≡ Some workers

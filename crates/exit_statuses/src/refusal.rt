@@ -18,7 +18,7 @@ pub enum Refusal {
     Usage,
     /// This line of a job, counted from 1, is the first outside the grammar.
     BadLine { line: u64, why: Why },
-    /// This line of a script, counted from 1, is the first that cannot stand at its place.
+    /// This line of a script, counted from 1, is the first that may not come at its place.
     BadScriptLine { line: u64 },
     /// The input has too many bytes, or its job has.
     TooLong,

@@ -4,19 +4,20 @@ use Rattle.std.proofs.Common.{◌≡◌, ℕ, ◌<◌, ◌+◌, true, false, eqb
 use Rattle.std.proofs.lemmas.Bool.{cases_eq, cases_Bool, lt-ltb}
 use Rattle.block_store.specs.declared.Config.{Config}
 use Rattle.block_store.specs.Colours.{is_grey, white_word, black_word}
-use Rattle.block_store.proofs.ColourWords.{not_grey_white, not_grey_black}
+use Rattle.block_store.proofs.Lemmas.{not_grey_black, not_grey_white}
 use Rattle.block_store.specs.Heaps.{Heap, put_at}
 use Rattle.block_store.specs.Payloads.{target}
 use Rattle.block_store.specs.Widths.{payloads}
 use Rattle.block_store.specs.Places.{extent, GreyList, ColourOf, PayloadOf}
 use Rattle.block_store.specs.Counts.{changed}
-use Rattle.heap_machine.specs.Grey.{GreyHolding, no_grey, GreyKept}
-use Rattle.heap_machine.specs.Holdings.{grey_held}
+use Rattle.heap_machine.specs.Grey.{GreyInHand, no_grey, GreyKept}
+use Rattle.heap_machine.specs.WorkInHand.{grey_held}
 use Rattle.heap_machine.specs.Operations.{place_of, heap_after}
-use Rattle.heap_machine.proofs.GreyEvents.{own_empty, stays, lets_go, takes, puts, pops, shades, blackens}
+use Rattle.heap_machine.proofs.Lemmas.{blackens, own_empty, pops, puts, shades, stays, takes}
+use Rattle.heap_machine.proofs.GreyEvents.{lets_go}
 use Rattle.grey_steps.specs.declared.rows.GreyRow.{GreyRow}
 use Rattle.grey_steps.specs.declared.rows.GreyRow.TheVariants.{Take, Pop, ScanWord, Shade, Blacken, Put, Scanned, NothingGrey, TakeOwn, ShadeStored, PutOwn, Shaded}
-use Rattle.grey_steps.specs.Rows.{GreyState, list_of, row_want, row_got, after_word, after_take, after_scan, after_black, after_stored, shaded_hand, grey_want, grey_got, grey_holding, holding_at}
+use Rattle.grey_steps.specs.Rows.{GreyState, list_of, row_want, row_got, after_word, after_take, after_scan, after_black, after_stored, shaded_list, grey_want, grey_got, grey_in_hand, marking_in_hand}
 use Rattle.grey_steps.specs.Fits.{RowFits, GreyFits}
 
 pub own_first : (t n : ℕ) → t < n → list_of t n 0 ≡ t
@@ -31,29 +32,29 @@ list_low t n u low = mod-lt (t + u) (omega arith)
 pub low_thread : (c : Config) (s : GreyState) → GreyFits c s → s.pass.thread < c.threads
 low_thread c s f = subst (λ n. s.pass.thread < n) f.threads f.thread
 
--- a thread that scans x with this hand
-abbrev scans : ℕ → ℕ → GreyHolding
-scans x a = record { hand = a; scan = Some x; emptied = true }
+-- a thread that scans x with this private list
+abbrev scans : ℕ → ℕ → GreyInHand
+scans x a = record { list = a; scan = Some x; emptied = true }
 
-abbrev holds : ℕ → GreyHolding
-holds a = record { hand = a; scan = None; emptied = true }
+abbrev holds : ℕ → GreyInHand
+holds a = record { list = a; scan = None; emptied = true }
 
 -- what it holds of the grey blocks, where a block has m payloads
-abbrev pub held_grey : ℕ → GreyRow → GreyHolding
-held_grey m r = grey_held (grey_holding m r)
+abbrev pub held_grey : ℕ → GreyRow → GreyInHand
+held_grey m r = grey_held (grey_in_hand m r)
 
-word_holding : (m x j a : ℕ) → held_grey m (after_word m x j a) ≡ scans x a
-word_holding m x j a =
+word_in_hand : (m x j a : ℕ) → held_grey m (after_word m x j a) ≡ scans x a
+word_in_hand m x j a =
     elim (cases_Bool (ltb (j + 1) m)) [ inl is ↦ rw is refl | inr is ↦ rw is refl ]
 
-scan_holding : (m x j a y : ℕ) → held_grey m (after_scan m x j a y) ≡ scans x a
-scan_holding m x j a y =
-    elim (cases_Bool (eqb y 0)) [ inl is ↦ rw is (word_holding m x j a) | inr is ↦ rw is refl ]
+scan_in_hand : (m x j a y : ℕ) → held_grey m (after_scan m x j a y) ≡ scans x a
+scan_in_hand m x j a y =
+    elim (cases_Bool (eqb y 0)) [ inl is ↦ rw is (word_in_hand m x j a) | inr is ↦ rw is refl ]
 
-module _ (m n : ℕ) (h : Heap) (hs : ℕ → GreyHolding) (k : GreyKept n h hs) (t c : ℕ) (low : t < n)
+module _ (m n : ℕ) (h : Heap) (hs : ℕ → GreyInHand) (k : GreyKept n h hs) (t c : ℕ) (low : t < n)
   where
     -- its own list is the first that it takes
-    took : (u : ℕ) (w : GreyHolding) → hs t ≡ held_grey m (Take u) → w.emptied ≡ true
+    took : (u : ℕ) (w : GreyInHand) → hs t ≡ held_grey m (Take u) → w.emptied ≡ true
         → put_at h (GreyList (list_of t n u)) 0 (GreyList t) ≡ 0
     took u w e is = elim (cases_eq (list_of t n u) t) [
       | inl same ↦ rw (eq-eqb (list_of t n u) t same) refl
@@ -64,10 +65,10 @@ module _ (m n : ℕ) (h : Heap) (hs : ℕ → GreyHolding) (k : GreyKept n h hs)
     ]
 
     takes_on : (u : ℕ) (r : GreyRow) → hs t ≡ held_grey m (Take u) → (held_grey m r).scan ≡ None
-        → (held_grey m r).hand ≡ h (GreyList (list_of t n u))
+        → (held_grey m r).list ≡ h (GreyList (list_of t n u))
         → GreyKept n (put_at h (GreyList (list_of t n u)) 0) (changed hs t (held_grey m r))
-    takes_on u r e scan hand = takes n h hs k t low (list_of t n u) (held_grey m (Take u))
-        (held_grey m r) (list_low t n u low) e refl refl scan hand (took u (held_grey m r) e)
+    takes_on u r e scan list = takes n h hs k t low (list_of t n u) (held_grey m (Take u))
+        (held_grey m r) (list_low t n u low) e refl refl scan list (took u (held_grey m r) e)
 
     take_step : (u : ℕ) → hs t ≡ held_grey m (Take u)
         → GreyKept n (put_at h (GreyList (list_of t n u)) 0)
@@ -89,8 +90,8 @@ module _ (m n : ℕ) (h : Heap) (hs : ℕ → GreyHolding) (k : GreyKept n h hs)
 
     shade_step : (x j y a : ℕ) → (y ≡ 0 → ⊥) → hs t ≡ scans x a
         → GreyKept n (heap_after h (row_want t n c (Shade x j y a)))
-        (changed hs t (held_grey m (after_word m x j (shaded_hand c y a (h (ColourOf y))))))
-    shade_step x j y a ne e = rw (word_holding m x j (shaded_hand c y a (h (ColourOf y))))
+        (changed hs t (held_grey m (after_word m x j (shaded_list c y a (h (ColourOf y))))))
+    shade_step x j y a ne e = rw (word_in_hand m x j (shaded_list c y a (h (ColourOf y))))
         (elim (cases_Bool (eqb (h (ColourOf y)) (white_word c))) [
           | inl is ↦ rw is (shades n h hs k t low (Some x) y a ne (white_is_not_grey y is) e)
           | inr is ↦ rw is (stays n h hs k t low (scans x a) e)
@@ -98,7 +99,7 @@ module _ (m n : ℕ) (h : Heap) (hs : ℕ → GreyHolding) (k : GreyKept n h hs)
 
     stored_step : (y a : ℕ) → (y ≡ 0 → ⊥) → hs t ≡ holds a
         → GreyKept n (heap_after h (row_want t n c (ShadeStored y a)))
-        (changed hs t (held_grey m (after_stored y (shaded_hand c y a (h (ColourOf y))))))
+        (changed hs t (held_grey m (after_stored y (shaded_list c y a (h (ColourOf y))))))
     stored_step y a ne e = elim (cases_Bool (eqb (h (ColourOf y)) (white_word c))) [
       | inl is ↦
           (let g = shades n h hs k t low None y a ne (white_is_not_grey y is) e in
@@ -131,7 +132,7 @@ module _ (m n : ℕ) (h : Heap) (hs : ℕ → GreyHolding) (k : GreyKept n h hs)
     row_keeps g (Take u) f e = take_step u e
     row_keeps g (Pop a) f e = pops n h hs k t low a (λ z. omega (arith, f.0)) e
     row_keeps g (ScanWord x j a) f e =
-        rw (scan_holding m x j a (target (h (PayloadOf x j)))) (stays n h hs k t low (scans x a) e)
+        rw (scan_in_hand m x j a (target (h (PayloadOf x j)))) (stays n h hs k t low (scans x a) e)
     row_keeps g (Shade x j y a) f e = shade_step x j y a (λ z. omega (arith, f.2.0)) e
     row_keeps g (Blacken x a) f e = black_step x a e
     row_keeps g (Put a) f e = puts n h hs k t low a e
@@ -142,16 +143,16 @@ module _ (m n : ℕ) (h : Heap) (hs : ℕ → GreyHolding) (k : GreyKept n h hs)
     row_keeps g (PutOwn y a) f e = puts n h hs k t low a e
     row_keeps g (Shaded y) f e = stays n h hs k t low no_grey e
 
-pub keeps : (c : Config) (h : Heap) (hs : ℕ → GreyHolding) (s : GreyState) → GreyFits c s
-    → GreyKept c.threads h hs → hs s.pass.thread ≡ grey_held (holding_at (extent c) s)
+pub keeps : (c : Config) (h : Heap) (hs : ℕ → GreyInHand) (s : GreyState) → GreyFits c s
+    → GreyKept c.threads h hs → hs s.pass.thread ≡ grey_held (marking_in_hand (extent c) s)
     → GreyKept c.threads (heap_after h (grey_want s))
     (changed hs s.pass.thread
-    (grey_held (holding_at (extent c) (grey_got (extent c) s (h (place_of (grey_want s)))))))
+    (grey_held (marking_in_hand (extent c) (grey_got (extent c) s (h (place_of (grey_want s)))))))
 keeps c h hs s f k e =
     let old : GreyKept s.pass.threads h hs = subst (λ n. GreyKept n h hs) (sym f.threads) k in
     subst (λ n. GreyKept n (heap_after h (grey_want s))
     (changed hs s.pass.thread
-    (grey_held (holding_at (extent c) (grey_got (extent c) s (h (place_of (grey_want s))))))))
+    (grey_held (marking_in_hand (extent c) (grey_got (extent c) s (h (place_of (grey_want s))))))))
     f.threads
     (row_keeps (payloads c.width) s.pass.threads h hs old s.pass.thread s.pass.cycle f.thread c
     s.row f.row e)

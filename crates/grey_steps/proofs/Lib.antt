@@ -3,6 +3,6 @@ pub mod GreyRuleKept
 pub mod MarkUnits
 pub mod Tricolours
 pub mod Solids
-pub mod Together
+pub mod AllRules
 pub mod Reuses
 pub mod Pictures

@@ -8,15 +8,14 @@ use Rattle.block_store.specs.Heaps.{Heap}
 use Rattle.block_store.specs.Payloads.{target}
 use Rattle.block_store.specs.Widths.{payloads}
 use Rattle.block_store.specs.Places.{Extent, extent, GreyList, ColourOf}
-use Rattle.heap_machine.specs.Grey.{GreyHolding, no_grey, GreyKept}
-use Rattle.heap_machine.specs.Holdings.{grey_held}
+use Rattle.heap_machine.specs.Grey.{GreyInHand, no_grey, GreyKept}
+use Rattle.heap_machine.specs.WorkInHand.{grey_held}
 use Rattle.heap_machine.specs.Operations.{Operation, Exchange, heap_after}
 use Rattle.heap_machine.specs.declared.pass.Pass.{Pass}
-use Rattle.heap_machine.proofs.GreyBlocks.{scan_is_grey}
-use Rattle.heap_machine.proofs.GreyEvents.{own_empty}
+use Rattle.heap_machine.proofs.Lemmas.{own_empty, scan_is_grey}
 use Rattle.grey_steps.specs.declared.rows.GreyRow.{GreyRow}
 use Rattle.grey_steps.specs.declared.rows.GreyRow.TheVariants.{Take, Pop, ScanWord, Shade, Blacken, Put, Scanned, NothingGrey, TakeOwn, ShadeStored, PutOwn, Shaded}
-use Rattle.grey_steps.specs.Rows.{GreyState, list_of, row_got, row_want, after_take, after_word, shaded_hand, grey_want, grey_got, grey_over, grey_unit, grey_nothing, grey_holding, holding_at, scanning}
+use Rattle.grey_steps.specs.Rows.{GreyState, list_of, row_got, row_want, after_take, after_word, shaded_list, grey_want, grey_got, grey_over, grey_unit, grey_nothing, grey_in_hand, marking_in_hand, scanning}
 use Rattle.grey_steps.specs.Fits.{GreyFits}
 use Rattle.grey_steps.specs.MarkUnits.{is_blackening, is_putting, is_shading, block_stored, grey_after, begins_with_zeros}
 use Rattle.grey_steps.proofs.GreyRuleKept.{low_thread}
@@ -33,7 +32,7 @@ pub shading_goes_on : (m n c : ℕ) (r : GreyRow) (w : ℕ) → IsShading r
     → IsShading (row_got m n c r w)
 shading_goes_on m n c (TakeOwn y) w is = refl
 shading_goes_on m n c (ShadeStored y a) w is =
-    either IsShading (eqb (shaded_hand c y a w) 0) (Shaded y) (PutOwn y (shaded_hand c y a w)) refl
+    either IsShading (eqb (shaded_list c y a w) 0) (Shaded y) (PutOwn y (shaded_list c y a w)) refl
     refl
 shading_goes_on m n c (PutOwn y a) w is = refl
 shading_goes_on m n c (Shaded y) w is = refl
@@ -44,7 +43,7 @@ pub block_stays : (m n c : ℕ) (r : GreyRow) (w : ℕ) → IsShading r
     → block_stored (row_got m n c r w) ≡ block_stored r
 block_stays m n c (TakeOwn y) w is = refl
 block_stays m n c (ShadeStored y a) w is =
-    let next = shaded_hand c y a w in
+    let next = shaded_list c y a w in
     either (λ r. block_stored r ≡ y) (eqb next 0) (Shaded y) (PutOwn y next) refl refl
 block_stays m n c (PutOwn y a) w is = refl
 block_stays m n c (Shaded y) w is = refl
@@ -76,7 +75,7 @@ scan_goes_on m n c (ScanWord x j a) w is = either IsScan (eqb (target w) 0) (aft
     (Shade x j (target w) a)
     (either IsScan (ltb (j + 1) m) (ScanWord x (j + 1) a) (Blacken x a) refl refl) refl
 scan_goes_on m n c (Shade x j y a) w is = either IsScan (ltb (j + 1) m)
-    (ScanWord x (j + 1) (shaded_hand c y a w)) (Blacken x (shaded_hand c y a w)) refl refl
+    (ScanWord x (j + 1) (shaded_list c y a w)) (Blacken x (shaded_list c y a w)) refl refl
 scan_goes_on m n c (Blacken x a) w is = either IsScan (eqb a 0) Scanned (Put a) refl refl
 scan_goes_on m n c (Put a) w is = refl
 scan_goes_on m n c Scanned w is = refl
@@ -99,8 +98,8 @@ Shades y _ = ⊥
 
 shades_on : (y m n c : ℕ) (r : GreyRow) (w : ℕ) → Shades y r → Shades y (row_got m n c r w)
 shades_on y m n c (TakeOwn z) w is = is
-shades_on y m n c (ShadeStored z a) w is = either (Shades y) (eqb (shaded_hand c z a w) 0)
-    (Shaded z) (PutOwn z (shaded_hand c z a w)) is is
+shades_on y m n c (ShadeStored z a) w is = either (Shades y) (eqb (shaded_list c z a w) 0)
+    (Shaded z) (PutOwn z (shaded_list c z a w)) is is
 shades_on y m n c (PutOwn z a) w is = is
 shades_on y m n c (Shaded z) w is = is
 shades_on y m n c _ w is = absurd is
@@ -131,14 +130,14 @@ row_unit m n c (ScanWord x j a) w = either (IsUnit false) (eqb (target w) 0) (af
     (Shade x j (target w) a)
     (either (IsUnit false) (ltb (j + 1) m) (ScanWord x (j + 1) a) (Blacken x a) refl refl) refl
 row_unit m n c (Shade x j y a) w = either (IsUnit false) (ltb (j + 1) m)
-    (ScanWord x (j + 1) (shaded_hand c y a w)) (Blacken x (shaded_hand c y a w)) refl refl
+    (ScanWord x (j + 1) (shaded_list c y a w)) (Blacken x (shaded_list c y a w)) refl refl
 row_unit m n c (Blacken x a) w = either (IsUnit true) (eqb a 0) Scanned (Put a) refl refl
 row_unit m n c (Put a) w = refl
 row_unit m n c Scanned w = refl
 row_unit m n c NothingGrey w = refl
 row_unit m n c (TakeOwn y) w = refl
-row_unit m n c (ShadeStored y a) w = either (IsUnit false) (eqb (shaded_hand c y a w) 0) (Shaded y)
-    (PutOwn y (shaded_hand c y a w)) refl refl
+row_unit m n c (ShadeStored y a) w = either (IsUnit false) (eqb (shaded_list c y a w) 0) (Shaded y)
+    (PutOwn y (shaded_list c y a w)) refl refl
 row_unit m n c (PutOwn y a) w = refl
 row_unit m n c (Shaded y) w = refl
 
@@ -155,13 +154,13 @@ pub unit_once : (s : GreyState) → grey_unit s.row ≡ true → is_blackening s
 unit_once s e = unit_is_over s.row e
 
 blackens : (m t n c : ℕ) (r : GreyRow) → is_blackening r ≡ true
-    → (x : ℕ) × ((grey_holding m r).scan ≡ Some x)
+    → (x : ℕ) × ((grey_in_hand m r).scan ≡ Some x)
     × (row_want t n c r ≡ Exchange (ColourOf x) (black_word c))
 blackens m t n c (Blacken x a) e = (x, refl, refl)
 blackens m t n c _ e = absurd cc
 
 pub unit_event : (e : Extent) (s : GreyState) → is_blackening s.row ≡ true
-    → (x : ℕ) × ((holding_at e s).scan ≡ Some x)
+    → (x : ℕ) × ((marking_in_hand e s).scan ≡ Some x)
     × (grey_want s ≡ Exchange (ColourOf x) (black_word s.pass.cycle))
 unit_event e s is = blackens (payloads e.width) s.pass.thread s.pass.threads s.pass.cycle s.row is
 
@@ -172,48 +171,48 @@ writes_black h o x v e = rw e (rw (eq-eqb x x refl) refl)
 one_block : (x y : ℕ) (o : Option ℕ) → o ≡ Some x → o ≡ Some y → x ≡ y
 one_block x y o a b = (let e : Some x ≡ Some y = sym a ∙ b in cc)
 
-pub unit_grey : (c : Config) (h : Heap) (hs : ℕ → GreyHolding) (s : GreyState) (x : ℕ)
+pub unit_grey : (c : Config) (h : Heap) (hs : ℕ → GreyInHand) (s : GreyState) (x : ℕ)
     → GreyFits c s → GreyKept c.threads h hs → hs s.pass.thread ≡ grey_held
-    (holding_at (extent c) s) → is_blackening s.row ≡ true → (holding_at (extent c) s).scan ≡ Some x
+    (marking_in_hand (extent c) s) → is_blackening s.row ≡ true → (marking_in_hand (extent c) s).scan ≡ Some x
     → (is_grey (h (ColourOf x)) ≡ true)
     × (heap_after h (grey_want s) (ColourOf x) ≡ black_word s.pass.cycle)
 unit_grey c h hs s x f k e is scan =
     let b = unit_event (extent c) s is in
-    let same : b.0 ≡ x = one_block b.0 x (holding_at (extent c) s).scan b.1 scan in
+    let same : b.0 ≡ x = one_block b.0 x (marking_in_hand (extent c) s).scan b.1 scan in
     let wants : grey_want s ≡ Exchange (ColourOf x) (black_word s.pass.cycle) =
     subst (λ y. grey_want s ≡ Exchange (ColourOf y) (black_word s.pass.cycle)) same b.2 in (
       scan_is_grey c.threads h hs k s.pass.thread x (low_thread c s f)
-          (ap (λ (w : GreyHolding). w.scan) e ∙ scan),
+          (ap (λ (w : GreyInHand). w.scan) e ∙ scan),
       writes_black h (grey_want s) x
           (black_word s.pass.cycle) wants,
     )
 
 put_row : (m t n c : ℕ) (r : GreyRow) → is_putting r ≡ true
-    → (row_want t n c r ≡ Exchange (GreyList t) (grey_holding m r).hand)
-    × ((grey_holding m r).emptied ≡ true)
+    → (row_want t n c r ≡ Exchange (GreyList t) (grey_in_hand m r).list)
+    × ((grey_in_hand m r).emptied ≡ true)
 put_row m t n c (Put a) e = (refl, refl)
 put_row m t n c (PutOwn y a) e = (refl, refl)
 put_row m t n c _ e = absurd cc
 
 -- a part that is over holds nothing
 pub over_holds_none : (m : ℕ) (r : GreyRow) → grey_over r ≡ true
-    → grey_held (grey_holding m r) ≡ no_grey
+    → grey_held (grey_in_hand m r) ≡ no_grey
 over_holds_none m Scanned e = refl
 over_holds_none m NothingGrey e = refl
 over_holds_none m (Shaded y) e = refl
 over_holds_none m _ e = absurd cc
 
--- where a hand is put, the list is empty
-pub put_on_empty : (c : Config) (h : Heap) (hs : ℕ → GreyHolding) (s : GreyState) → GreyFits c s
-    → GreyKept c.threads h hs → hs s.pass.thread ≡ grey_held (holding_at (extent c) s)
+-- where a private list is put, the list is empty
+pub put_on_empty : (c : Config) (h : Heap) (hs : ℕ → GreyInHand) (s : GreyState) → GreyFits c s
+    → GreyKept c.threads h hs → hs s.pass.thread ≡ grey_held (marking_in_hand (extent c) s)
     → is_putting s.row ≡ true
-    → (grey_want s ≡ Exchange (GreyList s.pass.thread) (holding_at (extent c) s).hand)
+    → (grey_want s ≡ Exchange (GreyList s.pass.thread) (marking_in_hand (extent c) s).list)
     × (h (GreyList s.pass.thread) ≡ 0)
 put_on_empty c h hs s f k e is =
     let p = put_row (payloads c.width) s.pass.thread s.pass.threads s.pass.cycle s.row is in (
       p.0,
       own_empty c.threads h hs k s.pass.thread (low_thread c s f)
-          (grey_held (holding_at (extent c) s)) e p.1,
+          (grey_held (marking_in_hand (extent c) s)) e p.1,
     )
 
 -- each list is one of those that are taken
@@ -228,7 +227,7 @@ each_list t n v low vlow = elim (cases_lt v t) [
       (v - t, omega arith, rw sum (mod-eq_of_lt vlow))
 ]
 
--- the rows at which a list was found, and those behind them
+-- the rows at which a list was found, and those after them
 abbrev has_list : GreyRow → Bool
 has_list (Pop a) = true
 has_list (ScanWord x j a) = true
@@ -247,7 +246,7 @@ list_stays m n c (ScanWord x j a) w e = either HasList (eqb (target w) 0) (after
     (Shade x j (target w) a)
     (either HasList (ltb (j + 1) m) (ScanWord x (j + 1) a) (Blacken x a) refl refl) refl
 list_stays m n c (Shade x j y a) w e = either HasList (ltb (j + 1) m)
-    (ScanWord x (j + 1) (shaded_hand c y a w)) (Blacken x (shaded_hand c y a w)) refl refl
+    (ScanWord x (j + 1) (shaded_list c y a w)) (Blacken x (shaded_list c y a w)) refl refl
 list_stays m n c (Blacken x a) w e = either HasList (eqb a 0) Scanned (Put a) refl refl
 list_stays m n c (Put a) w e = refl
 list_stays m n c Scanned w e = refl
@@ -287,7 +286,7 @@ module _ (e : Extent) (p : Pass) where
       → grey_nothing (grey_after e (at p (Take u)) (w ∷ ws)).row ≡ b
   went u w ws r b is k = subst (λ q. grey_nothing (grey_after e (at p q) ws).row ≡ b) (sym is) k
 
-  -- d lists are left behind the u-th
+  -- d lists are left after the u-th
   from_take : (d u : ℕ) (ws : List ℕ) → u + suc d ≡ p.threads
       → grey_nothing (grey_after e (at p (Take u)) ws).row ≡ begins_with_zeros (suc d) ws
   from_take d u [] h = refl

@@ -4,9 +4,7 @@ use Rattle.std.proofs.lemmas.Bool.{cases_Bool, cases_eq, lt-ltb}
 use Rattle.block_store.specs.declared.Config.{Config}
 use Rattle.block_store.specs.declared.Colour.TheVariants.{Grey}
 use Rattle.block_store.specs.Colours.{grey_word, black_word, white_word}
-use Rattle.block_store.proofs.ColourWords.{colour-code, colour-black, link-grey, link-black}
-use Rattle.block_store.proofs.Registers.{wide}
-use Rattle.block_store.proofs.Indexes.{block_in, hand_block}
+use Rattle.block_store.proofs.Lemmas.{block_in, colour-black, colour-code, hand_block, link-black, link-grey, wide}
 use Rattle.block_store.specs.Heaps.{Heap}
 use Rattle.block_store.specs.Payloads.{target}
 use Rattle.block_store.specs.Widths.{payloads}
@@ -14,10 +12,10 @@ use Rattle.block_store.specs.Places.{extent, in_range, is_block, IsBlock, Colour
 use Rattle.heap_machine.specs.Operations.{place_of, heap_after, Fits}
 use Rattle.heap_machine.specs.declared.pass.Pass.{Pass}
 use Rattle.heap_machine.specs.Readings.{CanHold, StoresHeld, IsHeld}
-use Rattle.heap_machine.proofs.Held.{held_after}
+use Rattle.heap_machine.proofs.Lemmas.{held_after}
 use Rattle.grey_steps.specs.declared.rows.GreyRow.{GreyRow}
 use Rattle.grey_steps.specs.declared.rows.GreyRow.TheVariants.{Take, Pop, ScanWord, Shade, Blacken, Put, Scanned, NothingGrey, TakeOwn, ShadeStored, PutOwn, Shaded}
-use Rattle.grey_steps.specs.Rows.{GreyState, list_of, row_want, row_got, after_word, after_stored, shaded_hand, grey_want, grey_got, scanning, shading}
+use Rattle.grey_steps.specs.Rows.{GreyState, list_of, row_want, row_got, after_word, after_stored, shaded_list, grey_want, grey_got, scanning, shading}
 use Rattle.grey_steps.specs.Fits.{RowFits, GreyFits, GreyReads}
 use Rattle.grey_steps.proofs.GreyRuleKept.{list_low, low_thread}
 
@@ -38,9 +36,9 @@ word_fits c x j a block high = elim (cases_Bool (ltb (j + 1) (payloads c.width))
   | inr is ↦ rw is (block, high)
 ]
 
-hand_fits : (c : Config) (cycle y a w : ℕ) → IsBlock c y → a ≤ c.blocks
-    → shaded_hand cycle y a w ≤ c.blocks
-hand_fits c cycle y a w block high = elim (cases_Bool (eqb w (white_word cycle))) [
+private_fits : (c : Config) (cycle y a w : ℕ) → IsBlock c y → a ≤ c.blocks
+    → shaded_list cycle y a w ≤ c.blocks
+private_fits c cycle y a w block high = elim (cases_Bool (eqb w (white_word cycle))) [
   | inl is ↦ rw is block.1
   | inr is ↦ rw is high
 ]
@@ -68,7 +66,7 @@ module _ (c : Config) (t cycle : ℕ) where
     | inr nz ↦ rw (ne_eqb (target w) 0 nz) (f.0, f.1, hand_block c (target w) nz reads.1, f.2)
   ]
   row_fits (Shade x j y a) w f reads =
-      word_fits c x j (shaded_hand cycle y a w) f.0 (hand_fits c cycle y a w f.2 f.3)
+      word_fits c x j (shaded_list cycle y a w) f.0 (private_fits c cycle y a w f.2 f.3)
   row_fits (Blacken x a) w f reads = elim (cases_eq a 0) [
     | inl z ↦ rw (eq-eqb a 0 z) tt
     | inr nz ↦ rw (ne_eqb a 0 nz) (hand_block c a nz f.1)
@@ -78,7 +76,7 @@ module _ (c : Config) (t cycle : ℕ) where
   row_fits NothingGrey w f reads = tt
   row_fits (TakeOwn y) w f reads = (f, reads)
   row_fits (ShadeStored y a) w f reads =
-      stored_fits c y (shaded_hand cycle y a w) f.0 (hand_fits c cycle y a w f.0 f.1)
+      stored_fits c y (shaded_list cycle y a w) f.0 (private_fits c cycle y a w f.0 f.1)
   row_fits (PutOwn y a) w f reads = f.0
   row_fits (Shaded y) w f reads = f
 

@@ -3,39 +3,40 @@ use Rattle.std.proofs.Common.{◌≡◌, ◌≢◌, ℕ, ◌<◌, ◌+◌, eqb, 
 use Rattle.std.proofs.lemmas.Bool.{cases_eq, cases_Bool, eqb-false}
 use Rattle.block_store.specs.declared.Config.{Config}
 use Rattle.block_store.specs.Colours.{grey_word, white_word, black_word}
-use Rattle.block_store.proofs.ColourWords.{black-white, grey-white, grey-black, colours}
+use Rattle.block_store.proofs.Lemmas.{black-white, colours, grey-black, grey-white}
 use Rattle.block_store.specs.Heaps.{Heap, put_at}
 use Rattle.block_store.specs.Payloads.{target}
 use Rattle.block_store.specs.Widths.{payloads}
 use Rattle.block_store.specs.Places.{Extent, extent, GreyList, ColourOf, PayloadOf, IsBlock}
 use Rattle.block_store.specs.Counts.{changed}
 use Rattle.heap_machine.specs.declared.pass.Pass.{Pass}
-use Rattle.heap_machine.specs.Holdings.{tricolour_held}
+use Rattle.heap_machine.specs.WorkInHand.{tricolour_held}
 use Rattle.heap_machine.specs.Operations.{place_of, heap_after}
-use Rattle.heap_machine.specs.Tricolour.{TricolourHolding, no_tricolour, NotWhite, TricolourKept}
-use Rattle.heap_machine.proofs.Tricolours.{HeldAt, held_as, held_colour, goes_on, lets_go, kept_colour}
+use Rattle.heap_machine.specs.Tricolour.{TricolourInHand, no_tricolour, NotWhite, TricolourKept}
+use Rattle.heap_machine.proofs.Lemmas.{HeldAt, goes_on, held_as, held_colour, kept_colour}
+use Rattle.heap_machine.proofs.Tricolours.{lets_go}
 use Rattle.grey_steps.specs.declared.rows.GreyRow.{GreyRow}
 use Rattle.grey_steps.specs.declared.rows.GreyRow.TheVariants.{Take, Pop, ScanWord, Shade, Blacken, Put, Scanned, NothingGrey, TakeOwn, ShadeStored, PutOwn, Shaded}
 use Rattle.grey_steps.specs.MarkUnits.{is_blackening, is_shading, grey_after}
 use Rattle.grey_steps.proofs.MarkUnits.{shade_is_over, scan_is_over}
-use Rattle.grey_steps.specs.Rows.{GreyState, list_of, row_want, row_got, after_word, after_take, after_scan, after_black, after_stored, shaded_hand, grey_want, grey_got, grey_over, grey_holding, holding_at, scanning, shading}
+use Rattle.grey_steps.specs.Rows.{GreyState, list_of, row_want, row_got, after_word, after_take, after_scan, after_black, after_stored, shaded_list, grey_want, grey_got, grey_over, grey_in_hand, marking_in_hand, scanning, shading}
 use Rattle.grey_steps.specs.Fits.{RowFits, GreyFits}
 use Rattle.grey_steps.proofs.GreyRuleKept.{low_thread}
 
 -- a thread that has dealt with j payloads of x, one that has found z in the next, and one that has
 -- shaded y
-abbrev scans : ℕ → ℕ → TricolourHolding
+abbrev scans : ℕ → ℕ → TricolourInHand
 scans x j = record no_tricolour { scan = x; dealt = j }
 
-abbrev refers : ℕ → ℕ → ℕ → TricolourHolding
+abbrev refers : ℕ → ℕ → ℕ → TricolourInHand
 refers x j z = record no_tricolour { scan = x; dealt = j; found = z }
 
-abbrev stores : ℕ → TricolourHolding
+abbrev stores : ℕ → TricolourInHand
 stores y = record no_tricolour { shaded = y }
 
 -- what it holds of the rule, where a block has m payloads
-abbrev held_tri : ℕ → GreyRow → TricolourHolding
-held_tri m r = tricolour_held (grey_holding m r)
+abbrev held_tri : ℕ → GreyRow → TricolourInHand
+held_tri m r = tricolour_held (grey_in_hand m r)
 
 take_none : (m n u w : ℕ) → held_tri m (after_take n u w) ≡ no_tricolour
 take_none m n u w = elim (cases_Bool (eqb w 0)) [
@@ -98,7 +99,7 @@ grey_now : (c : ℕ) (h : Heap) (z a : ℕ) → put_at h (ColourOf z) (grey_word
     white_word c
 grey_now c h z a = rw (eq-eqb z z refl) (grey-white a c)
 
-module _ (g : Config) (n c : ℕ) (h : Heap) (hs : ℕ → TricolourHolding)
+module _ (g : Config) (n c : ℕ) (h : Heap) (hs : ℕ → TricolourInHand)
     (k : TricolourKept (extent g) c h hs) (t : ℕ) (low : t < g.threads) where
   abbrev ex : Extent
   ex = extent g
@@ -113,7 +114,7 @@ module _ (g : Config) (n c : ℕ) (h : Heap) (hs : ℕ → TricolourHolding)
 
   shade_step : (x j z a : ℕ) → j < m → z ≢ 0 → hs t ≡ refers x j z
       → TricolourKept ex c (heap_after h (row_want t n c (Shade x j z a)))
-      (changed hs t (held_tri m (after_word m x j (shaded_hand c z a (h (ColourOf z))))))
+      (changed hs t (held_tri m (after_word m x j (shaded_list c z a (h (ColourOf z))))))
   shade_step x j z a few some e =
       let held : HeldAt c h (refers x j z) = held_as ex c h hs k t (refers x j z) low e in
       elim (cases_Bool (eqb (h (ColourOf z)) (white_word c))) [
@@ -132,8 +133,8 @@ module _ (g : Config) (n c : ℕ) (h : Heap) (hs : ℕ → TricolourHolding)
       ]
 
   stored_step : (z a : ℕ) → TricolourKept ex c (heap_after h (row_want t n c (ShadeStored z a)))
-      (changed hs t (held_tri m (after_stored z (shaded_hand c z a (h (ColourOf z))))))
-  stored_step z a = rw (stored_shaded m z (shaded_hand c z a (h (ColourOf z))))
+      (changed hs t (held_tri m (after_stored z (shaded_list c z a (h (ColourOf z))))))
+  stored_step z a = rw (stored_shaded m z (shaded_list c z a (h (ColourOf z))))
       (elim (cases_Bool (eqb (h (ColourOf z)) (white_word c))) [
         | inl is ↦ rw is
             (goes_on ex c (put_at h (ColourOf z) (grey_word a)) hs t (stores z)
@@ -175,20 +176,20 @@ module _ (g : Config) (n c : ℕ) (h : Heap) (hs : ℕ → TricolourHolding)
 
   -- at the blackening no payload refers to a white block
   black_all : (r : GreyRow) → is_blackening r ≡ true → hs t ≡ held_tri m r → (x : ℕ)
-      → (grey_holding m r).scan ≡ Some x → Dealt c h x m
+      → (grey_in_hand m r).scan ≡ Some x → Dealt c h x m
   black_all (Blacken z a) is e x o =
       let held : HeldAt c h (scans z m) = held_as ex c h hs k t (scans z m) low e in
       let same : z ≡ x = (let b : Some z ≡ Some x = o in cc) in
       subst (λ q. Dealt c h q m) same held.dealt
   black_all _ is e x o = absurd cc
 
-pub keeps_tricolour : (c : Config) (h : Heap) (hs : ℕ → TricolourHolding) (s : GreyState)
+pub keeps_tricolour : (c : Config) (h : Heap) (hs : ℕ → TricolourInHand) (s : GreyState)
     → GreyFits c s → TricolourKept (extent c) s.pass.cycle h hs
-    → hs s.pass.thread ≡ tricolour_held (holding_at (extent c) s)
+    → hs s.pass.thread ≡ tricolour_held (marking_in_hand (extent c) s)
     → TricolourKept (extent c) s.pass.cycle (heap_after h (grey_want s))
     (changed hs s.pass.thread
     (tricolour_held
-    (holding_at (extent c) (grey_got (extent c) s (h (place_of (grey_want s)))))))
+    (marking_in_hand (extent c) (grey_got (extent c) s (h (place_of (grey_want s)))))))
 keeps_tricolour c h hs s f k e =
     row_keeps c s.pass.threads s.pass.cycle h hs k s.pass.thread (low_thread c s f) s.row f.row e
 
@@ -200,34 +201,34 @@ over_none m NothingGrey e is = refl
 over_none m (Shaded y) e is = absurd cc
 over_none m _ e is = absurd cc
 
--- behind the shading before a store the block is not white
-pub shaded_dark : (c : Config) (h : Heap) (hs : ℕ → TricolourHolding) (s : GreyState) (y : ℕ)
+-- after the shading before a store the block is not white
+pub shaded_dark : (c : Config) (h : Heap) (hs : ℕ → TricolourInHand) (s : GreyState) (y : ℕ)
     → GreyFits c s → TricolourKept (extent c) s.pass.cycle h hs
-    → hs s.pass.thread ≡ tricolour_held (holding_at (extent c) s) → s.row ≡ Shaded y
+    → hs s.pass.thread ≡ tricolour_held (marking_in_hand (extent c) s) → s.row ≡ Shaded y
     → h (ColourOf y) ≢ white_word s.pass.cycle
 shaded_dark c h hs s y f k e is =
     let same : (hs s.pass.thread).shaded ≡ y =
-    ap (λ (w : TricolourHolding). w.shaded) e
+    ap (λ (w : TricolourInHand). w.shaded) e
     ∙ ap (λ (r : GreyRow). (held_tri (payloads c.width) r).shaded) is in
     let block : IsBlock c y = subst (RowFits c) is f.row in
     subst (NotWhite s.pass.cycle (colours h)) same (k.shaded s.pass.thread (low_thread c s f))
     (λ z. omega (arith, block.0))
 
 -- and so at the end of a part that began with its shading
-pub shade_dark : (c : Config) (h : Heap) (hs : ℕ → TricolourHolding) (p : Pass) (y : ℕ)
+pub shade_dark : (c : Config) (h : Heap) (hs : ℕ → TricolourInHand) (p : Pass) (y : ℕ)
     (ws : List ℕ) (s : GreyState) → s ≡ grey_after (extent c) (shading p y) ws → GreyFits c s
     → TricolourKept (extent c) s.pass.cycle h hs
-    → hs s.pass.thread ≡ tricolour_held (holding_at (extent c) s) → grey_over s.row ≡ true
+    → hs s.pass.thread ≡ tricolour_held (marking_in_hand (extent c) s) → grey_over s.row ≡ true
     → h (ColourOf y) ≢ white_word s.pass.cycle
 shade_dark c h hs p y ws s began f k e over =
     let is : s.row ≡ Shaded y = subst (λ (z : GreyState). grey_over z.row ≡ true → z.row ≡ Shaded y)
     (sym began) (shade_is_over (extent c) y (shading p y) refl ws) over in
     shaded_dark c h hs s y f k e is
 
-pub blackened_whole : (c : Config) (h : Heap) (hs : ℕ → TricolourHolding) (s : GreyState) (x j : ℕ)
+pub blackened_whole : (c : Config) (h : Heap) (hs : ℕ → TricolourInHand) (s : GreyState) (x j : ℕ)
     → GreyFits c s → TricolourKept (extent c) s.pass.cycle h hs
-    → hs s.pass.thread ≡ tricolour_held (holding_at (extent c) s) → is_blackening s.row ≡ true
-    → (holding_at (extent c) s).scan ≡ Some x → j < (payloads c.width)
+    → hs s.pass.thread ≡ tricolour_held (marking_in_hand (extent c) s) → is_blackening s.row ≡ true
+    → (marking_in_hand (extent c) s).scan ≡ Some x → j < (payloads c.width)
     → target (h (PayloadOf x j)) ≢ 0 → h (ColourOf (target (h (PayloadOf x j)))) ≢ white_word
     s.pass.cycle
 blackened_whole c h hs s x j f k e is scan low =
@@ -237,6 +238,6 @@ blackened_whole c h hs s x j f k e is scan low =
 -- a scan that is over holds nothing
 pub scan_over_none : (e : Extent) (p : Pass) (ws : List ℕ)
     → grey_over (grey_after e (scanning p) ws).row ≡ true
-    → tricolour_held (holding_at e (grey_after e (scanning p) ws)) ≡ no_tricolour
+    → tricolour_held (marking_in_hand e (grey_after e (scanning p) ws)) ≡ no_tricolour
 scan_over_none e p ws over = over_none (payloads e.width) (grey_after e (scanning p) ws).row over
     (scan_is_over e (scanning p) refl ws)

@@ -13,17 +13,17 @@ use Rattle.grey_steps.specs.Rows.{GreyState, grey_want}
 -- or 0
 abbrev pub RowFits : Config → GreyRow → Type 0
 RowFits c (Take u) = u < c.threads
-RowFits c (Pop hand) = IsBlock c hand
-RowFits c (ScanWord x j hand) = IsBlock c x × (j < payloads c.width) × (hand ≤ c.blocks)
-RowFits c (Shade x j y hand) = IsBlock c x × (j < payloads c.width) × IsBlock c y
-    × (hand ≤ c.blocks)
-RowFits c (Blacken x hand) = IsBlock c x × (hand ≤ c.blocks)
-RowFits c (Put hand) = IsBlock c hand
+RowFits c (Pop list) = IsBlock c list
+RowFits c (ScanWord x j list) = IsBlock c x × (j < payloads c.width) × (list ≤ c.blocks)
+RowFits c (Shade x j y list) = IsBlock c x × (j < payloads c.width) × IsBlock c y
+    × (list ≤ c.blocks)
+RowFits c (Blacken x list) = IsBlock c x × (list ≤ c.blocks)
+RowFits c (Put list) = IsBlock c list
 RowFits c Scanned = Unit {0}
 RowFits c NothingGrey = Unit {0}
 RowFits c (TakeOwn y) = IsBlock c y
-RowFits c (ShadeStored y hand) = IsBlock c y × (hand ≤ c.blocks)
-RowFits c (PutOwn y hand) = IsBlock c y × IsBlock c hand
+RowFits c (ShadeStored y list) = IsBlock c y × (list ≤ c.blocks)
+RowFits c (PutOwn y list) = IsBlock c y × IsBlock c list
 RowFits c (Shaded y) = IsBlock c y
 
 -- the heap has the state's threads, at most 16, of which this is one, and at most 65,535 blocks;

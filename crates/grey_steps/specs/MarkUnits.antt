@@ -9,32 +9,32 @@ use Rattle.grey_steps.specs.Rows.{GreyState, grey_got, grey_step}
 
 -- the event that makes the block under scan black
 abbrev pub is_blackening : GreyRow → Bool
-is_blackening (Blacken x hand) = true
+is_blackening (Blacken x list) = true
 is_blackening _ = false
 
 -- what an event is: its step, and whether it makes a unit
 abbrev pub grey_outcome : Extent → GreyState → ℕ → Outcome
 grey_outcome e s w = record { step = grey_step e s w; unit = is_blackening s.row }
 
--- the events that put a hand in the thread's own list
+-- the events that put a private list in the thread's own list
 abbrev pub is_putting : GreyRow → Bool
-is_putting (Put hand) = true
-is_putting (PutOwn y hand) = true
+is_putting (Put list) = true
+is_putting (PutOwn y list) = true
 is_putting _ = false
 
 -- the rows of the write barrier; the others are those of a scan
 abbrev pub is_shading : GreyRow → Bool
 is_shading (TakeOwn y) = true
-is_shading (ShadeStored y hand) = true
-is_shading (PutOwn y hand) = true
+is_shading (ShadeStored y list) = true
+is_shading (PutOwn y list) = true
 is_shading (Shaded y) = true
 is_shading _ = false
 
 -- the block to which a command is about to store a reference, or 0 in a scan
 abbrev pub block_stored : GreyRow → ℕ
 block_stored (TakeOwn y) = y
-block_stored (ShadeStored y hand) = y
-block_stored (PutOwn y hand) = y
+block_stored (ShadeStored y list) = y
+block_stored (PutOwn y list) = y
 block_stored (Shaded y) = y
 block_stored _ = 0
 

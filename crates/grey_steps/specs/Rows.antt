@@ -6,7 +6,7 @@ use Rattle.block_store.specs.Colours.{link, grey_word, black_word, white_word}
 use Rattle.block_store.specs.Payloads.{target}
 use Rattle.block_store.specs.Widths.{payloads}
 use Rattle.block_store.specs.Places.{Extent, Phase, GreyList, ColourOf, PayloadOf}
-use Rattle.heap_machine.specs.Holdings.{Holding, holds_nothing}
+use Rattle.heap_machine.specs.WorkInHand.{WorkInHand, holds_nothing}
 use Rattle.heap_machine.specs.Operations.{Operation, Load, Exchange, CompareExchange}
 use Rattle.heap_machine.specs.declared.pass.Pass.{Pass}
 use Rattle.heap_machine.specs.declared.Step.{Step}
@@ -27,56 +27,56 @@ list_of t n u = (t + u) % n
 -- once more
 abbrev pub row_want : ℕ → ℕ → ℕ → GreyRow → Operation
 row_want t n c (Take u) = Exchange (GreyList (list_of t n u)) 0
-row_want t n c (Pop hand) = Load (ColourOf hand)
-row_want t n c (ScanWord x j hand) = Load (PayloadOf x j)
-row_want t n c (Shade x j y hand) = CompareExchange (ColourOf y) (white_word c) (grey_word hand)
-row_want t n c (Blacken x hand) = Exchange (ColourOf x) (black_word c)
-row_want t n c (Put hand) = Exchange (GreyList t) hand
+row_want t n c (Pop list) = Load (ColourOf list)
+row_want t n c (ScanWord x j list) = Load (PayloadOf x j)
+row_want t n c (Shade x j y list) = CompareExchange (ColourOf y) (white_word c) (grey_word list)
+row_want t n c (Blacken x list) = Exchange (ColourOf x) (black_word c)
+row_want t n c (Put list) = Exchange (GreyList t) list
 row_want t n c Scanned = Load Phase
 row_want t n c NothingGrey = Load Phase
 row_want t n c (TakeOwn y) = Exchange (GreyList t) 0
-row_want t n c (ShadeStored y hand) = CompareExchange (ColourOf y) (white_word c) (grey_word hand)
-row_want t n c (PutOwn y hand) = Exchange (GreyList t) hand
+row_want t n c (ShadeStored y list) = CompareExchange (ColourOf y) (white_word c) (grey_word list)
+row_want t n c (PutOwn y list) = Exchange (GreyList t) list
 row_want t n c (Shaded y) = Load Phase
 
--- after the u-th list: a list that is not empty is the hand
+-- after the u-th list: a list that is not empty is the private list
 abbrev pub after_take : ℕ → ℕ → ℕ → GreyRow
 after_take n u w = if w == 0 then (if nat_lt (u + 1) n then Take (u + 1) else NothingGrey)
     else Pop w
 
 -- after payload j of block x was dealt with, of as many as a block has
 abbrev pub after_word : ℕ → ℕ → ℕ → ℕ → GreyRow
-after_word width x j hand = if nat_lt (j + 1) width then ScanWord x (j + 1) hand else Blacken x hand
+after_word width x j list = if nat_lt (j + 1) width then ScanWord x (j + 1) list else Blacken x list
 
 -- after payload j of block x, which refers to block y, or to none where y is 0
 abbrev pub after_scan : ℕ → ℕ → ℕ → ℕ → ℕ → GreyRow
-after_scan width x j hand y = if y == 0 then after_word width x j hand else Shade x j y hand
+after_scan width x j list y = if y == 0 then after_word width x j list else Shade x j y list
 
--- the hand after block y, whose colour was w, was to become grey: only a white block did
-abbrev pub shaded_hand : ℕ → ℕ → ℕ → ℕ → ℕ
-shaded_hand c y hand w = if w == white_word c then y else hand
+-- the private list after block y, whose colour was w, was to become grey: only a white block did
+abbrev pub shaded_list : ℕ → ℕ → ℕ → ℕ → ℕ
+shaded_list c y list w = if w == white_word c then y else list
 
--- what is left in the hand is put
+-- what is left in the private list is put
 abbrev pub after_black : ℕ → GreyRow
-after_black hand = if hand == 0 then Scanned else Put hand
+after_black list = if list == 0 then Scanned else Put list
 
 -- the same after block y was to become grey before a store
 abbrev pub after_stored : ℕ → ℕ → GreyRow
-after_stored y hand = if hand == 0 then Shaded y else PutOwn y hand
+after_stored y list = if list == 0 then Shaded y else PutOwn y list
 
 -- the row after it, where it read w and a block has this many payloads
 abbrev pub row_got : ℕ → ℕ → ℕ → GreyRow → ℕ → GreyRow
 row_got width n c (Take u) w = after_take n u w
-row_got width n c (Pop hand) w = ScanWord hand 0 (link w)
-row_got width n c (ScanWord x j hand) w = after_scan width x j hand (target w)
-row_got width n c (Shade x j y hand) w = after_word width x j (shaded_hand c y hand w)
-row_got width n c (Blacken x hand) w = after_black hand
-row_got width n c (Put hand) w = Scanned
+row_got width n c (Pop list) w = ScanWord list 0 (link w)
+row_got width n c (ScanWord x j list) w = after_scan width x j list (target w)
+row_got width n c (Shade x j y list) w = after_word width x j (shaded_list c y list w)
+row_got width n c (Blacken x list) w = after_black list
+row_got width n c (Put list) w = Scanned
 row_got width n c Scanned w = Scanned
 row_got width n c NothingGrey w = NothingGrey
 row_got width n c (TakeOwn y) w = ShadeStored y w
-row_got width n c (ShadeStored y hand) w = after_stored y (shaded_hand c y hand w)
-row_got width n c (PutOwn y hand) w = Shaded y
+row_got width n c (ShadeStored y list) w = after_stored y (shaded_list c y list w)
+row_got width n c (PutOwn y list) w = Shaded y
 row_got width n c (Shaded y) w = Shaded y
 
 abbrev pub grey_want : GreyState → Operation
@@ -100,9 +100,9 @@ grey_over _ = false
 abbrev pub grey_step : Extent → GreyState → ℕ → Step
 grey_step e s w = if grey_over (grey_got e s w).row then Over else Went
 
--- the rows behind the event that makes a block black
+-- the rows after the event that makes a block black
 abbrev pub grey_unit : GreyRow → Bool
-grey_unit (Put hand) = true
+grey_unit (Put list) = true
 grey_unit Scanned = true
 grey_unit _ = false
 
@@ -121,39 +121,39 @@ shading p y = record { pass = p; row = TakeOwn y }
 -- what the thread holds before the event of a row, where a block has this many payloads. Its own
 -- list is the first that it takes; and from the event that made a block grey before a store, or
 -- found it not white, the barrier of that block is over
-abbrev pub grey_holding : ℕ → GreyRow → Holding
-grey_holding width (Take u) = record holds_nothing { emptied = nat_lt 0 u }
-grey_holding width (Pop hand) = record holds_nothing { hand = hand; emptied = true }
-grey_holding width (ScanWord x j hand) = record holds_nothing {
-  hand = hand;
+abbrev pub grey_in_hand : ℕ → GreyRow → WorkInHand
+grey_in_hand width (Take u) = record holds_nothing { emptied = nat_lt 0 u }
+grey_in_hand width (Pop list) = record holds_nothing { list = list; emptied = true }
+grey_in_hand width (ScanWord x j list) = record holds_nothing {
+  list = list;
   emptied = true;
   scan = Some x;
   dealt = j;
 }
-grey_holding width (Shade x j y hand) = record holds_nothing {
-  hand = hand;
+grey_in_hand width (Shade x j y list) = record holds_nothing {
+  list = list;
   emptied = true;
   scan = Some x;
   dealt = j;
   found = y;
 }
-grey_holding width (Blacken x hand) = record holds_nothing {
-  hand = hand;
+grey_in_hand width (Blacken x list) = record holds_nothing {
+  list = list;
   emptied = true;
   scan = Some x;
   dealt = width;
 }
-grey_holding width (Put hand) = record holds_nothing { hand = hand; emptied = true }
-grey_holding width Scanned = holds_nothing
-grey_holding width NothingGrey = holds_nothing
-grey_holding width (TakeOwn y) = holds_nothing
-grey_holding width (ShadeStored y hand) = record holds_nothing { hand = hand; emptied = true }
-grey_holding width (PutOwn y hand) = record holds_nothing {
-  hand = hand;
+grey_in_hand width (Put list) = record holds_nothing { list = list; emptied = true }
+grey_in_hand width Scanned = holds_nothing
+grey_in_hand width NothingGrey = holds_nothing
+grey_in_hand width (TakeOwn y) = holds_nothing
+grey_in_hand width (ShadeStored y list) = record holds_nothing { list = list; emptied = true }
+grey_in_hand width (PutOwn y list) = record holds_nothing {
+  list = list;
   emptied = true;
   shaded = y;
 }
-grey_holding width (Shaded y) = record holds_nothing { shaded = y }
+grey_in_hand width (Shaded y) = record holds_nothing { shaded = y }
 
-abbrev pub holding_at : Extent → GreyState → Holding
-holding_at e s = grey_holding (payloads e.width) s.row
+abbrev pub marking_in_hand : Extent → GreyState → WorkInHand
+marking_in_hand e s = grey_in_hand (payloads e.width) s.row

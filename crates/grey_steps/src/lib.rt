@@ -1,5 +1,5 @@
 //! Marking, one atomic operation at a time: a grey block is scanned, or a block becomes grey to
-//! which a command is about to store a reference. Grey blocks stand in lists that are linked
+//! which a command is about to store a reference. Grey blocks are in lists that are linked
 //! through the blocks' own colour words, so marking takes no memory.
 #![tactic(auto)]
 

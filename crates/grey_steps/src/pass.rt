@@ -73,7 +73,7 @@ fn after_take(threads: u32, u: u32, head: u64) -> GreyRow
     ensures { result ≡ Rows.after_take threads u head }
 {
     if head != 0 {
-        GreyRow::Pop { hand: head as u32 }
+        GreyRow::Pop { list: head as u32 }
     } else if u + 1 < threads {
         GreyRow::Take { u: u + 1 }
     } else {
@@ -82,75 +82,75 @@ fn after_take(threads: u32, u: u32, head: u64) -> GreyRow
 }
 
 // The scan of a block begins.
-fn begin(block: u32, hand: u32) -> GreyRow
-    ensures { result ≡ GreyRow.ScanWord block 0 hand }
+fn begin(block: u32, list: u32) -> GreyRow
+    ensures { result ≡ GreyRow.ScanWord block 0 list }
 {
-    GreyRow::ScanWord { block, j: 0, hand }
+    GreyRow::ScanWord { block, j: 0, list }
 }
 
 // After payload j was dealt with.
-fn after_word(width: u32, block: u32, j: u32, hand: u32) -> GreyRow
+fn after_word(width: u32, block: u32, j: u32, list: u32) -> GreyRow
     requires { j < width }
-    ensures { result ≡ Rows.after_word width block j hand }
+    ensures { result ≡ Rows.after_word width block j list }
 {
     if j + 1 < width {
         GreyRow::ScanWord {
             block,
             j: j + 1,
-            hand,
+            list,
         }
     } else {
-        GreyRow::Blacken { block, hand }
+        GreyRow::Blacken { block, list }
     }
 }
 
 // After payload j, which refers to this block, or to none where it is 0.
-fn after_scan(width: u32, block: u32, j: u32, hand: u32, target: u32) -> GreyRow
+fn after_scan(width: u32, block: u32, j: u32, list: u32, target: u32) -> GreyRow
     requires { j < width }
-    ensures { result ≡ Rows.after_scan width block j hand target }
+    ensures { result ≡ Rows.after_scan width block j list target }
 {
     if target == 0 {
-        after_word(width, block, j, hand)
+        after_word(width, block, j, list)
     } else {
         GreyRow::Shade {
             block,
             j,
             target,
-            hand,
+            list,
         }
     }
 }
 
-// The hand after a block of this colour was to become grey.
-fn shaded_hand(cycle: u64, target: u32, hand: u32, colour: u64) -> u32
-    ensures { result ≡ Rows.shaded_hand cycle target hand colour }
+// The private list after a block of this colour was to become grey.
+fn shaded_list(cycle: u64, target: u32, list: u32, colour: u64) -> u32
+    ensures { result ≡ Rows.shaded_list cycle target list colour }
 {
     if colour == colour_word(white(cycle)) {
         target
     } else {
-        hand
+        list
     }
 }
 
 // After the block under scan was made black.
-fn after_black(hand: u32) -> GreyRow
-    ensures { result ≡ Rows.after_black hand }
+fn after_black(list: u32) -> GreyRow
+    ensures { result ≡ Rows.after_black list }
 {
-    if hand == 0 {
+    if list == 0 {
         GreyRow::Scanned
     } else {
-        GreyRow::Put { hand }
+        GreyRow::Put { list }
     }
 }
 
 // After the block to which a reference is about to be stored was to become grey.
-fn after_stored(target: u32, hand: u32) -> GreyRow
-    ensures { result ≡ Rows.after_stored target hand }
+fn after_stored(target: u32, list: u32) -> GreyRow
+    ensures { result ≡ Rows.after_stored target list }
 {
-    if hand == 0 {
+    if list == 0 {
         GreyRow::Shaded { target }
     } else {
-        GreyRow::PutOwn { target, hand }
+        GreyRow::PutOwn { target, list }
     }
 }
 
@@ -161,7 +161,7 @@ fn after_own(target: u32, head: u64) -> GreyRow
 {
     GreyRow::ShadeStored {
         target,
-        hand: head as u32,
+        list: head as u32,
     }
 }
 
@@ -192,15 +192,15 @@ fn is_end(row: GreyRow) -> bool
     )
 }
 
-// A white block becomes grey, in front of the hand.
-fn shading(places: &Places, cycle: u64, target: u32, hand: u32) -> Op
+// A white block becomes grey, in front of the private list.
+fn shading(places: &Places, cycle: u64, target: u32, list: u32) -> Op
     requires target { IsBlock places.now target }
-    requires hand { hand ≤ 65535 }
+    requires list { list ≤ 65535 }
     ensures { result
         ≡ op_at (extent places.now) (CompareExchange (ColourOf target) (white_word cycle)
-        (grey_word hand)) }
+        (grey_word list)) }
 {
-    let grey = colour_word(Colour::Grey(hand));
+    let grey = colour_word(Colour::Grey(list));
     Op::compare_exchange(places.colour(target), colour_word(white(cycle)), grey)
 }
 
@@ -354,15 +354,15 @@ impl GreyPass {
         let (thread, cycle) = (self.pass.thread, self.pass.cycle);
         match row {
             Take { u } => Op::exchange(places.grey_list(list_of(thread, self.pass.threads, u)), 0),
-            Pop { hand } => Op::load(places.colour(hand)),
+            Pop { list } => Op::load(places.colour(list)),
             ScanWord { block, j, .. } => Op::load(places.payload(block, j)),
-            Shade { target, hand, .. } | ShadeStored { target, hand } => {
-                shading(places, cycle, target, hand)
+            Shade { target, list, .. } | ShadeStored { target, list } => {
+                shading(places, cycle, target, list)
             }
             Blacken { block, .. } => Op::exchange(places.colour(block), colour_word(black(cycle))),
-            Put { hand } | PutOwn { hand, .. } => Op::exchange(
+            Put { list } | PutOwn { list, .. } => Op::exchange(
                 places.grey_list(thread),
-                hand as u64,
+                list as u64,
             ),
             TakeOwn { .. } => Op::exchange(places.grey_list(thread), 0),
             Scanned | NothingGrey | Shaded { .. } => Op::load(places.phase()),
@@ -383,20 +383,20 @@ impl GreyPass {
         let width = places.width().payloads();
         match row {
             Take { u } => after_take(self.pass.threads, u, read),
-            Pop { hand } => begin(hand, link_in(read)),
-            ScanWord { block, j, hand } => after_scan(width, block, j, hand, target_of(read)),
+            Pop { list } => begin(list, link_in(read)),
+            ScanWord { block, j, list } => after_scan(width, block, j, list, target_of(read)),
             Shade {
                 block,
                 j,
                 target,
-                hand,
-            } => after_word(width, block, j, shaded_hand(cycle, target, hand, read)),
-            Blacken { hand, .. } => after_black(hand),
+                list,
+            } => after_word(width, block, j, shaded_list(cycle, target, list, read)),
+            Blacken { list, .. } => after_black(list),
             Put { .. } | Scanned => Scanned,
             NothingGrey => NothingGrey,
             TakeOwn { target } => after_own(target, read),
-            ShadeStored { target, hand } => {
-                after_stored(target, shaded_hand(cycle, target, hand, read))
+            ShadeStored { target, list } => {
+                after_stored(target, shaded_list(cycle, target, list, read))
             }
             PutOwn { target, .. } | Shaded { target } => Shaded { target },
         }

@@ -1,6 +1,6 @@
 //! The rows of marking: one variant for each event.
 
-/// The next event of marking, or how the part ended. A `hand` is the first block of a list that the
+/// The next event of marking, or how the part ended. A `list` is the first block of a list that the
 /// thread has taken, or 0, which it is not where it is popped or put. A `block` or `target` is 1 to
 /// the number of blocks, and `j` is below the number of payloads.
 #[derive(Clone, Copy, Debug, PartialEq, Eq)]
@@ -10,33 +10,33 @@ pub enum GreyRow {
     Take {
         u: u32,
     },
-    /// Scan: loads the colour of the first block in the hand, which goes out of the hand to be
-    /// scanned.
+    /// Scan: loads the colour of the first block in the private list, which goes out of the private
+    /// list to be scanned.
     Pop {
-        hand: u32,
+        list: u32,
     },
     /// Scan: loads payload `j` of the block.
     ScanWord {
         block: u32,
         j: u32,
-        hand: u32,
+        list: u32,
     },
     /// Scan: makes the block to which payload `j` refers grey, where it is white; it is then the
-    /// first in the hand.
+    /// first in the private list.
     Shade {
         block: u32,
         j: u32,
         target: u32,
-        hand: u32,
+        list: u32,
     },
     /// Scan: makes the block black.
     Blacken {
         block: u32,
-        hand: u32,
+        list: u32,
     },
-    /// Scan: puts the hand in the thread's own list.
+    /// Scan: puts the private list in the thread's own list.
     Put {
-        hand: u32,
+        list: u32,
     },
     /// The scan is over: a block was made black.
     Scanned,
@@ -47,16 +47,16 @@ pub enum GreyRow {
         target: u32,
     },
     /// Write barrier: makes the block to which a reference is about to be stored grey, where it is
-    /// white; it is then the first in the hand.
+    /// white; it is then the first in the private list.
     ShadeStored {
         target: u32,
-        hand: u32,
+        list: u32,
     },
-    /// Write barrier: puts the hand in the thread's own list. The block was not white, or was made
-    /// grey.
+    /// Write barrier: puts the private list in the thread's own list. The block was not white, or
+    /// was made grey.
     PutOwn {
         target: u32,
-        hand: u32,
+        list: u32,
     },
     /// The store may follow: the block was not white, or was made grey.
     Shaded {

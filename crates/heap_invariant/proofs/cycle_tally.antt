@@ -6,7 +6,6 @@ pub mod MarkAndSweepEvents
 pub mod DecisionEvents
 pub mod Steps
 pub mod Laws
-pub mod BlockLists
 pub mod MadeNames
 pub mod InUse
 pub mod KeptStart

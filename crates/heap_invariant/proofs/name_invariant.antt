@@ -6,7 +6,7 @@ pub mod KeptStates
 pub mod ColourEvents
 pub mod BlackAtFlip
 pub mod FlipAndStart
-pub mod Older
+pub mod PendingRegisters
 pub mod Commands
 pub mod Builders
 pub mod PublishEvent

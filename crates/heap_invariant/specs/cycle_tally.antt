@@ -1,7 +1,7 @@
 pub mod Tallies
 pub mod Entries
 pub mod Events
-pub mod Kept
+pub mod TallyInvariant
 pub mod Bounds
 pub mod InUse
 pub mod InitialHeaps

@@ -1,6 +1,6 @@
 pub mod Layouts
 pub mod Words
-pub mod Shown
+pub mod GraphOfWords
 pub mod Made
 pub mod Snapshots
 pub mod Read

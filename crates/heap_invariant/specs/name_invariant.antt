@@ -2,7 +2,7 @@ pub mod Colouring
 pub mod Building
 pub mod States
 pub mod Events
-pub mod Kept
+pub mod Invariant
 pub mod InitialHeaps
 pub mod Reached
 pub mod Example

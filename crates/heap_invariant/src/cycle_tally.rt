@@ -12,16 +12,16 @@ ghost use Rattle.block_store.specs.Configs.{IsInBounds};
 ghost use Rattle.array_trees.specs.InitialHeaps.{opening_blocks};
 ghost use Rattle.rate_plan.specs.Rates.{KeepsUp};
 ghost use Rattle.never_heap.specs.Cycles.{graph_at};
-ghost use Rattle.never_heap.specs.Given.{given};
+ghost use Rattle.never_heap.specs.GivenBlocks.{given};
 ghost use Rattle.never_heap.specs.Histories.{HistoryItem, Legal, starts_in, work_in};
 ghost use Rattle.never_heap.specs.Licensed.{StartsSmall, NoFulls};
 ghost use Rattle.never_heap.specs.LiveBlocks.{live_blocks};
 ghost use Rattle.heap_invariant.specs.name_invariant.States.{KeptState};
-ghost use Rattle.heap_invariant.specs.name_invariant.Kept.{IsKept};
+ghost use Rattle.heap_invariant.specs.name_invariant.Invariant.{Invariant};
 ghost use Rattle.heap_invariant.specs.name_invariant.Events as kept_events;
 ghost use Rattle.heap_invariant.specs.cycle_tally.Tallies.{Tally, units, made_now};
 ghost use Rattle.heap_invariant.specs.cycle_tally.Events.{Event, apply, Guard, run, Guarded};
-ghost use Rattle.heap_invariant.specs.cycle_tally.Kept.{IsTold, TallyKept};
+ghost use Rattle.heap_invariant.specs.cycle_tally.TallyInvariant.{IsRequested, TallyKept};
 ghost use Rattle.heap_invariant.specs.cycle_tally.InitialHeaps.{Opened, opening_tally};
 ghost use Rattle.heap_invariant.specs.cycle_tally.Bounds.{Bound};
 ghost use Rattle.heap_invariant.specs.cycle_tally.Example.{small, small_rate, blacks, some_events, example_start, example_end, tight, tight_rate, full_events, full_start, full_end};
@@ -47,7 +47,7 @@ pub fn openings_are_kept()
         → 0 < rate → Opened c s → TallyKept c rate black s }
     ensures heap { (c : Config) (colour asked told : ℕ → ℕ) → IsInBounds c
         → opening_blocks c ≤ c.blocks → ((t : ℕ) → t < c.threads → asked t ≤ c.object)
-        → ((t : ℕ) → t < c.threads → IsTold (asked t) (told t) 0)
+        → ((t : ℕ) → t < c.threads → IsRequested (asked t) (told t) 0)
         → Opened c (opening_tally c colour asked told) }
 {}
 
@@ -79,7 +79,7 @@ pub fn few_blocks_are_in_use()
         → c.blocks ≤ count + live_blocks c.width (graph_at c h (starts_in h))
         + given c.width h (starts_in h) }
     ensures start { (c : Config) (s : KeptState) (count : ℕ)
-        → IsKept c s → kept_events.Guard c s kept_events.KeptEvent.Start
+        → Invariant c s → kept_events.Guard c s kept_events.KeptEvent.Start
         → InThreads c.threads s.order
         → count ≡ count_free c.blocks (λ x. is_free (s.colour x))
         → c.blocks ≤ count + live_blocks c.width (graph_at c s.order s.cycle)

@@ -1,4 +1,4 @@
-//! Which graph the words of blocks show: where each object's blocks are, what stands in each of
+//! Which graph the words of blocks show: where each object's blocks are, what is in each of
 //! their words, and which moves of words and graph go together. Each law is the contract of a
 //! function that does nothing.
 
@@ -23,7 +23,7 @@ ghost use Rattle.never_heap.specs.Graphs.{Graph, ObjectKind, Record, start_graph
 ghost use Rattle.never_heap.specs.Steps.{same_value};
 ghost use Rattle.heap_invariant.specs.graph_relation.Layouts.{kind_shape, layout_blocks, layout_part, layout_slot, object_part, object_slot};
 ghost use Rattle.heap_invariant.specs.graph_relation.Words.{Agrees, BlockWords, with_payload, with_register_word};
-ghost use Rattle.heap_invariant.specs.graph_relation.Shown.{heads, BlockShows, Closed, Shows, every_name, named, none_pending};
+ghost use Rattle.heap_invariant.specs.graph_relation.GraphOfWords.{heads, BlockShows, Closed, Shows, every_name, named, none_pending};
 ghost use Rattle.heap_invariant.specs.graph_relation.Made.{new_object, with_blocks, and_name, IsMade, IsWritten};
 ghost use Rattle.heap_invariant.specs.graph_relation.Snapshots.{Snapshot, IsShown, IsRegister, IsKeptValue, word_of, IsBlockOf, IsMadeIn, referred_new, CatchesUp, FallsBehind};
 ghost use Rattle.heap_invariant.specs.graph_relation.InitialHeaps.{opening_at, opening_words};
@@ -106,7 +106,7 @@ pub fn new_objects_are_shown()
         → IsShown (referred_new s t d k f block_of) }
 {}
 
-/// Words that are of no register block and of no kept object may change, as those behind the last
+/// Words that are of no register block and of no kept object may change, as those after the last
 /// block. Fewer names may be kept, where these refer to each other alone and no register is
 /// pending.
 pub fn other_words_are_free()

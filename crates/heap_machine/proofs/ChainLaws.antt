@@ -5,7 +5,7 @@ use Rattle.block_store.specs.Phases.{bit}
 use Rattle.block_store.specs.Colours.{link}
 use Rattle.heap_machine.specs.Chains.{Chain}
 use Rattle.block_store.specs.Counts.{times}
-use Rattle.block_store.proofs.Functions.{bit_zero}
+use Rattle.block_store.proofs.Lemmas.{bit_zero}
 
 -- the chain from 0 has no block
 pub Chain-zero : (c : ℕ → ℕ) (xs : List ℕ) → Chain c 0 xs → xs ≡ []

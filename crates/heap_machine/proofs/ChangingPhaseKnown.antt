@@ -9,12 +9,11 @@ use Rattle.block_store.specs.Heaps.{Heap, put_at}
 use Rattle.block_store.specs.Phases.{inside_of, is_closed, cycle_of}
 use Rattle.block_store.specs.Places.{extent, Phase, Cursor, GreyList, ColourOf}
 use Rattle.block_store.specs.Registers.{root_block}
-use Rattle.block_store.proofs.ColourWords.{grey_grey}
-use Rattle.block_store.proofs.PhaseWords.{phase-more, phase-less}
+use Rattle.block_store.proofs.Lemmas.{grey_grey, phase-less, phase-more}
 use Rattle.block_store.specs.declared.PhaseWord.{PhaseWord}
 use Rattle.heap_machine.specs.Gates.{gate_want, gate_got, closed_by, list_checked, look_to_close, root_shaded, is_of_pass, is_empty, GateFits, GateAt}
 use Rattle.heap_machine.specs.Gating.{Gating, GateOf, Closing}
-use Rattle.heap_machine.specs.Holdings.{Holding, grey_held}
+use Rattle.heap_machine.specs.WorkInHand.{WorkInHand, grey_held}
 use Rattle.heap_machine.specs.Operations.{place_of, heap_after}
 use Rattle.heap_machine.specs.PhaseKept.{PhaseKept}
 use Rattle.heap_machine.specs.Readings.{IsPhaseWord, IsHeld}
@@ -83,18 +82,18 @@ module _ (W : Width) (h : Heap) where
   cursor_known (CheckList p u) e is =
       no_cursor (next (CheckList p u)) h (checked_says p u (h (GreyList u))).0 is
   cursor_known (SetCursor p) e is = refl
-  cursor_known (ShadeRoot p u hand) e is =
-      no_cursor (root_shaded W p u) (after (ShadeRoot p u hand)) (shaded_cursor W p u) is
+  cursor_known (ShadeRoot p u list) e is =
+      no_cursor (root_shaded W p u) (after (ShadeRoot p u list)) (shaded_cursor W p u) is
   cursor_known Look e is = absurd (let z : false ≡ true = e in cc)
   cursor_known (Enter seen) e is = absurd (let z : false ≡ true = e in cc)
   cursor_known _ e is = absurd (let z : false ≡ true = is in cc)
 
-  root_is_grey : (p : Pass) (v hand u : ℕ) → u < v + 1
+  root_is_grey : (p : Pass) (v list u : ℕ) → u < v + 1
       → ((u : ℕ) → u < v → is_grey (h (ColourOf (root_block W u))) ≡ true)
-      → is_grey (put_at h (ColourOf (root_block W v)) (grey_word hand) (ColourOf (root_block W u)))
+      → is_grey (put_at h (ColourOf (root_block W v)) (grey_word list) (ColourOf (root_block W u)))
       ≡ true
-  root_is_grey p v hand u low greys = elim (cases_eq (root_block W v) (root_block W u)) [
-    | inl e ↦ rw (eq-eqb (root_block W v) (root_block W u) e) (grey_grey hand)
+  root_is_grey p v list u low greys = elim (cases_eq (root_block W v) (root_block W u)) [
+    | inl e ↦ rw (eq-eqb (root_block W v) (root_block W u) e) (grey_grey list)
     | inr ne ↦
         let away : u ≡ v → ⊥ = λ z. ne (ap (root_block W) (sym z)) in
         rw (ne_eqb (root_block W v) (root_block W u) ne) (greys u (omega arith))
@@ -110,10 +109,10 @@ module _ (W : Width) (h : Heap) where
       no_roots W (next (Close p seen)) (after (Close p seen)) (tried_says W p seen (h Phase)).1 u low
   roots_known (CheckList p v) e f k u low =
       no_roots W (next (CheckList p v)) h (checked_says p v (h (GreyList v))).1 u low
-  roots_known (ShadeRoot p v hand) e f k u low =
+  roots_known (ShadeRoot p v list) e f k u low =
       let more = shaded_roots W p v f.1 in
-      root_is_grey p v hand u (omega arith) k
-  roots_known (PutRoots p hand) e f k u low = k u low
+      root_is_grey p v list u (omega arith) k
+  roots_known (PutRoots p list) e f k u low = k u low
   roots_known Look e f k u low = absurd (let z : false ≡ true = e in cc)
   roots_known (Enter seen) e f k u low = absurd (let z : false ≡ true = e in cc)
   roots_known _ e f k u low = absurd (omega arith)
@@ -139,9 +138,9 @@ turn_of W t (CheckList p u) w k = either_row (IsTurnOf t) (eqb w 0)
     (cond (ltb (u + 1) p.threads) (CheckList p (u + 1)) (SetCursor p)) (Reopen p)
     (either_row (IsTurnOf t) (ltb (u + 1) p.threads) (CheckList p (u + 1)) (SetCursor p) k k) k
 turn_of W t (SetCursor p) w k = k
-turn_of W t (ShadeRoot p u hand) w k = either_row (IsTurnOf t) (ltb (u + 1) p.threads)
+turn_of W t (ShadeRoot p u list) w k = either_row (IsTurnOf t) (ltb (u + 1) p.threads)
     (ShadeRoot p (u + 1) (root_block W u)) (PutRoots p (root_block W u)) k k
-turn_of W t (PutRoots p hand) w k = k
+turn_of W t (PutRoots p list) w k = k
 turn_of W t _ w k = tt
 
 -- an event of another thread at a closed gate
@@ -220,13 +219,13 @@ module _ (c : Config) (h : Heap) (held : IsHeld c h) where
   changing_held r e f a room = held_after c h (gate_want c.width r) (gate_stores c r e f a room) held
 
 -- at the flip no block is grey
-pub none_at_flip : (c : Config) (h : Heap) (gs : ℕ → Gating) (hs : ℕ → Holding) (t : ℕ)
+pub none_at_flip : (c : Config) (h : Heap) (gs : ℕ → Gating) (hs : ℕ → WorkInHand) (t : ℕ)
     → PhaseKept (extent c) h hs → (p : Pass) → IsChangingPhase c h gs hs t (Flip p)
     → (x : ℕ) → is_grey (h (ColourOf x)) ≡ false
 none_at_flip c h gs hs t k p i = none_is_grey c.threads h (λ u. grey_held (hs u)) k.grey (λ u low.
     let none = nobody_holds c h gs hs t (Flip p) i refl refl u low in
     let below : u < p.threads = subst (λ n. u < n) (sym i.at.threads) low in (
       i.knows.lists u below,
-      ap (λ (w : Holding). w.hand) none,
-      ap (λ (w : Holding). w.scan) none,
+      ap (λ (w : WorkInHand). w.list) none,
+      ap (λ (w : WorkInHand). w.scan) none,
     ))

@@ -12,17 +12,15 @@ use Rattle.block_store.specs.Places.{Extent, extent, Phase, Cursor, GreyList, Co
 use Rattle.block_store.specs.Registers.{root_block}
 use Rattle.block_store.specs.Payloads.{target}
 use Rattle.block_store.specs.Widths.{payloads}
-use Rattle.block_store.proofs.ColourWords.{black-next, black-white, grey-white, not_free_black, not_free_grey, not_grey_black, colours}
-use Rattle.block_store.proofs.Functions.{changed_self}
-use Rattle.block_store.proofs.Registers.{root_some}
+use Rattle.block_store.proofs.Lemmas.{black-next, black-white, changed_self, colours, grey-white, not_free_black, not_free_grey, not_grey_black, root_some}
 use Rattle.heap_machine.specs.Gates.{gate_want, gate_got, closed_by, list_checked, look_to_close, root_shaded, is_of_pass, is_empty, GateFits}
 use Rattle.heap_machine.specs.Gating.{Gating, Closing, is_closing, closed_word, open_word}
-use Rattle.heap_machine.specs.Grey.{GreyHolding, GreyKept, Stands}
-use Rattle.heap_machine.specs.Holdings.{Holding, holds_nothing, grey_held, tricolour_held, free_held, sweep_held}
+use Rattle.heap_machine.specs.Grey.{GreyInHand, GreyKept, Stands}
+use Rattle.heap_machine.specs.WorkInHand.{WorkInHand, holds_nothing, grey_held, tricolour_held, free_held, sweep_held}
 use Rattle.heap_machine.specs.Operations.{Exchange, place_of, heap_after}
 use Rattle.heap_machine.specs.PhaseKept.{PhaseKept}
 use Rattle.heap_machine.specs.Solid.{NotFree}
-use Rattle.heap_machine.specs.ChangingPhase.{turns_over, in_pass, changing_gating, changing_holding, MayTurn, IsChangingPhase}
+use Rattle.heap_machine.specs.ChangingPhase.{turns_over, in_pass, changing_gating, changing_in_hand, MayTurn, IsChangingPhase}
 use Rattle.heap_machine.specs.declared.gate.GateRow.{GateRow}
 use Rattle.heap_machine.specs.declared.gate.GateRow.TheVariants.{Look, Enter, Entered, Leave, Left, CloseLook, Close, CheckList, SetCursor, Flip, Reopen, ShadeRoot, PutRoots, Start, TurnedOver, StartedCycle, KeptOut}
 use Rattle.heap_machine.specs.declared.pass.Pass.{Pass}
@@ -39,8 +37,8 @@ use Rattle.heap_machine.proofs.Turnovers.{closing_pass, empty_gate, of_pass}
 use Rattle.heap_machine.proofs.GateRows.{either_row}
 
 -- a row at which its thread holds w
-abbrev Holds : Holding → GateRow → Type 0
-Holds w r = changing_holding r ≡ w
+abbrev Holds : WorkInHand → GateRow → Type 0
+Holds w r = changing_in_hand r ≡ w
 
 looked_holds : (p : Pass) (w : ℕ) → Holds holds_nothing (look_to_close p w)
 looked_holds p w = either_row (Holds holds_nothing) (is_of_pass p w) (cond (is_empty w) (Close p w) KeptOut) KeptOut (either_row (Holds holds_nothing) (is_empty w) (Close p w) KeptOut refl refl) refl
@@ -48,23 +46,23 @@ looked_holds p w = either_row (Holds holds_nothing) (is_of_pass p w) (cond (is_e
 checked_holds : (p : Pass) (u w : ℕ) → Holds holds_nothing (list_checked p u w)
 checked_holds p u w = either_row (Holds holds_nothing) (eqb w 0) (cond (ltb (u + 1) p.threads) (CheckList p (u + 1)) (SetCursor p)) (Reopen p) (either_row (Holds holds_nothing) (ltb (u + 1) p.threads) (CheckList p (u + 1)) (SetCursor p) refl refl) refl
 
--- the roots in the hand
-abbrev in_hand : ℕ → Holding
-in_hand a = record holds_nothing { hand = a; emptied = true }
+-- the roots in the private list
+abbrev in_hand : ℕ → WorkInHand
+in_hand a = record holds_nothing { list = a; emptied = true }
 
 shaded_holds : (W : Width) (p : Pass) (u : ℕ) → Holds (in_hand (root_block W u)) (root_shaded W p u)
 shaded_holds W p u = either_row (Holds (in_hand (root_block W u))) (ltb (u + 1) p.threads) (ShadeRoot p (u + 1) (root_block W u)) (PutRoots p (root_block W u)) refl refl
 
-module _ (e : Extent) (h : Heap) (hs : ℕ → Holding) (k : PhaseKept e h hs) (t : ℕ)
+module _ (e : Extent) (h : Heap) (hs : ℕ → WorkInHand) (k : PhaseKept e h hs) (t : ℕ)
     (low : t < e.threads) where
   -- the thread goes on and holds what it held
-  still : (g : Heap) (w : Holding) → hs t ≡ w → PhaseKept e g hs → PhaseKept e g (changed hs t w)
-  still g w is kept = subst (λ (ws : ℕ → Holding). PhaseKept e g ws) (sym (changed_self hs t w is)) kept
+  still : (g : Heap) (w : WorkInHand) → hs t ≡ w → PhaseKept e g hs → PhaseKept e g (changed hs t w)
+  still g w is kept = subst (λ (ws : ℕ → WorkInHand). PhaseKept e g ws) (sym (changed_self hs t w is)) kept
 
-  grey_goes : (g : Heap) (w : Holding)
+  grey_goes : (g : Heap) (w : WorkInHand)
       → GreyKept e.threads g (changed (λ u. grey_held (hs u)) t (grey_held w))
       → GreyKept e.threads g (λ u. grey_held (changed hs t w u))
-  grey_goes g w kept = subst (λ (ws : ℕ → GreyHolding). GreyKept e.threads g ws)
+  grey_goes g w kept = subst (λ (ws : ℕ → GreyInHand). GreyKept e.threads g ws)
       (part_changed grey_held hs t w) kept
 
   -- nothing is grey, so the own list is empty
@@ -76,7 +74,7 @@ module _ (e : Extent) (h : Heap) (hs : ℕ → Holding) (k : PhaseKept e h hs) (
         let z : true ≡ false = sym grey ∙ none (h (GreyList t)) in cc)
   ]
 
-  -- in Sweep, where nothing is grey: the thread has an empty hand to shade the roots into
+  -- in Sweep, where nothing is grey: the thread has an empty private list to shade the roots into
   begins_roots : is_sweep (h Phase) ≡ true → hs t ≡ holds_nothing
       → ((x : ℕ) → is_grey (h (ColourOf x)) ≡ false)
       → PhaseKept e h (changed hs t (in_hand 0))
@@ -85,12 +83,12 @@ module _ (e : Extent) (h : Heap) (hs : ℕ → Holding) (k : PhaseKept e h hs) (
       from_sweep e h (changed hs t (in_hand 0)) sweep
       (grey_goes h (in_hand 0)
       (kept_held e.threads h (λ u. grey_held (hs u)) k.grey t low (grey_held (in_hand 0))
-      (subst (λ (v : GreyHolding). Stands (colours h) v.scan v.hand (k.grey.hands t)) held
-      (k.grey.hand_chain t low))
+      (subst (λ (v : GreyInHand). Stands (colours h) v.scan v.list (k.grey.private_lists t)) held
+      (k.grey.private_chain t low))
       (λ _. own_list none)))
       (reuse_stays e h hs k.reuse t (in_hand 0) low (ap free_held is) (ap sweep_held is))
 
-  -- a black root becomes grey in Sweep, in front of the hand
+  -- a black root becomes grey in Sweep, in front of the private list
   shades_root : (cycle y a : ℕ) → is_sweep (h Phase) ≡ true → cycle ≡ cycle_of (h Phase)
       → (y ≡ 0 → ⊥) → h (ColourOf y) ≡ black_word cycle → hs t ≡ in_hand a
       → PhaseKept e (put_at h (ColourOf y) (grey_word a)) (changed hs t (in_hand y))
@@ -154,24 +152,24 @@ module _ (e : Extent) (h : Heap) (hs : ℕ → Holding) (k : PhaseKept e h hs) (
       (λ sweep. absurd (let z : false ≡ true = sym parts.1 ∙ sweep in cc)))
 
 -- where the thread has closed the gate and holds nothing, nobody does
-pub nobody_holds : (c : Config) (h : Heap) (gs : ℕ → Gating) (hs : ℕ → Holding) (t : ℕ) (r : GateRow)
+pub nobody_holds : (c : Config) (h : Heap) (gs : ℕ → Gating) (hs : ℕ → WorkInHand) (t : ℕ) (r : GateRow)
     → IsChangingPhase c h gs hs t r → is_closing (changing_gating r).stand ≡ true
-    → changing_holding r ≡ holds_nothing → (u : ℕ) → u < c.threads → hs u ≡ holds_nothing
+    → changing_in_hand r ≡ holds_nothing → (u : ℕ) → u < c.threads → hs u ≡ holds_nothing
 nobody_holds c h gs hs t r i closing is u ul = elim (cases_eq t u) [
   | inl e ↦ subst (λ v. hs v ≡ holds_nothing) e (i.holds ∙ is)
   | inr ne ↦ i.alone closing u ul ne
 ]
 
-module _ (c : Config) (h : Heap) (gs : ℕ → Gating) (hs : ℕ → Holding) (t : ℕ)
+module _ (c : Config) (h : Heap) (gs : ℕ → Gating) (hs : ℕ → WorkInHand) (t : ℕ)
     (k : PhaseKept (extent c) h hs) where
   abbrev Goes : Heap → GateRow → Type 0
-  Goes g r = PhaseKept (extent c) g (changed hs t (changing_holding r))
+  Goes g r = PhaseKept (extent c) g (changed hs t (changing_in_hand r))
 
   -- the thread goes on and holds nothing, as before
   quiet : (g : Heap) (r r' : GateRow) → IsChangingPhase c h gs hs t r → Holds holds_nothing r
       → Holds holds_nothing r' → PhaseKept (extent c) g hs → Goes g r'
   quiet g r r' i is is' kept =
-      still (extent c) h hs k t i.thread g (changing_holding r') (i.holds ∙ is ∙ sym is') kept
+      still (extent c) h hs k t i.thread g (changing_in_hand r') (i.holds ∙ is ∙ sym is') kept
 
   closed : (p : Pass) (seen : ℕ) → IsChangingPhase c h gs hs t (Close p seen)
       → MayTurn (extent c) (Close p seen) h → h Phase ≡ seen
@@ -210,7 +208,7 @@ module _ (c : Config) (h : Heap) (gs : ℕ → Gating) (hs : ℕ → Holding) (t
 
   pub changing_rules : (r : GateRow) → IsChangingPhase c h gs hs t r → MayTurn (extent c) r h
       → PhaseKept (extent c) (heap_after h (gate_want c.width r))
-      (changed hs t (changing_holding (gate_got c.width r (h (place_of (gate_want c.width r))))))
+      (changed hs t (changing_in_hand (gate_got c.width r (h (place_of (gate_want c.width r))))))
   changing_rules (CloseLook p) i may = quiet h (CloseLook p) (look_to_close p (h Phase)) i refl (looked_holds p (h Phase)) k
   changing_rules (Close p seen) i may = closes p seen i may
   changing_rules (CheckList p u) i may = quiet h (CheckList p u) (list_checked p u (h (GreyList u))) i refl (checked_holds p u (h (GreyList u))) k
@@ -231,18 +229,18 @@ module _ (c : Config) (h : Heap) (gs : ℕ → Gating) (hs : ℕ → Holding) (t
       let of = pass_is p (Reopen p) i refl in
       quiet (put_at h Phase v) (Reopen p) TurnedOver i refl refl
       (phase_stays (extent c) h hs k v (parts.3 ∙ of.0) (parts.1 ∙ sym i.fits.mark ∙ of.1))
-  changing_rules (ShadeRoot p u hand) i may =
-      let of = pass_is p (ShadeRoot p u hand) i refl in
+  changing_rules (ShadeRoot p u list) i may =
+      let of = pass_is p (ShadeRoot p u list) i refl in
       let y = root_block c.width u in
       let some = root_some c.width u in
-      subst (λ (w : Holding). PhaseKept (extent c) (put_at h (ColourOf y) (grey_word hand)) (changed hs t w))
+      subst (λ (w : WorkInHand). PhaseKept (extent c) (put_at h (ColourOf y) (grey_word list)) (changed hs t w))
       (sym (shaded_holds c.width p u))
-      (shades_root (extent c) h hs k t i.thread p.cycle y hand (sym of.1 ∙ i.fits.0.sweep) of.0
+      (shades_root (extent c) h hs k t i.thread p.cycle y list (sym of.1 ∙ i.fits.0.sweep) of.0
       (λ z. omega arith) may i.holds)
-  changing_rules (PutRoots p hand) i may =
-      let of = pass_is p (PutRoots p hand) i refl in
-      subst (λ u. PhaseKept (extent c) (put_at h (GreyList u) hand) (changed hs t holds_nothing)) (sym i.own)
-      (puts_roots (extent c) h hs k t i.thread hand (sym of.1 ∙ i.fits.sweep) i.holds)
+  changing_rules (PutRoots p list) i may =
+      let of = pass_is p (PutRoots p list) i refl in
+      subst (λ u. PhaseKept (extent c) (put_at h (GreyList u) list) (changed hs t holds_nothing)) (sym i.own)
+      (puts_roots (extent c) h hs k t i.thread list (sym of.1 ∙ i.fits.sweep) i.holds)
   changing_rules (Start p) i may =
       let of = pass_is p (Start p) i refl in
       quiet (put_at h Phase (open_word (p.cycle + 1) false)) (Start p) (StartedCycle (p.cycle + 1)) i refl refl
@@ -254,7 +252,7 @@ module _ (c : Config) (h : Heap) (gs : ℕ → Gating) (hs : ℕ → Holding) (t
   changing_rules _ i may = absurd (let z : false ≡ true = i.turns in cc)
 
 -- to go in or out keeps what a heap keeps in each phase
-module _ (e : Extent) (h : Heap) (hs : ℕ → Holding) (k : PhaseKept e h hs) where
+module _ (e : Extent) (h : Heap) (hs : ℕ → WorkInHand) (k : PhaseKept e h hs) where
   pub passing_rules : (r : GateRow) → turns_over r ≡ false → GateFits r
       → (r ≡ Leave → 1 ≤ inside_of (h Phase))
       → PhaseKept e (heap_after h (gate_want e.width r)) hs

@@ -2,17 +2,16 @@
 use Rattle.std.proofs.Common.{◌≡◌, ◌≢◌, ℕ, zero, suc, ◌+◌, ◌-◌, ◌≤◌, ◌<◌, ◌&&◌, Bool, true, false, cond, eqb, refl, arith, subst, sym, ap, ◌∙◌, List, [], ◌∷◌, length, inl, inr, eq-eqb, ne_eqb}
 use Rattle.std.proofs.lemmas.Bool.{cases_eq, cases_Bool, and_from}
 use Rattle.block_store.specs.Colours.{is_free, link, free_word}
-use Rattle.block_store.proofs.ColourWords.{link-free, free_free, colours}
+use Rattle.block_store.proofs.Lemmas.{bit_le, bit_one, changed_both, colours, free_free, link-free, total_bits, total_changed, total_part, total_parts, total_same}
 use Rattle.block_store.specs.Heaps.{Heap, put_at}
 use Rattle.block_store.specs.Phases.{bit}
 use Rattle.block_store.specs.Places.{Extent, Place, Phase, Cursor, FreeCount, GreyList, FreeList, ColourOf, OwnerOf, ShapeOf, PayloadOf, is_block}
 use Rattle.heap_machine.specs.Chains.{Chain}
 use Rattle.block_store.specs.Counts.{changed, times, total}
-use Rattle.heap_machine.specs.FreeBlocks.{FreeHolding, FreeOf, FreeKept, is_of_free}
+use Rattle.heap_machine.specs.FreeBlocks.{FreeInHand, FreeOf, FreeKept, is_of_free}
 use Rattle.heap_machine.specs.Operations.{Operation, Load, Exchange, CompareExchange, FetchAdd, FetchSub, place_of, heap_after}
 use Rattle.heap_machine.proofs.ChainLaws.{Chain-zero, Chain-step, Chain-outside, Chain-front}
 use Rattle.heap_machine.proofs.GreyBlocks.{first_stands}
-use Rattle.block_store.proofs.Functions.{changed_both, total_changed, total_part, total_parts, total_same, total_bits, bit_one, bit_le}
 use Rattle.block_store.proofs.Indexes.{block_is}
 
 abbrev free_lists : Heap → ℕ → ℕ
@@ -74,68 +73,68 @@ same_free colour y v old new x = elim (cases_eq y x) [
 ]
 
 -- thread t goes on to hold w
-module _ (ex : Extent) (heads colour : ℕ → ℕ) (count : ℕ) (fs : ℕ → FreeHolding)
+module _ (ex : Extent) (heads colour : ℕ → ℕ) (count : ℕ) (fs : ℕ → FreeInHand)
     (k : FreeOf ex heads colour count fs) (t : ℕ) (low : t < ex.threads) where
   -- no list and no colour is written
-  goes : (v : ℕ) (w : FreeHolding) (H : List ℕ) → Chain colour w.hand H
-      → ((x : ℕ) → times x H + times x w.held ≡ times x (k.hands t) + times x (fs t).held)
+  goes : (v : ℕ) (w : FreeInHand) (H : List ℕ) → Chain colour w.list H
+      → ((x : ℕ) → times x H + times x w.held ≡ times x (k.private_lists t) + times x (fs t).held)
       → v + w.reserved + w.freed ≡ count + (fs t).reserved + (fs t).freed
       → length w.held ≤ w.reserved
       → (w.emptied ≡ true → heads t ≡ 0)
       → FreeOf ex heads colour v (changed fs t w)
   goes v w H chain same sums room empty = record {
     lists = k.lists;
-    hands = changed k.hands t H;
+    private_lists = changed k.private_lists t H;
     list_chain = k.list_chain;
-    hand_chain = λ s l. elim (cases_eq t s) [
+    private_chain = λ s l. elim (cases_eq t s) [
       | inl e ↦ rw (eq-eqb t s e) chain
-      | inr ne ↦ rw (ne_eqb t s ne) (k.hand_chain s l)
+      | inr ne ↦ rw (ne_eqb t s ne) (k.private_chain s l)
     ];
     once = λ x.
-        let q = total_changed (times x) ex.threads k.hands t H low in
-        let r = total_changed (λ (z : FreeHolding). times x z.held) ex.threads fs t w low in
+        let q = total_changed (times x) ex.threads k.private_lists t H low in
+        let r = total_changed (λ (z : FreeInHand). times x z.held) ex.threads fs t w low in
         omega (arith, k.once x, same x);
     credit =
-        let q = total_changed (λ (z : FreeHolding). z.reserved) ex.threads fs t w low in
-        let r = total_changed (λ (z : FreeHolding). z.freed) ex.threads fs t w low in
+        let q = total_changed (λ (z : FreeInHand). z.reserved) ex.threads fs t w low in
+        let r = total_changed (λ (z : FreeInHand). z.freed) ex.threads fs t w low in
         omega (arith, k.credit);
-    room = λ s l. changed_both (λ _ (z : FreeHolding). length z.held ≤ z.reserved) fs t w s
+    room = λ s l. changed_both (λ _ (z : FreeInHand). length z.held ≤ z.reserved) fs t w s
         (λ _. room) (λ _. k.room s l);
-    emptied = λ s l. changed_both (λ u (z : FreeHolding). z.emptied ≡ true → heads u ≡ 0) fs t w s
+    emptied = λ s l. changed_both (λ u (z : FreeInHand). z.emptied ≡ true → heads u ≡ 0) fs t w s
         (λ e. subst (λ u. w.emptied ≡ true → heads u ≡ 0) e empty) (λ _. k.emptied s l);
   }
 
   -- a is written into the list of u: no block is lost between that list and what t holds, and
   -- another thread's list is emptied
-  lists_goes : (u a : ℕ) (w : FreeHolding) (L H : List ℕ) → u < ex.threads → Chain colour a L
-      → Chain colour w.hand H
-      → ((x : ℕ) → times x L + times x H ≡ times x (k.lists u) + times x (k.hands t))
+  lists_goes : (u a : ℕ) (w : FreeInHand) (L H : List ℕ) → u < ex.threads → Chain colour a L
+      → Chain colour w.list H
+      → ((x : ℕ) → times x L + times x H ≡ times x (k.lists u) + times x (k.private_lists t))
       → w.held ≡ (fs t).held → w.reserved ≡ (fs t).reserved → w.freed ≡ (fs t).freed
       → (w.emptied ≡ true → cond (eqb u t) a (heads t) ≡ 0)
       → ((u ≡ t → ⊥) → a ≡ 0)
       → FreeOf ex (λ s. cond (eqb u s) a (heads s)) colour count (changed fs t w)
-  lists_goes u a w L H ulow chain hand same held reserved freed empty mine = record {
+  lists_goes u a w L H ulow chain list same held reserved freed empty mine = record {
     lists = changed k.lists u L;
-    hands = changed k.hands t H;
+    private_lists = changed k.private_lists t H;
     list_chain = λ s l. elim (cases_eq u s) [
       | inl e ↦ rw (eq-eqb u s e) chain
       | inr ne ↦ rw (ne_eqb u s ne) (k.list_chain s l)
     ];
-    hand_chain = λ s l. elim (cases_eq t s) [
-      | inl e ↦ rw (eq-eqb t s e) hand
-      | inr ne ↦ rw (ne_eqb t s ne) (k.hand_chain s l)
+    private_chain = λ s l. elim (cases_eq t s) [
+      | inl e ↦ rw (eq-eqb t s e) list
+      | inr ne ↦ rw (ne_eqb t s ne) (k.private_chain s l)
     ];
     once = λ x.
         let p = total_changed (times x) ex.threads k.lists u L ulow in
-        let q = total_changed (times x) ex.threads k.hands t H low in
-        let r = total_changed (λ (z : FreeHolding). times x z.held) ex.threads fs t w low in
+        let q = total_changed (times x) ex.threads k.private_lists t H low in
+        let r = total_changed (λ (z : FreeInHand). times x z.held) ex.threads fs t w low in
         let i : times x w.held ≡ times x (fs t).held = ap (times x) held in
         omega (arith, k.once x, same x);
     credit =
-        let q = total_changed (λ (z : FreeHolding). z.reserved) ex.threads fs t w low in
-        let r = total_changed (λ (z : FreeHolding). z.freed) ex.threads fs t w low in
+        let q = total_changed (λ (z : FreeInHand). z.reserved) ex.threads fs t w low in
+        let r = total_changed (λ (z : FreeInHand). z.freed) ex.threads fs t w low in
         omega (arith, k.credit, reserved, freed);
-    room = λ s l. changed_both (λ _ (z : FreeHolding). length z.held ≤ z.reserved) fs t w s
+    room = λ s l. changed_both (λ _ (z : FreeInHand). length z.held ≤ z.reserved) fs t w s
         (λ _. (let i : length w.held ≡ length (fs t).held = ap length held in
         omega (arith, k.room t low, reserved)))
         (λ _. k.room s l);
@@ -149,11 +148,11 @@ module _ (ex : Extent) (heads colour : ℕ → ℕ) (count : ℕ) (fs : ℕ → 
   }
 
   -- v is written as the colour of block y, which is Free exactly where t holds it
-  colour_goes : (y v : ℕ) (w : FreeHolding) (H : List ℕ) → is_block ex y ≡ true
-      → times y (k.hands t) + times y (fs t).held ≡ bit (is_free (colour y))
-      → Chain (λ x. cond (eqb y x) v (colour x)) w.hand H
+  colour_goes : (y v : ℕ) (w : FreeInHand) (H : List ℕ) → is_block ex y ≡ true
+      → times y (k.private_lists t) + times y (fs t).held ≡ bit (is_free (colour y))
+      → Chain (λ x. cond (eqb y x) v (colour x)) w.list H
       → ((x : ℕ) → times x H + times x w.held + bit (eqb y x && is_free (colour y))
-      ≡ times x (k.hands t) + times x (fs t).held + bit (eqb y x && is_free v))
+      ≡ times x (k.private_lists t) + times x (fs t).held + bit (eqb y x && is_free v))
       → w.reserved + w.freed + bit (is_free (colour y))
       ≡ (fs t).reserved + (fs t).freed + bit (is_free v)
       → length w.held ≤ w.reserved
@@ -162,56 +161,56 @@ module _ (ex : Extent) (heads colour : ℕ → ℕ) (count : ℕ) (fs : ℕ → 
       → FreeOf ex heads (λ x. cond (eqb y x) v (colour x)) count (changed fs t w)
   colour_goes y v w H here own chain same sums room empty some high =
       let all = k.once y ∙ ap (λ b. bit (b && is_free (colour y))) here in
-      let pt = total_part ex.threads (λ s. times y (k.hands s)) t low in
+      let pt = total_part ex.threads (λ s. times y (k.private_lists s)) t low in
       let qt = total_part ex.threads (λ s. times y (fs s).held) t low in
       record {
         lists = k.lists;
-        hands = changed k.hands t H;
+        private_lists = changed k.private_lists t H;
         list_chain = λ s l.
             let p = total_part ex.threads (λ u. times y (k.lists u)) s l in
             Chain-outside colour y v (k.lists s) (heads s) (omega arith) (k.list_chain s l);
-        hand_chain = λ s l. elim (cases_eq t s) [
+        private_chain = λ s l. elim (cases_eq t s) [
           | inl e ↦ rw (eq-eqb t s e) chain
           | inr ne ↦
-              let p = total_parts ex.threads (λ u. times y (k.hands u)) t s low l ne in
-              rw (ne_eqb t s ne) (Chain-outside colour y v (k.hands s) (fs s).hand (omega arith)
-              (k.hand_chain s l))
+              let p = total_parts ex.threads (λ u. times y (k.private_lists u)) t s low l ne in
+              rw (ne_eqb t s ne) (Chain-outside colour y v (k.private_lists s) (fs s).list (omega arith)
+              (k.private_chain s l))
         ];
         once = λ x.
-            let q = total_changed (times x) ex.threads k.hands t H low in
-            let r = total_changed (λ (z : FreeHolding). times x z.held) ex.threads fs t w low in
+            let q = total_changed (times x) ex.threads k.private_lists t H low in
+            let r = total_changed (λ (z : FreeInHand). times x z.held) ex.threads fs t w low in
             let o = one_colour ex colour x y v here in
             omega (arith, k.once x, same x);
         credit =
-            let q = total_changed (λ (z : FreeHolding). z.reserved) ex.threads fs t w low in
-            let r = total_changed (λ (z : FreeHolding). z.freed) ex.threads fs t w low in
+            let q = total_changed (λ (z : FreeInHand). z.reserved) ex.threads fs t w low in
+            let r = total_changed (λ (z : FreeInHand). z.freed) ex.threads fs t w low in
             let c = count_one colour ex.blocks y v some high in
             omega (arith, k.credit);
-        room = λ s l. changed_both (λ _ (z : FreeHolding). length z.held ≤ z.reserved) fs t w s
+        room = λ s l. changed_both (λ _ (z : FreeInHand). length z.held ≤ z.reserved) fs t w s
             (λ _. room) (λ _. k.room s l);
         emptied = λ s l. changed_both
-            (λ u (z : FreeHolding). z.emptied ≡ true → heads u ≡ 0) fs t w s
+            (λ u (z : FreeInHand). z.emptied ≡ true → heads u ≡ 0) fs t w s
             (λ e. subst (λ u. w.emptied ≡ true → heads u ≡ 0) e empty) (λ _. k.emptied s l);
       }
 
 -- a block that is not Free gets another colour that is not
-pub free_other_colour : (ex : Extent) (h : Heap) (fs : ℕ → FreeHolding) (y v : ℕ)
+pub free_other_colour : (ex : Extent) (h : Heap) (fs : ℕ → FreeInHand) (y v : ℕ)
     → is_free (h (ColourOf y)) ≡ false → is_free v ≡ false
     → FreeKept ex h fs → FreeKept ex (put_at h (ColourOf y) v) fs
 free_other_colour ex h fs y v old new k =
     let none = k.once y ∙ and_bit (is_block ex y) (is_free (h (ColourOf y))) old in
     record {
       lists = k.lists;
-      hands = k.hands;
+      private_lists = k.private_lists;
       room = k.room;
       emptied = k.emptied;
       list_chain = λ s l.
           let p = total_part ex.threads (λ u. times y (k.lists u)) s l in
           Chain-outside (colours h) y v (k.lists s) (h (FreeList s)) (omega arith)
           (k.list_chain s l);
-      hand_chain = λ s l.
-          let p = total_part ex.threads (λ u. times y (k.hands u)) s l in
-          Chain-outside (colours h) y v (k.hands s) (fs s).hand (omega arith) (k.hand_chain s l);
+      private_chain = λ s l.
+          let p = total_part ex.threads (λ u. times y (k.private_lists u)) s l in
+          Chain-outside (colours h) y v (k.private_lists s) (fs s).list (omega arith) (k.private_chain s l);
       once = λ x. k.once x ∙ ap (λ b. bit (is_block ex x && b))
           (same_free (colours h) y v old new x);
       credit = k.credit ∙ total_same ex.blocks (λ x. bit (is_free (h (ColourOf (suc x)))))
@@ -220,7 +219,7 @@ free_other_colour ex h fs y v old new k =
     }
 
 -- a write of any other place
-other_write : (ex : Extent) (h : Heap) (fs : ℕ → FreeHolding) (p : Place) (v : ℕ)
+other_write : (ex : Extent) (h : Heap) (fs : ℕ → FreeInHand) (p : Place) (v : ℕ)
     → is_of_free p ≡ false
     → FreeKept ex h fs → FreeKept ex (put_at h p v) fs
 other_write ex h fs Phase v o k = k
@@ -233,7 +232,7 @@ other_write ex h fs (OwnerOf x) v o k = k
 other_write ex h fs (ShapeOf x) v o k = k
 other_write ex h fs (PayloadOf x j) v o k = k
 
-pub free_other : (ex : Extent) (h : Heap) (fs : ℕ → FreeHolding) (o : Operation)
+pub free_other : (ex : Extent) (h : Heap) (fs : ℕ → FreeInHand) (o : Operation)
     → is_of_free (place_of o) ≡ false
     → FreeKept ex h fs → FreeKept ex (heap_after h o) fs
 free_other ex h fs (Load p) away k = k
@@ -245,61 +244,61 @@ free_other ex h fs (CompareExchange p old v) away k = elim (cases_Bool (eqb (h p
 free_other ex h fs (FetchAdd p v) away k = other_write ex h fs p (h p + v) away k
 free_other ex h fs (FetchSub p v) away k = other_write ex h fs p (h p - v) away k
 
-module _ (ex : Extent) (h : Heap) (fs : ℕ → FreeHolding) (k : FreeKept ex h fs) (t : ℕ)
-    (low : t < ex.threads) (old : FreeHolding) (is : fs t ≡ old) where
-  hand : Chain (colours h) old.hand (k.hands t)
-  hand = subst (λ (w : FreeHolding). Chain (colours h) w.hand (k.hands t)) is (k.hand_chain t low)
+module _ (ex : Extent) (h : Heap) (fs : ℕ → FreeInHand) (k : FreeKept ex h fs) (t : ℕ)
+    (low : t < ex.threads) (old : FreeInHand) (is : fs t ≡ old) where
+  list : Chain (colours h) old.list (k.private_lists t)
+  list = subst (λ (w : FreeInHand). Chain (colours h) w.list (k.private_lists t)) is (k.private_chain t low)
 
   held : (x : ℕ) → times x (fs t).held ≡ times x old.held
-  held x = ap (λ (w : FreeHolding). times x w.held) is
+  held x = ap (λ (w : FreeInHand). times x w.held) is
 
   held_is : (fs t).held ≡ old.held
-  held_is = ap (λ (w : FreeHolding). w.held) is
+  held_is = ap (λ (w : FreeInHand). w.held) is
 
   reserved_is : (fs t).reserved ≡ old.reserved
-  reserved_is = ap (λ (w : FreeHolding). w.reserved) is
+  reserved_is = ap (λ (w : FreeInHand). w.reserved) is
 
   freed_is : (fs t).freed ≡ old.freed
-  freed_is = ap (λ (w : FreeHolding). w.freed) is
+  freed_is = ap (λ (w : FreeInHand). w.freed) is
 
   room_is : length old.held ≤ old.reserved
-  room_is = subst (λ (w : FreeHolding). length w.held ≤ w.reserved) is (k.room t low)
+  room_is = subst (λ (w : FreeInHand). length w.held ≤ w.reserved) is (k.room t low)
 
   -- its own list is empty, where it was taken and none was put
   pub free_empty : old.emptied ≡ true → h (FreeList t) ≡ 0
-  free_empty e = k.emptied t low (ap (λ (w : FreeHolding). w.emptied) is ∙ e)
+  free_empty e = k.emptied t low (ap (λ (w : FreeInHand). w.emptied) is ∙ e)
 
   -- what it holds stays
   pub free_stays : FreeKept ex h (changed fs t old)
   free_stays = goes ex (free_lists h) (colours h) (h FreeCount) fs k t low (h FreeCount) old
-      (k.hands t) hand
+      (k.private_lists t) list
       (λ x. omega (arith, held x)) (omega (arith, reserved_is, freed_is)) room_is free_empty
 
-  -- a list is taken into an empty hand
-  pub free_takes : (v : ℕ) (emptied : Bool) → v < ex.threads → old.hand ≡ 0
+  -- a list is taken into an empty private list
+  pub free_takes : (v : ℕ) (emptied : Bool) → v < ex.threads → old.list ≡ 0
       → (emptied ≡ true → put_at h (FreeList v) 0 (FreeList t) ≡ 0)
       → FreeKept ex (put_at h (FreeList v) 0)
-      (changed fs t (record old { hand = h (FreeList v); emptied = emptied }))
+      (changed fs t (record old { list = h (FreeList v); emptied = emptied }))
   free_takes v emptied vlow none empty =
-      let nil : k.hands t ≡ [] =
-      Chain-zero (colours h) (k.hands t)
-      (subst (λ a. Chain (colours h) a (k.hands t)) none hand) in
+      let nil : k.private_lists t ≡ [] =
+      Chain-zero (colours h) (k.private_lists t)
+      (subst (λ a. Chain (colours h) a (k.private_lists t)) none list) in
       lists_goes ex (free_lists h) (colours h) (h FreeCount) fs k t low v 0
-      (record old { hand = h (FreeList v); emptied = emptied }) [] (k.lists v)
+      (record old { list = h (FreeList v); emptied = emptied }) [] (k.lists v)
       vlow refl (k.list_chain v vlow) (λ x. rw nil (omega arith)) (sym held_is)
       (sym reserved_is) (sym freed_is) empty (λ _. refl)
 
-  -- the hand is put in the own list, which is empty
+  -- the private list is put in the own list, which is empty
   pub free_puts : old.emptied ≡ true
-      → FreeKept ex (put_at h (FreeList t) old.hand)
-      (changed fs t (record old { hand = 0; emptied = false }))
+      → FreeKept ex (put_at h (FreeList t) old.list)
+      (changed fs t (record old { list = 0; emptied = false }))
   free_puts e =
       let nil : k.lists t ≡ [] =
       Chain-zero (colours h) (k.lists t)
       (subst (λ a. Chain (colours h) a (k.lists t)) (free_empty e) (k.list_chain t low)) in
-      lists_goes ex (free_lists h) (colours h) (h FreeCount) fs k t low t old.hand
-      (record old { hand = 0; emptied = false }) (k.hands t) []
-      low hand refl (λ x. rw nil (omega arith)) (sym held_is) (sym reserved_is) (sym freed_is)
+      lists_goes ex (free_lists h) (colours h) (h FreeCount) fs k t low t old.list
+      (record old { list = 0; emptied = false }) (k.private_lists t) []
+      low list refl (λ x. rw nil (omega arith)) (sym held_is) (sym reserved_is) (sym freed_is)
       (λ z. absurd (let y : false ≡ true = z in cc)) (λ away. absurd (away refl))
 
   -- the free count changes as what is reserved or freed does
@@ -310,56 +309,56 @@ module _ (ex : Extent) (h : Heap) (fs : ℕ → FreeHolding) (k : FreeKept ex h 
       (changed fs t (record old { reserved = reserved; freed = freed }))
   free_counts v reserved freed sums room =
       goes ex (free_lists h) (colours h) (h FreeCount) fs k t low v
-      (record old { reserved = reserved; freed = freed }) (k.hands t) hand
+      (record old { reserved = reserved; freed = freed }) (k.private_lists t) list
       (λ x. omega (arith, held x)) (omega (arith, reserved_is, freed_is)) room free_empty
 
-  -- an empty hand is let go
-  pub free_lets_go : old.hand ≡ 0
-      → FreeKept ex h (changed fs t (record old { hand = 0; emptied = false }))
+  -- an empty private list is let go
+  pub free_lets_go : old.list ≡ 0
+      → FreeKept ex h (changed fs t (record old { list = 0; emptied = false }))
   free_lets_go none =
       goes ex (free_lists h) (colours h) (h FreeCount) fs k t low (h FreeCount)
-      (record old { hand = 0; emptied = false }) (k.hands t)
-      (subst (λ a. Chain (colours h) a (k.hands t)) none hand)
+      (record old { list = 0; emptied = false }) (k.private_lists t)
+      (subst (λ a. Chain (colours h) a (k.private_lists t)) none list)
       (λ x. omega (arith, held x)) (omega (arith, reserved_is, freed_is)) room_is
       (λ z. absurd (let y : false ≡ true = z in cc))
 
-  -- the first block of the hand is held
-  pub free_collects : (xs : List ℕ) → old.hand ≢ 0
-      → ((x : ℕ) → times x xs ≡ bit (eqb x old.hand) + times x old.held)
+  -- the first block of the private list is held
+  pub free_collects : (xs : List ℕ) → old.list ≢ 0
+      → ((x : ℕ) → times x xs ≡ bit (eqb x old.list) + times x old.held)
       → length xs ≤ old.reserved
-      → FreeKept ex h (changed fs t (record old { hand = link (h (ColourOf old.hand)); held = xs }))
+      → FreeKept ex h (changed fs t (record old { list = link (h (ColourOf old.list)); held = xs }))
   free_collects xs ne same room =
-      let s = Chain-step (colours h) old.hand (k.hands t) hand ne in
+      let s = Chain-step (colours h) old.list (k.private_lists t) list ne in
       goes ex (free_lists h) (colours h) (h FreeCount) fs k t low (h FreeCount)
-      (record old { hand = link (h (ColourOf old.hand)); held = xs }) s.0 s.2
-      (λ x. (let q : times x (k.hands t)
-      ≡ bit (eqb x old.hand) + times x s.0 = ap (times x) s.1 in
+      (record old { list = link (h (ColourOf old.list)); held = xs }) s.0 s.2
+      (λ x. (let q : times x (k.private_lists t)
+      ≡ bit (eqb x old.list) + times x s.0 = ap (times x) s.1 in
       omega (arith, held x, same x)))
       (omega (arith, reserved_is, freed_is)) room free_empty
 
   front_count : (y x a : ℕ) (b : Bool) → b ≡ false
-      → bit (eqb x y) + a + bit (eqb y x && b) ≡ a + bit (eqb y x && is_free (free_word old.hand))
+      → bit (eqb x y) + a + bit (eqb y x && b) ≡ a + bit (eqb y x && is_free (free_word old.list))
   front_count y x a b live = elim (cases_eq y x) [
-    | inl e ↦ rw (eq-eqb y x e, eq-eqb x y (sym e), live, free_free old.hand) (omega arith)
+    | inl e ↦ rw (eq-eqb y x e, eq-eqb x y (sym e), live, free_free old.list) (omega arith)
     | inr ne ↦ rw (ne_eqb y x ne, ne_eqb x y (λ q. ne (sym q))) (omega arith)
   ]
 
-  -- a block that is not Free is freed, and is the first of the hand
+  -- a block that is not Free is freed, and is the first of the private list
   pub free_frees : (y : ℕ) → 1 ≤ y → y ≤ ex.blocks → is_free (h (ColourOf y)) ≡ false
-      → FreeKept ex (put_at h (ColourOf y) (free_word old.hand))
-      (changed fs t (record old { hand = y; freed = old.freed + 1 }))
+      → FreeKept ex (put_at h (ColourOf y) (free_word old.list))
+      (changed fs t (record old { list = y; freed = old.freed + 1 }))
   free_frees y some high live =
       let b0 : bit (is_free (h (ColourOf y))) ≡ 0 = ap bit live in
-      let b1 : bit (is_free (free_word old.hand)) ≡ 1 = ap bit (free_free old.hand) in
+      let b1 : bit (is_free (free_word old.list)) ≡ 1 = ap bit (free_free old.list) in
       let none = k.once y ∙ and_bit (is_block ex y) (is_free (h (ColourOf y))) live in
-      let pt = total_part ex.threads (λ u. times y (k.hands u)) t low in
+      let pt = total_part ex.threads (λ u. times y (k.private_lists u)) t low in
       let ph = total_part ex.threads (λ u. times y (fs u).held) t low in
-      colour_goes ex (free_lists h) (colours h) (h FreeCount) fs k t low y (free_word old.hand)
-      (record old { hand = y; freed = old.freed + 1 }) (y ∷ k.hands t) (block_is ex y some high)
+      colour_goes ex (free_lists h) (colours h) (h FreeCount) fs k t low y (free_word old.list)
+      (record old { list = y; freed = old.freed + 1 }) (y ∷ k.private_lists t) (block_is ex y some high)
       (omega arith)
-      (Chain-front (colours h) y (free_word old.hand) old.hand (k.hands t) (λ z. omega arith)
-      (link-free old.hand) (omega arith) hand)
-      (λ x. (let q = front_count y x (times x (k.hands t) + times x old.held)
+      (Chain-front (colours h) y (free_word old.list) old.list (k.private_lists t) (λ z. omega arith)
+      (link-free old.list) (omega arith) list)
+      (λ x. (let q = front_count y x (times x (k.private_lists t) + times x old.held)
       (is_free (h (ColourOf y))) live in omega (arith, held x)))
       (omega (arith, reserved_is, freed_is)) room_is free_empty some high
 
@@ -387,24 +386,24 @@ module _ (ex : Extent) (h : Heap) (fs : ℕ → FreeHolding) (k : FreeKept ex h 
       let here : times y old.held ≡ 1 + times y xs =
       same y ∙ ap (λ b. bit b + times y xs) (eq-eqb y y refl) in
       let ph = total_part ex.threads (λ u. times y (fs u).held) t low in
-      let pt = total_part ex.threads (λ u. times y (k.hands u)) t low in
+      let pt = total_part ex.threads (λ u. times y (k.private_lists u)) t low in
       let at = held y in
       colour_goes ex (free_lists h) (colours h) (h FreeCount) fs k t low y v
-      (record old { held = xs; reserved = reserved }) (k.hands t) (block_is ex y some high)
+      (record old { held = xs; reserved = reserved }) (k.private_lists t) (block_is ex y some high)
       (omega arith)
-      (Chain-outside (colours h) y v (k.hands t) old.hand (omega arith) hand)
+      (Chain-outside (colours h) y v (k.private_lists t) old.list (omega arith) list)
       (λ x. (let q = gone_count y x v (times x xs) (times x old.held) (is_free (h (ColourOf y)))
       (is_free v) (same x) free live in omega (arith, held x)))
       (omega (arith, reserved_is, freed_is)) room free_empty some high
 
 -- what the rule says of a block
-module _ (ex : Extent) (h : Heap) (fs : ℕ → FreeHolding) (k : FreeKept ex h fs) where
+module _ (ex : Extent) (h : Heap) (fs : ℕ → FreeInHand) (k : FreeKept ex h fs) where
   -- whether x is a Free block of the heap
   abbrev free_at : ℕ → Bool
   free_at x = is_block ex x && is_free (h (ColourOf x))
 
   pub free_once : (x : ℕ) → is_block ex x ≡ true → is_free (h (ColourOf x)) ≡ true
-      → total ex.threads (λ t. times x (k.lists t)) + total ex.threads (λ t. times x (k.hands t))
+      → total ex.threads (λ t. times x (k.lists t)) + total ex.threads (λ t. times x (k.private_lists t))
       + total ex.threads (λ t. times x (fs t).held) ≡ 1
   free_once x block free =
       k.once x ∙ ap bit (and_from (is_block ex x) (is_free (h (ColourOf x))) block free)
@@ -413,24 +412,24 @@ module _ (ex : Extent) (h : Heap) (fs : ℕ → FreeHolding) (k : FreeKept ex h 
   free_list t x low = let p = total_part ex.threads (λ u. times x (k.lists u)) t low in
       omega (arith, k.once x)
 
-  pub free_hand : (t x : ℕ) → t < ex.threads → times x (k.hands t) ≤ bit (free_at x)
-  free_hand t x low = let p = total_part ex.threads (λ u. times x (k.hands u)) t low in
+  pub free_private : (t x : ℕ) → t < ex.threads → times x (k.private_lists t) ≤ bit (free_at x)
+  free_private t x low = let p = total_part ex.threads (λ u. times x (k.private_lists u)) t low in
       omega (arith, k.once x)
 
   pub free_held : (t x : ℕ) → t < ex.threads → times x (fs t).held ≤ bit (free_at x)
   free_held t x low = let p = total_part ex.threads (λ u. times x (fs u).held) t low in
       omega (arith, k.once x)
 
-  -- the first block of a list, and of a hand
+  -- the first block of a list, and of a private list
   pub free_first : (t : ℕ) → t < ex.threads → h (FreeList t) ≢ 0 → free_at (h (FreeList t)) ≡ true
   free_first t low ne =
       let some = first_stands (colours h) (h (FreeList t)) (k.lists t) ne (k.list_chain t low) in
       bit_one (free_at (h (FreeList t))) (omega (arith, free_list t (h (FreeList t)) low))
 
-  pub free_in_hand : (t : ℕ) → t < ex.threads → (fs t).hand ≢ 0 → free_at (fs t).hand ≡ true
+  pub free_in_hand : (t : ℕ) → t < ex.threads → (fs t).list ≢ 0 → free_at (fs t).list ≡ true
   free_in_hand t low ne =
-      let some = first_stands (colours h) (fs t).hand (k.hands t) ne (k.hand_chain t low) in
-      bit_one (free_at (fs t).hand) (omega (arith, free_hand t (fs t).hand low))
+      let some = first_stands (colours h) (fs t).list (k.private_lists t) ne (k.private_chain t low) in
+      bit_one (free_at (fs t).list) (omega (arith, free_private t (fs t).list low))
 
   -- two threads hold no block both
   pub free_one_held : (t u x : ℕ) → t < ex.threads → u < ex.threads → 1 ≤ times x (fs t).held

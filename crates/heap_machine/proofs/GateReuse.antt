@@ -1,10 +1,9 @@
--- The events of the gate keep where Free blocks stand, what is claimed and what was passed.
+-- The events of the gate keep where Free blocks are, what is claimed and what was passed.
 use Rattle.std.proofs.Common.{◌≡◌, ℕ, ◌+◌, ◌-◌, ◌≤◌, ◌<◌, true, false, not, eqb, refl, arith, sym, ap, ◌∙◌, inl, inr, eqb-true}
 use Rattle.std.proofs.lemmas.Bool.{cases_Bool, and_parts}
-use Rattle.block_store.proofs.PhaseWords.{phase-more, phase-less}
+use Rattle.block_store.proofs.Lemmas.{black-white, grey-white, not_free_black, not_free_grey, phase-less, phase-more}
 use Rattle.block_store.specs.declared.PhaseWord.{PhaseWord}
 use Rattle.block_store.specs.declared.Width.{Width}
-use Rattle.block_store.proofs.ColourWords.{black-white, grey-white, not_free_black, not_free_grey}
 use Rattle.block_store.specs.Colours.{is_free, grey_word, white_word}
 use Rattle.block_store.specs.Heaps.{Heap, put_at}
 use Rattle.block_store.specs.Registers.{root_block}
@@ -12,7 +11,7 @@ use Rattle.block_store.specs.Phases.{inside_of, is_sweep, is_closed, cycle_of}
 use Rattle.block_store.specs.Places.{Extent, Phase, Cursor, GreyList}
 use Rattle.heap_machine.specs.Gates.{gate_want, is_empty, GateFits}
 use Rattle.heap_machine.specs.Gating.{Gating, GateOf, is_closing, is_outside, closed_word, open_word}
-use Rattle.heap_machine.specs.Holdings.{Holding, sweep_held}
+use Rattle.heap_machine.specs.WorkInHand.{WorkInHand, sweep_held}
 use Rattle.heap_machine.specs.Operations.{Exchange, heap_after}
 use Rattle.heap_machine.specs.ReuseKept.{ReuseKept}
 use Rattle.heap_machine.specs.Sweeping.{no_claim}
@@ -49,7 +48,7 @@ module _ (W : Width) (h : Heap) (P : Heap → Type 0) (k : P h)
       stays (h Phase - 1) (ap (λ (p : PhaseWord). p.cycle) less)
       (ap (λ (p : PhaseWord). p.sweep) less)
 
-module _ (e : Extent) (h : Heap) (hs : ℕ → Holding) (k : ReuseKept e h hs) where
+module _ (e : Extent) (h : Heap) (hs : ℕ → WorkInHand) (k : ReuseKept e h hs) where
   -- nothing is claimed
   abbrev NoClaims : Type 0
   NoClaims = (u : ℕ) → u < e.threads → sweep_held (hs u) ≡ no_claim
@@ -95,16 +94,16 @@ module _ (e : Extent) (h : Heap) (hs : ℕ → Holding) (k : ReuseKept e h hs) w
       let parts = open_parts p.cycle false in
       reuse_turns e h hs k (open_word p.cycle false) (none refl)
       (λ sweep. absurd (let z : false ≡ true = sym parts.1 ∙ sweep in cc))
-  changing_keeps gs g t low (ShadeRoot p u hand) is f at none first may =
+  changing_keeps gs g t low (ShadeRoot p u list) is f at none first may =
       let of = g.passes t low (ap (λ (w : Gating). is_outside w.stand) at) in
       let cycle : p.cycle ≡ cycle_of (h Phase) = sym (ap (λ (w : Gating). w.cycle) at) ∙ of.0 in
-      reuse_colour e h hs k (root_block e.width u) (grey_word hand)
-      (ap is_free may ∙ not_free_black p.cycle) (not_free_grey hand) (λ _. (
-        grey-white hand (cycle_of (h Phase)),
+      reuse_colour e h hs k (root_block e.width u) (grey_word list)
+      (ap is_free may ∙ not_free_black p.cycle) (not_free_grey list) (λ _. (
+        grey-white list (cycle_of (h Phase)),
         λ z. black-white p.cycle (sym may ∙ z ∙ ap white_word (sym cycle)),
       ))
-  changing_keeps gs g t low (PutRoots p hand) is f at none first may =
-      reuse_other e h hs k (Exchange (GreyList p.thread) hand) refl
+  changing_keeps gs g t low (PutRoots p list) is f at none first may =
+      reuse_other e h hs k (Exchange (GreyList p.thread) list) refl
   changing_keeps gs g t low (Start p) is f at none first may =
       let parts = open_parts (p.cycle + 1) false in
       reuse_turns e h hs k (open_word (p.cycle + 1) false) (none refl)

@@ -8,8 +8,7 @@ use Rattle.block_store.specs.Colours.{colour_of, grey_word, link}
 use Rattle.block_store.specs.Places.{extent, in_range, is_block}
 use Rattle.block_store.specs.Phases.{inside_of, is_closed, cycle_of}
 use Rattle.block_store.specs.Registers.{root_block}
-use Rattle.block_store.proofs.ColourWords.{colour-code, link-grey}
-use Rattle.block_store.proofs.Registers.{root_in, root_some, end_few, end_more}
+use Rattle.block_store.proofs.Lemmas.{colour-code, end_few, end_more, link-grey, root_in, root_some}
 use Rattle.heap_machine.specs.Gating.{closed_word, open_word}
 use Rattle.heap_machine.specs.Operations.{place_of, Fits}
 use Rattle.heap_machine.specs.Readings.{IsPhaseWord, CanHold, StoresHeld}
@@ -31,8 +30,8 @@ root_is c p u a low =
 -- each row is on a place of the heap
 pub gate_place : (c : Config) (r : GateRow) → GateFits r → GateAt c r → in_range (extent c) (place_of (gate_want c.width r)) ≡ true
 gate_place c (CheckList p u) f a = (let low : u < c.threads = subst (λ n. u < n) a.threads f.1 in lt-ltb u c.threads low)
-gate_place c (ShadeRoot p u hand) f a = root_is c p u a.0 f.1
-gate_place c (PutRoots p hand) f a = (let low : p.thread < c.threads = subst (λ n. p.thread < n) a.0.threads f.pass.thread in lt-ltb p.thread c.threads low)
+gate_place c (ShadeRoot p u list) f a = root_is c p u a.0 f.1
+gate_place c (PutRoots p list) f a = (let low : p.thread < c.threads = subst (λ n. p.thread < n) a.0.threads f.pass.thread in lt-ltb p.thread c.threads low)
 gate_place c _ f a = refl
 
 -- what holds of both rows of a choice holds of the one that is taken
@@ -58,9 +57,9 @@ gate_fits c (Close p seen) w f h = either GateFits (eqb w seen) (closed_by p) Ke
 gate_fits c (CheckList p u) w f h =
     either GateFits (eqb w 0) (cond (ltb (u + 1) p.threads) (CheckList p (u + 1)) (SetCursor p)) (Reopen p) (λ _. either GateFits (ltb (u + 1) p.threads) (CheckList p (u + 1)) (SetCursor p) (λ less. (f.0, ltb-true _ _ less)) (λ _. f.0)) (λ _. f.0)
 gate_fits c (SetCursor p) w f h = f
-gate_fits c (ShadeRoot p u hand) w f h =
+gate_fits c (ShadeRoot p u list) w f h =
     either GateFits (ltb (u + 1) p.threads) (ShadeRoot p (u + 1) (root_block c.width u)) (PutRoots p (root_block c.width u)) (λ less. (f.0, ltb-true _ _ less)) (λ _. f.0)
-gate_fits c (PutRoots p hand) w f h = f
+gate_fits c (PutRoots p list) w f h = f
 gate_fits c _ w f h = tt
 
 closed_at : (c : Config) (p : Pass) (b : Bool) → IsAt c p → GateAt c (cond b (ShadeRoot p 0 0) (CheckList p 0))
@@ -77,10 +76,10 @@ gate_at c (Close p seen) w f a = either (GateAt c) (eqb w seen) (closed_by p) Ke
 gate_at c (CheckList p u) w f a =
     either (GateAt c) (eqb w 0) (cond (ltb (u + 1) p.threads) (CheckList p (u + 1)) (SetCursor p)) (Reopen p) (λ _. either (GateAt c) (ltb (u + 1) p.threads) (CheckList p (u + 1)) (SetCursor p) (λ _. a) (λ _. a)) (λ _. a)
 gate_at c (SetCursor p) w f a = a
-gate_at c (ShadeRoot p u hand) w f a =
+gate_at c (ShadeRoot p u list) w f a =
     let below : u < c.threads = subst (λ n. u < n) a.0.threads f.1 in
     either (GateAt c) (ltb (u + 1) p.threads) (ShadeRoot p (u + 1) (root_block c.width u)) (PutRoots p (root_block c.width u)) (λ _. (a.0, root_in c.width (u + 1) u (omega arith))) (λ _. (a.0, root_in c.width c.threads u below))
-gate_at c (PutRoots p hand) w f a = a.0
+gate_at c (PutRoots p list) w f a = a.0
 gate_at c _ w f a = tt
 
 -- a word that counts one inside is not 0
@@ -109,8 +108,8 @@ open_held y s low =
     let same : cycle_of (open_word y s) ≡ y = e.3 in
     record { inside = rw i (omega arith); cycle = rw same low }
 
-grey_held : (c : Config) (hand : ℕ) → hand ≤ 65535 → hand ≤ c.blocks → IsSome (colour_of (grey_word hand)) × (link (grey_word hand) ≤ c.blocks)
-grey_held c hand small low = (rw (colour-code (Grey hand) small) refl, rw (link-grey hand) low)
+grey_held : (c : Config) (list : ℕ) → list ≤ 65535 → list ≤ c.blocks → IsSome (colour_of (grey_word list)) × (link (grey_word list) ≤ c.blocks)
+grey_held c list small low = (rw (colour-code (Grey list) small) refl, rw (link-grey list) low)
 
 -- what a part that changes the phase stores is what its place can hold
 pub gate_stores : (c : Config) (r : GateRow) → turns_over r ≡ true → GateFits r → GateAt c r → HasRoom r → StoresHeld c (gate_want c.width r)
@@ -120,13 +119,13 @@ gate_stores c (CheckList p u) e f a room = tt
 gate_stores c (SetCursor p) e f a room = (omega arith, omega arith)
 gate_stores c (Flip p) e f a room = open_held p.cycle true (omega (arith, f.pass.last))
 gate_stores c (Reopen p) e f a room = open_held p.cycle false (omega (arith, f.pass.last))
-gate_stores c (ShadeRoot p u hand) e f a room =
+gate_stores c (ShadeRoot p u list) e f a room =
     let below : u < c.threads = subst (λ n. u < n) a.0.threads f.1 in
     let few : c.threads ≤ 16 = subst (λ n. n ≤ 16) a.0.threads f.0.pass.few in
     let small = end_few c.width u (omega arith) in
     let more = end_more c.width u c.threads (omega arith) in
-    grey_held c hand (omega (arith, a.1)) (omega (arith, a.1, a.0.arrays))
-gate_stores c (PutRoots p hand) e f a room = omega (arith, a.1, a.0.arrays)
+    grey_held c list (omega (arith, a.1)) (omega (arith, a.1, a.0.arrays))
+gate_stores c (PutRoots p list) e f a room = omega (arith, a.1, a.0.arrays)
 gate_stores c (Start p) e f a room = open_held (p.cycle + 1) false (omega (arith, room))
 gate_stores c TurnedOver e f a room = tt
 gate_stores c (StartedCycle y) e f a room = tt

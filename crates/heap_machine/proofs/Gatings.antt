@@ -2,11 +2,10 @@
 use Rattle.std.proofs.Common.{◌≡◌, ℕ, zero, suc, inl, inr, ◌+◌, ◌-◌, ◌≤◌, ◌<◌, Bool, true, false, refl, arith, sym, ap, ◌∙◌}
 use Rattle.std.proofs.lemmas.Bool.{cases_eq}
 use Rattle.block_store.specs.Phases.{bit, phase_of, inside_of, is_sweep, is_closed, cycle_of}
-use Rattle.block_store.proofs.PhaseWords.{phase-more, phase-less, phase-code}
+use Rattle.block_store.proofs.Lemmas.{bit_le, bit_one, changed_both, phase-code, phase-less, phase-more, total_bits, total_changed, total_none, total_part, total_parts}
 use Rattle.block_store.specs.declared.PhaseWord.{PhaseWord}
 use Rattle.block_store.specs.Counts.{changed, total}
 use Rattle.heap_machine.specs.Gating.{Stand, Outside, Inside, Closing, is_outside, is_inside, is_closing, Gating, GateOf, closed_word, open_word}
-use Rattle.block_store.proofs.Functions.{bit_one, bit_le, changed_both, total_changed, total_part, total_parts, total_bits, total_none}
 
 -- the four parts of one word are those of another, but for the inside count
 parts : (v w i : ℕ) → phase_of v ≡ record (phase_of w) { inside = i } → (inside_of v ≡ i) × (is_sweep v ≡ is_sweep w) × (is_closed v ≡ is_closed w) × (cycle_of v ≡ cycle_of w)
@@ -139,7 +138,7 @@ module _ (n phase : ℕ) (gs : ℕ → Gating) (k : GateOf n phase gs) (t : ℕ)
         passes = λ u ul e. (let z : true ≡ false = sym (ap is_outside (out u ul)) ∙ e in cc);
       }
 
-  -- an event that leaves the word, and the stand of its thread
+  -- an event that leaves the word, and the are of its thread
   pub gate_stays : (g : Gating) → g.stand ≡ (gs t).stand → (is_outside g.stand ≡ false → (g.cycle ≡ (gs t).cycle) × (g.sweep ≡ (gs t).sweep)) → GateOf n phase (changed gs t g)
   gate_stays g same rest =
       let a = total_changed (λ (q : Gating). bit (is_inside q.stand)) n gs t g tl in

@@ -3,7 +3,7 @@ use Rattle.std.proofs.Common.{arith, length-set, ◌≡◌, ℕ, ◌≤◌, ◌<
 use Rattle.std.proofs.lemmas.Bool.{cases_Bool}
 use Rattle.block_store.specs.Places.{Extent, Place, index, in_range, words_count}
 use Rattle.block_store.specs.Heaps.{heap_of}
-use Rattle.block_store.proofs.Indexes.{heap_of-put, below}
+use Rattle.block_store.proofs.Lemmas.{below, heap_of-put}
 use Rattle.heap_machine.specs.Operations.{Operation, Load, Exchange, CompareExchange, FetchAdd, FetchSub, place_of, heap_after, Fits, op_at, op_place, SumFits, words_after}
 
 -- the word at a place is the word at its index

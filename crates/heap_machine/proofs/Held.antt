@@ -4,7 +4,7 @@ use Rattle.std.proofs.lemmas.Bool.{cases_Bool}
 use Rattle.block_store.specs.declared.Config.{Config}
 use Rattle.block_store.specs.Heaps.{Heap, put_at}
 use Rattle.block_store.specs.Places.{Place, extent, same_place}
-use Rattle.block_store.proofs.Indexes.{one_place}
+use Rattle.block_store.proofs.Lemmas.{one_place}
 use Rattle.heap_machine.specs.Operations.{Operation, Load, Exchange, CompareExchange, FetchAdd, FetchSub, heap_after}
 use Rattle.heap_machine.specs.Readings.{CanHold, StoresHeld, IsHeld}
 

@@ -20,3 +20,4 @@ pub mod RootsBeforeStart
 pub mod OpeningFreeList
 pub mod FreeLost
 pub mod PhaseRules
+pub mod Lemmas

@@ -1,15 +1,14 @@
--- A heap whose last blocks are Free, in one ascending list, keeps where Free blocks stand.
+-- A heap whose last blocks are Free, in one ascending list, keeps where Free blocks are.
 use Rattle.std.proofs.Common.{◌≡◌, ℕ, zero, suc, ◌+◌, ◌-◌, ◌≤◌, ◌<◌, ◌&&◌, true, false, cond, leb, ltb, refl, arith, subst, sym, ap, ◌∙◌, List, [], ◌∷◌, length, inl, inr, eq-eqb, ne_eqb, le-ltb}
 use Rattle.std.proofs.lemmas.Bool.{cases_eq, cases_lt, cases_Bool, and_parts, lt-ltb, leb-true}
 use Rattle.block_store.specs.Colours.{is_free, link}
-use Rattle.block_store.proofs.ColourWords.{link-free, free_free, colours}
+use Rattle.block_store.proofs.Lemmas.{colours, free_free, link-free, total_changed, total_none}
 use Rattle.block_store.specs.Heaps.{Heap}
 use Rattle.block_store.specs.Phases.{bit}
 use Rattle.block_store.specs.Places.{Extent, FreeList, ColourOf, is_block}
 use Rattle.heap_machine.specs.Chains.{Chain}
 use Rattle.block_store.specs.Counts.{changed, times, total}
-use Rattle.heap_machine.specs.FreeBlocks.{FreeHolding, no_free, FreeKept, FreeFrom}
-use Rattle.block_store.proofs.Functions.{total_changed, total_none}
+use Rattle.heap_machine.specs.FreeBlocks.{FreeInHand, no_free, FreeKept, FreeFrom}
 use Rattle.block_store.proofs.Indexes.{block_is}
 
 -- n blocks from x on
@@ -47,7 +46,7 @@ inside (suc n) x y a b = elim (cases_eq y x) [
       (let r = inside n (x + 1) y (omega arith) (omega arith) in omega arith)
 ]
 
--- of the first n blocks those behind b are Free
+-- of the first n blocks those after b are Free
 count_behind : (colour : ℕ → ℕ) (b n : ℕ) → b ≤ n
     → ((x : ℕ) → 1 ≤ x → x ≤ b → is_free (colour x) ≡ false)
     → ((x : ℕ) → b < x → x ≤ n → is_free (colour x) ≡ true)
@@ -65,7 +64,7 @@ count_behind colour b (suc n) high live free = elim (cases_lt n b) [
       omega arith
 ]
 
-module _ (e : Extent) (h : Heap) (fs : ℕ → FreeHolding) (a : ℕ) (k : FreeFrom e h a)
+module _ (e : Extent) (h : Heap) (fs : ℕ → FreeInHand) (a : ℕ) (k : FreeFrom e h a)
     (none : (t : ℕ) → t < e.threads → fs t ≡ no_free) where
   abbrev all : List ℕ
   all = ascending a (e.blocks + 1 - a)
@@ -111,33 +110,33 @@ module _ (e : Extent) (h : Heap) (fs : ℕ → FreeHolding) (a : ℕ) (k : FreeF
   pub free_opens : FreeKept e h fs
   free_opens = record {
     lists = lists;
-    hands = λ t. [];
+    private_lists = λ t. [];
     list_chain = λ t low. elim (cases_eq 0 t) [
       | inl z ↦ rw (eq-eqb 0 t z)
           (subst (λ b. Chain (colours h) b all)
           (sym (ap (λ u. h (FreeList u)) (sym z) ∙ k.first)) all_chain)
       | inr nz ↦ rw (ne_eqb 0 t nz) (k.others t (omega arith) low)
     ];
-    hand_chain = λ t low. ap (λ (w : FreeHolding). w.hand) (none t low);
+    private_chain = λ t low. ap (λ (w : FreeInHand). w.list) (none t low);
     once = λ x.
         let p = total_changed (times x) e.threads (λ t. []) 0 all k.threads in
         let q = total_none e.threads (λ t. times x []) (λ u low. refl) in
         let r = total_none e.threads (λ t. times x (fs t).held)
-        (λ u low. ap (λ (w : FreeHolding). times x w.held) (none u low)) in
+        (λ u low. ap (λ (w : FreeInHand). times x w.held) (none u low)) in
         omega (arith, all_times x);
     credit =
         let p = total_none e.threads (λ t. (fs t).reserved)
-        (λ u low. ap (λ (w : FreeHolding). w.reserved) (none u low)) in
+        (λ u low. ap (λ (w : FreeInHand). w.reserved) (none u low)) in
         let q = total_none e.threads (λ t. (fs t).freed)
-        (λ u low. ap (λ (w : FreeHolding). w.freed) (none u low)) in
+        (λ u low. ap (λ (w : FreeInHand). w.freed) (none u low)) in
         let some = k.some in
         let last = k.last in
         let c = count_behind (colours h) (a - 1) e.blocks (omega arith)
         (λ x is low. k.live x is (omega arith)) (λ x from to. free_is x (omega arith) to) in
         omega (arith, k.count);
-    room = λ t low. subst (λ (w : FreeHolding). length w.held ≤ w.reserved) (sym (none t low))
+    room = λ t low. subst (λ (w : FreeInHand). length w.held ≤ w.reserved) (sym (none t low))
         (omega arith);
     emptied = λ t low is. absurd
-        (let z : false ≡ true = sym (ap (λ (w : FreeHolding). w.emptied) (none t low)) ∙ is in
+        (let z : false ≡ true = sym (ap (λ (w : FreeInHand). w.emptied) (none t low)) ∙ is in
         cc);
   }

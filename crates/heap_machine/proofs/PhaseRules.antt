@@ -5,7 +5,7 @@ use Rattle.block_store.specs.Phases.{is_sweep, cycle_of}
 use Rattle.block_store.specs.Places.{Extent, Phase, Cursor}
 use Rattle.heap_machine.specs.Grey.{GreyKept}
 use Rattle.heap_machine.specs.HeapKept.{HeapKept}
-use Rattle.heap_machine.specs.Holdings.{Holding, grey_held, tricolour_held, sweep_held}
+use Rattle.heap_machine.specs.WorkInHand.{WorkInHand, grey_held, tricolour_held, sweep_held}
 use Rattle.heap_machine.specs.Operations.{Exchange}
 use Rattle.heap_machine.specs.PhaseKept.{PhaseKept}
 use Rattle.heap_machine.specs.ReuseKept.{ReuseKept}
@@ -17,7 +17,7 @@ use Rattle.heap_machine.proofs.ReuseRules.{reuse_phase, reuse_turns}
 use Rattle.heap_machine.proofs.Solids.{solid_other}
 use Rattle.heap_machine.proofs.Tricolours.{tricolour_other}
 
-module _ (e : Extent) (h : Heap) (hs : ℕ → Holding) where
+module _ (e : Extent) (h : Heap) (hs : ℕ → WorkInHand) where
   -- while the phase is Mark, what marking keeps
   pub in_mark : PhaseKept e h hs → is_sweep (h Phase) ≡ false → HeapKept e (cycle_of (h Phase)) h hs
   in_mark k mark = record { grey = k.grey; tricolour = k.tricolour mark; solid = k.solid mark }
@@ -43,7 +43,7 @@ module _ (e : Extent) (h : Heap) (hs : ℕ → Holding) where
     solid = λ mark. absurd (let z : true ≡ false = sym sweep ∙ mark in cc);
   }
 
-module _ (e : Extent) (h : Heap) (hs : ℕ → Holding) (k : PhaseKept e h hs) (v : ℕ) where
+module _ (e : Extent) (h : Heap) (hs : ℕ → WorkInHand) (k : PhaseKept e h hs) (v : ℕ) where
   grey_still : GreyKept e.threads (put_at h Phase v) (λ t. grey_held (hs t))
   grey_still = kept_other e.threads h (λ t. grey_held (hs t)) (Exchange Phase v) refl k.grey
 

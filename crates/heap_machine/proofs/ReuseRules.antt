@@ -6,28 +6,28 @@ use Rattle.block_store.specs.Heaps.{Heap, put_at}
 use Rattle.block_store.specs.Phases.{is_sweep, cycle_of}
 use Rattle.block_store.specs.Places.{Extent, Phase, Cursor, ColourOf}
 use Rattle.block_store.specs.Counts.{changed}
-use Rattle.heap_machine.specs.FreeBlocks.{FreeHolding, FreeKept, is_of_free}
-use Rattle.heap_machine.specs.Holdings.{Holding, free_held, sweep_held}
+use Rattle.heap_machine.specs.FreeBlocks.{FreeInHand, FreeKept, is_of_free}
+use Rattle.heap_machine.specs.WorkInHand.{WorkInHand, free_held, sweep_held}
 use Rattle.heap_machine.specs.Operations.{Operation, Exchange, place_of, heap_after}
 use Rattle.heap_machine.specs.ReuseKept.{ReuseKept, is_of_reuse}
-use Rattle.heap_machine.specs.Sweeping.{SweepHolding, SweepKept, no_claim, is_of_sweep}
+use Rattle.heap_machine.specs.Sweeping.{SweepInHand, SweepKept, no_claim, is_of_sweep}
 use Rattle.heap_machine.proofs.FreeBlocks.{free_other, free_other_colour, free_stays}
 use Rattle.heap_machine.proofs.HeapRules.{part_changed}
 use Rattle.heap_machine.proofs.SweepRule.{sweep_other, sweep_colour, sweep_phase, sweep_turns, sweep_cursor, sweep_stays}
 
 -- both rules, where one thread has gone on
-pub reuse_goes : (e : Extent) (h : Heap) (hs : ℕ → Holding) (t : ℕ) (w : Holding)
+pub reuse_goes : (e : Extent) (h : Heap) (hs : ℕ → WorkInHand) (t : ℕ) (w : WorkInHand)
     → FreeKept e h (changed (λ u. free_held (hs u)) t (free_held w))
     → SweepKept e h (changed (λ u. sweep_held (hs u)) t (sweep_held w))
     → ReuseKept e h (changed hs t w)
 reuse_goes e h hs t w free sweep = record {
-  free = subst (λ (ws : ℕ → FreeHolding). FreeKept e h ws) (part_changed free_held hs t w) free;
-  sweep = subst (λ (ws : ℕ → SweepHolding). SweepKept e h ws)
+  free = subst (λ (ws : ℕ → FreeInHand). FreeKept e h ws) (part_changed free_held hs t w) free;
+  sweep = subst (λ (ws : ℕ → SweepInHand). SweepKept e h ws)
       (part_changed sweep_held hs t w) sweep;
 }
 
-module _ (e : Extent) (h : Heap) (hs : ℕ → Holding) (k : ReuseKept e h hs) where
-  pub reuse_stays : (t : ℕ) (w : Holding) → t < e.threads → free_held (hs t) ≡ free_held w
+module _ (e : Extent) (h : Heap) (hs : ℕ → WorkInHand) (k : ReuseKept e h hs) where
+  pub reuse_stays : (t : ℕ) (w : WorkInHand) → t < e.threads → free_held (hs t) ≡ free_held w
       → sweep_held (hs t) ≡ sweep_held w
       → ReuseKept e h (changed hs t w)
   reuse_stays t w low free sweep = reuse_goes e h hs t w

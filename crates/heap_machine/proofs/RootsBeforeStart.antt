@@ -29,10 +29,10 @@ module _ (W : Width) (p : Pass) where
   start_here [] e = refl
   start_here (w ∷ ws) e = absurd (no_start_over (p.cycle + 1) ws e)
 
-  put_first : (hand : ℕ) (ws : List ℕ) → gate_after W (PutRoots p hand) ws ≡ Start p
+  put_first : (list : ℕ) (ws : List ℕ) → gate_after W (PutRoots p list) ws ≡ Start p
       → length ws ≡ 1
-  put_first hand [] e = absurd cc
-  put_first hand (w ∷ ws) e = (let rest = start_here ws e in omega arith)
+  put_first list [] e = absurd cc
+  put_first list (w ∷ ws) e = (let rest = start_here ws e in omega arith)
 
   next_root : (u : ℕ) → u + 1 < p.threads → root_shaded W p u ≡ ShadeRoot p (u + 1) (root_block W u)
   next_root u low = rw (lt-ltb (u + 1) p.threads low) refl
@@ -45,10 +45,10 @@ module _ (W : Width) (p : Pass) where
   went r s ws P e k = subst (λ q. P (gate_after W q ws)) e k
 
   -- one event for each root that is left, and one that puts them
-  from_root : (ws : List ℕ) (u hand : ℕ) → u < p.threads
-      → gate_after W (ShadeRoot p u hand) ws ≡ Start p → u + length ws ≡ p.threads + 1
-  from_root [] u hand low e = absurd cc
-  from_root (w ∷ ws) u hand low e = elim (cases_lt (u + 1) p.threads) [
+  from_root : (ws : List ℕ) (u list : ℕ) → u < p.threads
+      → gate_after W (ShadeRoot p u list) ws ≡ Start p → u + length ws ≡ p.threads + 1
+  from_root [] u list low e = absurd cc
+  from_root (w ∷ ws) u list low e = elim (cases_lt (u + 1) p.threads) [
     | inl less ↦
         let rest = from_root ws (u + 1) (root_block W u) less
         (went (root_shaded W p u) (ShadeRoot p (u + 1) (root_block W u)) ws IsStart
@@ -63,7 +63,7 @@ module _ (W : Width) (p : Pass) where
   before_is : (u : ℕ) → root_before W (u + 1) ≡ root_block W u
   before_is u = (let one : u + 1 ≡ suc u = omega arith in ap (root_before W) one)
 
-  -- where the part stands after these events
+  -- where the part comes after these events
   abbrev shading : ℕ → GateRow
   shading u = ShadeRoot p u (root_before W u)
 

@@ -8,7 +8,7 @@ use Rattle.block_store.specs.Payloads.{target}
 use Rattle.block_store.specs.Registers.{root_block}
 use Rattle.block_store.specs.Widths.{payloads}
 use Rattle.block_store.specs.Places.{Extent, Place, Phase, Cursor, FreeCount, GreyList, FreeList, ColourOf, OwnerOf, ShapeOf, PayloadOf}
-use Rattle.block_store.proofs.ColourWords.{colours}
+use Rattle.block_store.proofs.Lemmas.{colours}
 use Rattle.heap_machine.specs.Operations.{Operation, Load, Exchange, CompareExchange, FetchAdd, FetchSub, place_of, heap_after}
 use Rattle.heap_machine.specs.Tricolour.{is_of_tricolour}
 use Rattle.heap_machine.specs.Solid.{NotFree, IsMarked, SolidKept}

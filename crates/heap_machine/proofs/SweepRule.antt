@@ -7,19 +7,19 @@ use Rattle.block_store.specs.Phases.{bit, is_sweep, cycle_of}
 use Rattle.block_store.specs.Places.{Extent, Place, Phase, Cursor, FreeCount, GreyList, FreeList, ColourOf, OwnerOf, ShapeOf, PayloadOf}
 use Rattle.block_store.specs.Counts.{changed}
 use Rattle.heap_machine.specs.Operations.{Operation, Load, Exchange, CompareExchange, FetchAdd, FetchSub, place_of, heap_after}
-use Rattle.heap_machine.specs.Sweeping.{SweepHolding, no_claim, rest_of, has_claimed, claims, IsRange, SweepOf, SweepKept, is_of_sweep}
-use Rattle.block_store.proofs.Functions.{changed_both, total_changed, total_parts, total_none, bit_le}
+use Rattle.heap_machine.specs.Sweeping.{SweepInHand, no_claim, rest_of, has_claimed, claims, IsRange, SweepOf, SweepKept, is_of_sweep}
+use Rattle.block_store.proofs.Lemmas.{bit_le, changed_both, total_changed, total_none, total_parts}
 
--- a block in the range, below it, and behind it
-pub claimed_in : (w : SweepHolding) (x : ℕ) → w.low ≤ x → x < w.high → has_claimed w x ≡ true
+-- a block in the range, below it, and after it
+pub claimed_in : (w : SweepInHand) (x : ℕ) → w.low ≤ x → x < w.high → has_claimed w x ≡ true
 claimed_in w x low high = and_from _ _ (le-leb w.low x low) (lt-ltb x w.high high)
 
-claimed_parts : (w : SweepHolding) (x : ℕ) → has_claimed w x ≡ true → (w.low ≤ x) × (x < w.high)
+claimed_parts : (w : SweepInHand) (x : ℕ) → has_claimed w x ≡ true → (w.low ≤ x) × (x < w.high)
 claimed_parts w x is =
     let p = and_parts (leb w.low x) (ltb x w.high) is in
     (leb-true w.low x p.0, ltb-true x w.high p.1)
 
-pub not_claimed : (w : SweepHolding) (x : ℕ) → (w.low ≤ x → x < w.high → ⊥)
+pub not_claimed : (w : SweepInHand) (x : ℕ) → (w.low ≤ x → x < w.high → ⊥)
     → has_claimed w x ≡ false
 not_claimed w x none = elim (cases_Bool (has_claimed w x)) [
   | inl is ↦ absurd (let p = claimed_parts w x is in none p.0 p.1)
@@ -27,16 +27,16 @@ not_claimed w x none = elim (cases_Bool (has_claimed w x)) [
 ]
 
 -- of a range below the cursor
-range_end : (cursor : ℕ) (w : SweepHolding) → IsRange cursor w → w.high ≤ cursor
+range_end : (cursor : ℕ) (w : SweepInHand) → IsRange cursor w → w.high ≤ cursor
 range_end cursor w r = ⊎_elim (λ n. (let z = n.1 in omega arith)) (λ s. s.2) r
 
-range_more : (cursor next : ℕ) (w : SweepHolding) → cursor ≤ next → IsRange cursor w
+range_more : (cursor next : ℕ) (w : SweepInHand) → cursor ≤ next → IsRange cursor w
     → IsRange next w
 range_more cursor next w le r =
     ⊎_elim (λ n. inl n) (λ s. (let z = s.2 in inr (s.0, s.1, omega arith))) r
 
 -- what is left of a range when its first block was passed
-rest_case : (P : SweepHolding → Type 0) (w : SweepHolding)
+rest_case : (P : SweepInHand → Type 0) (w : SweepInHand)
     → (w.low + 1 < w.high → P (record { low = w.low + 1; high = w.high; doomed = 0 }))
     → (w.high ≤ w.low + 1 → P no_claim) → P (rest_of w)
 rest_case P w more last = elim (cases_lt (w.low + 1) w.high) [
@@ -44,17 +44,17 @@ rest_case P w more last = elim (cases_lt (w.low + 1) w.high) [
   | inr is ↦ rw (le-ltb (w.low + 1) w.high is) (last is)
 ]
 
-rest_range : (cursor : ℕ) (w : SweepHolding) → w.low < w.high → IsRange cursor w
+rest_range : (cursor : ℕ) (w : SweepInHand) → w.low < w.high → IsRange cursor w
     → IsRange cursor (rest_of w)
 rest_range cursor w some r = rest_case (IsRange cursor) w
     (λ more. (let z = range_end cursor w r in inr (omega arith, more, z)))
     (λ last. inl (refl, refl))
 
-rest_free : (w : SweepHolding) → (rest_of w).doomed ≡ 0
-rest_free w = rest_case (λ (v : SweepHolding). v.doomed ≡ 0) w (λ _. refl) (λ _. refl)
+rest_free : (w : SweepInHand) → (rest_of w).doomed ≡ 0
+rest_free w = rest_case (λ (v : SweepInHand). v.doomed ≡ 0) w (λ _. refl) (λ _. refl)
 
 -- one block less is claimed
-one_less : (w v : SweepHolding) → w.low < w.high
+one_less : (w v : SweepInHand) → w.low < w.high
     → ((x : ℕ) → (w.low < x) × (x < w.high) → (v.low ≤ x) × (x < v.high))
     → ((x : ℕ) → v.low ≤ x → x < v.high → (w.low < x) × (x < w.high))
     → (x : ℕ) → bit (has_claimed w x) ≡ bit (has_claimed v x) + bit (eqb w.low x)
@@ -78,10 +78,10 @@ one_less w v some there back x = elim (cases_eq w.low x) [
   ]
 ]
 
-rest_same : (w : SweepHolding) → w.low < w.high → (x : ℕ)
+rest_same : (w : SweepInHand) → w.low < w.high → (x : ℕ)
     → bit (has_claimed w x) ≡ bit (has_claimed (rest_of w) x) + bit (eqb w.low x)
 rest_same w some = rest_case
-    (λ (v : SweepHolding). (x : ℕ)
+    (λ (v : SweepInHand). (x : ℕ)
     → bit (has_claimed w x) ≡ bit (has_claimed v x) + bit (eqb w.low x)) w
     (λ more. one_less w (record { low = w.low + 1; high = w.high; doomed = 0 }) some
     (λ x p. (let z = p.0 in omega arith, p.1)) (λ x p q. (omega arith, q)))
@@ -89,7 +89,7 @@ rest_same w some = rest_case
     (λ x p. (let z = p.0 in let y = p.1 in absurd (omega arith)))
     (λ x p q. absurd (omega arith)))
 
-module _ (ex : Extent) (sweep : Bool) (white cursor : ℕ) (colour : ℕ → ℕ) (cs : ℕ → SweepHolding)
+module _ (ex : Extent) (sweep : Bool) (white cursor : ℕ) (colour : ℕ → ℕ) (cs : ℕ → SweepInHand)
     (k : SweepOf ex sweep white cursor colour cs) where
   -- nobody has claimed a block from the cursor on
   fresh : (x : ℕ) → cursor ≤ x → claims ex.threads cs x ≡ 0
@@ -98,24 +98,24 @@ module _ (ex : Extent) (sweep : Bool) (white cursor : ℕ) (colour : ℕ → ℕ
       ap bit (not_claimed (cs u) x (λ a b. omega arith))))
 
   module _ (t : ℕ) (low : t < ex.threads) where
-    recount : (w : SweepHolding) (x : ℕ)
+    recount : (w : SweepInHand) (x : ℕ)
         → claims ex.threads (changed cs t w) x + bit (has_claimed (cs t) x)
         ≡ claims ex.threads cs x + bit (has_claimed w x)
-    recount w x = total_changed (λ (v : SweepHolding). bit (has_claimed v x)) ex.threads cs t w low
+    recount w x = total_changed (λ (v : SweepInHand). bit (has_claimed v x)) ex.threads cs t w low
 
     -- a range from the cursor on is claimed by a thread that has none
     claim_goes : (high : ℕ) → cursor < high → high ≤ ex.blocks + 1 → cs t ≡ no_claim
         → SweepOf ex sweep white high colour
         (changed cs t (record { low = cursor; high = high; doomed = 0 }))
     claim_goes high some last none =
-        let w : SweepHolding = record { low = cursor; high = high; doomed = 0 } in
+        let w : SweepInHand = record { low = cursor; high = high; doomed = 0 } in
         let old : (x : ℕ) → bit (has_claimed (cs t) x) ≡ 0 =
-        λ x. ap (λ (v : SweepHolding). bit (has_claimed v x)) none
+        λ x. ap (λ (v : SweepInHand). bit (has_claimed v x)) none
         ∙ ap bit (not_claimed no_claim x (λ a b. omega arith)) in
         let inside = k.cursor_in in
         record {
           cursor_in = (omega (arith, inside.0), last);
-          ranges = λ u ul. changed_both (λ _ (v : SweepHolding). IsRange high v) cs t w u
+          ranges = λ u ul. changed_both (λ _ (v : SweepInHand). IsRange high v) cs t w u
               (λ _. inr (inside.0, omega arith, omega arith))
               (λ _. range_more cursor high (cs u) (omega arith) (k.ranges u ul));
           once = λ x. elim (cases_lt x cursor) [
@@ -133,7 +133,7 @@ module _ (ex : Extent) (sweep : Bool) (white cursor : ℕ) (colour : ℕ → ℕ
                 absurd (omega (arith, recount w x, old x))
           ];
           doomed = λ u ul. changed_both
-              (λ _ (v : SweepHolding). v.doomed ≢ 0
+              (λ _ (v : SweepInHand). v.doomed ≢ 0
               → (sweep ≡ true) × (has_claimed v v.doomed ≡ true)
               × (colour v.doomed ≡ white)) cs t w u
               (λ _ ne. absurd (ne refl)) (λ _. k.doomed u ul);
@@ -145,12 +145,12 @@ module _ (ex : Extent) (sweep : Bool) (white cursor : ℕ) (colour : ℕ → ℕ
         → SweepOf ex sweep white cursor colour
         (changed cs t (record { low = low; high = high; doomed = doomed }))
     claim_stays l u d is_low is_high about =
-        let w : SweepHolding = record { low = l; high = u; doomed = d } in
+        let w : SweepInHand = record { low = l; high = u; doomed = d } in
         let same : (x : ℕ) → bit (has_claimed (cs t) x) ≡ bit (has_claimed w x) =
         λ x. rw (is_low, is_high) refl in
         record {
           cursor_in = k.cursor_in;
-          ranges = λ v vl. changed_both (λ _ (z : SweepHolding). IsRange cursor z) cs t w v
+          ranges = λ v vl. changed_both (λ _ (z : SweepInHand). IsRange cursor z) cs t w v
               (λ _. (let r = k.ranges t low in
               subst (λ a. (a ≡ 0) × (u ≡ 0) ⊎ (1 ≤ a) × (a < u) × (u ≤ cursor)) is_low
               (subst (λ b. ((cs t).low ≡ 0) × (b ≡ 0) ⊎ (1 ≤ (cs t).low) × ((cs t).low < b)
@@ -159,7 +159,7 @@ module _ (ex : Extent) (sweep : Bool) (white cursor : ℕ) (colour : ℕ → ℕ
           once = λ x. omega (arith, recount w x, k.once x, same x);
           passed = λ is x pos end none. k.passed is x pos end (omega (arith, recount w x, same x));
           doomed = λ v vl. changed_both
-              (λ _ (z : SweepHolding). z.doomed ≢ 0
+              (λ _ (z : SweepInHand). z.doomed ≢ 0
               → (sweep ≡ true) × (has_claimed z z.doomed ≡ true)
               × (colour z.doomed ≡ white)) cs t w v
               (λ _ ne. (let a = about ne in (a.0, claimed_in w d a.1 a.2, a.3)))
@@ -167,14 +167,14 @@ module _ (ex : Extent) (sweep : Bool) (white cursor : ℕ) (colour : ℕ → ℕ
         }
 
     -- its first block is passed: it is not white in the new colours, which else are the old ones
-    pass_goes : (new : ℕ → ℕ) (w : SweepHolding) → (cs t).low < (cs t).high
+    pass_goes : (new : ℕ → ℕ) (w : SweepInHand) → (cs t).low < (cs t).high
         → IsRange cursor w → w.doomed ≡ 0
         → ((x : ℕ) → bit (has_claimed (cs t) x) ≡ bit (has_claimed w x) + bit (eqb (cs t).low x))
         → new (cs t).low ≢ white → ((x : ℕ) → ((cs t).low ≡ x → ⊥) → new x ≡ colour x)
         → SweepOf ex sweep white cursor new (changed cs t w)
     pass_goes new w some range none same dark still = record {
       cursor_in = k.cursor_in;
-      ranges = λ u ul. changed_both (λ _ (v : SweepHolding). IsRange cursor v) cs t w u
+      ranges = λ u ul. changed_both (λ _ (v : SweepInHand). IsRange cursor v) cs t w u
           (λ _. range) (λ _. k.ranges u ul);
       once = λ x. omega (arith, recount w x, k.once x, same x);
       passed = λ is x pos end no_one. elim (cases_eq (cs t).low x) [
@@ -185,7 +185,7 @@ module _ (ex : Extent) (sweep : Bool) (white cursor : ℕ) (colour : ℕ → ℕ
             (k.passed is x pos end (omega (arith, recount w x, same x)))
       ];
       doomed = λ u ul. changed_both
-          (λ v (z : SweepHolding). v < ex.threads → z.doomed ≢ 0
+          (λ v (z : SweepInHand). v < ex.threads → z.doomed ≢ 0
           → (sweep ≡ true) × (has_claimed z z.doomed ≡ true) × (new z.doomed ≡ white)) cs t w u
           (λ _ _ ne. absurd (ne none))
           (λ away _ ne. (let d = k.doomed u ul ne in (
@@ -206,7 +206,7 @@ module _ (ex : Extent) (sweep : Bool) (white cursor : ℕ) (colour : ℕ → ℕ
 -- where nothing is claimed, the phase, the cycle, the cursor and the colours may be any, as long as
 -- what is passed is not white
 pub sweep_of : (ex : Extent) (sweep : Bool) (white cursor : ℕ) (colour : ℕ → ℕ)
-    (cs : ℕ → SweepHolding)
+    (cs : ℕ → SweepInHand)
     → (1 ≤ cursor) × (cursor ≤ ex.blocks + 1)
     → ((t : ℕ) → t < ex.threads → cs t ≡ no_claim)
     → (sweep ≡ true → (x : ℕ) → 1 ≤ x → x < cursor → colour x ≢ white)
@@ -215,14 +215,14 @@ sweep_of ex sweep white cursor colour cs inside none dark = record {
   cursor_in = inside;
   ranges = λ t low. subst (IsRange cursor) (sym (none t low)) (inl (refl, refl));
   once = λ x. (let z = total_none ex.threads (λ t. bit (has_claimed (cs t) x)) (λ u ul.
-      ap (λ (v : SweepHolding). bit (has_claimed v x)) (none u ul)
+      ap (λ (v : SweepInHand). bit (has_claimed v x)) (none u ul)
       ∙ ap bit (not_claimed no_claim x (λ a b. omega arith))) in omega arith);
   passed = λ is x pos end _. dark is x pos end;
-  doomed = λ t low ne. absurd (ne (ap (λ (v : SweepHolding). v.doomed) (none t low)));
+  doomed = λ t low ne. absurd (ne (ap (λ (v : SweepInHand). v.doomed) (none t low)));
 }
 
 -- a block that is not about to be freed gets a colour that is not white
-pub sweep_colour : (ex : Extent) (h : Heap) (cs : ℕ → SweepHolding) (x v : ℕ)
+pub sweep_colour : (ex : Extent) (h : Heap) (cs : ℕ → SweepInHand) (x v : ℕ)
     → (is_sweep (h Phase) ≡ true
     → (v ≢ white_word (cycle_of (h Phase)))
     × (h (ColourOf x) ≢ white_word (cycle_of (h Phase))))
@@ -242,7 +242,7 @@ sweep_colour ex h cs x v dark k = record {
 }
 
 -- a write of any other place
-other_write : (ex : Extent) (h : Heap) (cs : ℕ → SweepHolding) (p : Place) (v : ℕ)
+other_write : (ex : Extent) (h : Heap) (cs : ℕ → SweepInHand) (p : Place) (v : ℕ)
     → is_of_sweep p ≡ false
     → SweepKept ex h cs → SweepKept ex (put_at h p v) cs
 other_write ex h cs Phase v o k = absurd (let z : true ≡ false = o in cc)
@@ -255,7 +255,7 @@ other_write ex h cs (OwnerOf x) v o k = k
 other_write ex h cs (ShapeOf x) v o k = k
 other_write ex h cs (PayloadOf x j) v o k = k
 
-pub sweep_other : (ex : Extent) (h : Heap) (cs : ℕ → SweepHolding) (o : Operation)
+pub sweep_other : (ex : Extent) (h : Heap) (cs : ℕ → SweepInHand) (o : Operation)
     → is_of_sweep (place_of o) ≡ false
     → SweepKept ex h cs → SweepKept ex (heap_after h o) cs
 sweep_other ex h cs (Load p) away k = k
@@ -268,7 +268,7 @@ sweep_other ex h cs (FetchAdd p v) away k = other_write ex h cs p (h p + v) away
 sweep_other ex h cs (FetchSub p v) away k = other_write ex h cs p (h p - v) away k
 
 -- the phase word changes, and neither the phase nor the cycle
-pub sweep_phase : (ex : Extent) (h : Heap) (cs : ℕ → SweepHolding) (v : ℕ)
+pub sweep_phase : (ex : Extent) (h : Heap) (cs : ℕ → SweepInHand) (v : ℕ)
     → cycle_of v ≡ cycle_of (h Phase) → is_sweep v ≡ is_sweep (h Phase)
     → SweepKept ex h cs → SweepKept ex (put_at h Phase v) cs
 sweep_phase ex h cs v cycle phase k =
@@ -279,7 +279,7 @@ sweep_phase ex h cs v cycle phase k =
 
 -- nobody has claimed anything: the phase word becomes any, in Sweep where the cursor is at the
 -- first block
-pub sweep_turns : (ex : Extent) (h : Heap) (cs : ℕ → SweepHolding) (v : ℕ)
+pub sweep_turns : (ex : Extent) (h : Heap) (cs : ℕ → SweepInHand) (v : ℕ)
     → ((t : ℕ) → t < ex.threads → cs t ≡ no_claim) → (is_sweep v ≡ true → h Cursor ≡ 1)
     → SweepKept ex h cs → SweepKept ex (put_at h Phase v) cs
 sweep_turns ex h cs v none first k =
@@ -288,7 +288,7 @@ sweep_turns ex h cs v none first k =
     (λ is x pos end. absurd (let c = first is in omega arith))
 
 -- in Mark, where nobody has claimed anything
-pub sweep_begins : (ex : Extent) (h : Heap) (cs : ℕ → SweepHolding)
+pub sweep_begins : (ex : Extent) (h : Heap) (cs : ℕ → SweepInHand)
     → ((t : ℕ) → t < ex.threads → cs t ≡ no_claim) → is_sweep (h Phase) ≡ false
     → (1 ≤ h Cursor) × (h Cursor ≤ ex.blocks + 1) → SweepKept ex h cs
 sweep_begins ex h cs none mark inside =
@@ -297,7 +297,7 @@ sweep_begins ex h cs none mark inside =
     inside none (λ is. absurd (let q : true ≡ false = sym is ∙ mark in cc))
 
 -- and in Mark the cursor becomes any
-pub sweep_cursor : (ex : Extent) (h : Heap) (cs : ℕ → SweepHolding) (v : ℕ)
+pub sweep_cursor : (ex : Extent) (h : Heap) (cs : ℕ → SweepInHand) (v : ℕ)
     → ((t : ℕ) → t < ex.threads → cs t ≡ no_claim) → is_sweep (h Phase) ≡ false
     → (1 ≤ v) × (v ≤ ex.blocks + 1)
     → SweepKept ex (put_at h Cursor v) cs
@@ -306,8 +306,8 @@ sweep_cursor ex h cs v none mark inside =
     (λ x. h (ColourOf x)) cs inside none
     (λ is. absurd (let q : true ≡ false = sym is ∙ mark in cc))
 
-module _ (ex : Extent) (h : Heap) (cs : ℕ → SweepHolding) (k : SweepKept ex h cs) (t : ℕ)
-    (low : t < ex.threads) (old : SweepHolding) (is : cs t ≡ old) where
+module _ (ex : Extent) (h : Heap) (cs : ℕ → SweepInHand) (k : SweepKept ex h cs) (t : ℕ)
+    (low : t < ex.threads) (old : SweepInHand) (is : cs t ≡ old) where
   abbrev sweeps : Bool
   sweeps = is_sweep (h Phase)
 
@@ -318,10 +318,10 @@ module _ (ex : Extent) (h : Heap) (cs : ℕ → SweepHolding) (k : SweepKept ex 
   colours x = h (ColourOf x)
 
   low_is : (cs t).low ≡ old.low
-  low_is = ap (λ (w : SweepHolding). w.low) is
+  low_is = ap (λ (w : SweepInHand). w.low) is
 
   high_is : (cs t).high ≡ old.high
-  high_is = ap (λ (w : SweepHolding). w.high) is
+  high_is = ap (λ (w : SweepInHand). w.high) is
 
   passes_by : (new : ℕ → ℕ) → old.low < old.high → new old.low ≢ white
       → ((x : ℕ) → (old.low ≡ x → ⊥) → new x ≡ h (ColourOf x))
@@ -331,7 +331,7 @@ module _ (ex : Extent) (h : Heap) (cs : ℕ → SweepHolding) (k : SweepKept ex 
       (omega (arith, low_is, high_is))
       (rest_range (h Cursor) old some (subst (IsRange (h Cursor)) is (k.ranges t low)))
       (rest_free old)
-      (λ x. subst (λ (w : SweepHolding). bit (has_claimed w x)
+      (λ x. subst (λ (w : SweepInHand). bit (has_claimed w x)
       ≡ bit (has_claimed (rest_of old) x) + bit (eqb w.low x)) (sym is)
       (rest_same old some x))
       (subst (λ z. new z ≢ white) (sym low_is) dark)
@@ -341,9 +341,9 @@ module _ (ex : Extent) (h : Heap) (cs : ℕ → SweepHolding) (k : SweepKept ex 
   sweep_stays = claim_stays ex sweeps white
       (h Cursor) colours cs k t low old.low old.high old.doomed low_is high_is
       (λ ne.
-      let d = k.doomed t low (λ z. ne (sym (ap (λ (w : SweepHolding). w.doomed) is) ∙ z)) in
+      let d = k.doomed t low (λ z. ne (sym (ap (λ (w : SweepInHand). w.doomed) is) ∙ z)) in
       let e : (has_claimed old old.doomed ≡ true) × (h (ColourOf old.doomed) ≡ white) =
-      subst (λ (w : SweepHolding). (has_claimed w w.doomed ≡ true)
+      subst (λ (w : SweepInHand). (has_claimed w w.doomed ≡ true)
       × (h (ColourOf w.doomed) ≡ white)) is (d.1, d.2) in
       let p = claimed_parts old old.doomed e.0 in
       (d.0, p.0, p.1, e.1))
@@ -374,7 +374,7 @@ module _ (ex : Extent) (h : Heap) (cs : ℕ → SweepHolding) (k : SweepKept ex 
       (rw (eq-eqb old.low old.low refl) dark) (λ x ne. rw (ne_eqb old.low x ne) refl)
 
 -- what the rule says of a block
-module _ (ex : Extent) (h : Heap) (cs : ℕ → SweepHolding) (k : SweepKept ex h cs) where
+module _ (ex : Extent) (h : Heap) (cs : ℕ → SweepInHand) (k : SweepKept ex h cs) where
   pub one_claim : (t u x : ℕ) → t < ex.threads → u < ex.threads → has_claimed (cs t) x ≡ true
       → has_claimed (cs u) x ≡ true → t ≡ u
   one_claim t u x low ulow a b = elim (cases_eq t u) [
@@ -400,5 +400,5 @@ module _ (ex : Extent) (h : Heap) (cs : ℕ → SweepHolding) (k : SweepKept ex 
       → (x : ℕ) → 1 ≤ x → x ≤ ex.blocks → h (ColourOf x) ≢ white_word (cycle_of (h Phase))
   sweep_over is end none x some high = k.passed is x some (omega arith)
       (total_none ex.threads (λ t. bit (has_claimed (cs t) x)) (λ u ul.
-      ap (λ (v : SweepHolding). bit (has_claimed v x)) (none u ul)
+      ap (λ (v : SweepInHand). bit (has_claimed v x)) (none u ul)
       ∙ ap bit (not_claimed no_claim x (λ a b. omega arith))))

@@ -84,8 +84,8 @@ module _ (W : Width) (n : ℕ) (h : Heap) (gs : ℕ → Gating) (k : GateOf n (h
   changing_kept (SetCursor p) e f is = stays_closing p (SetCursor p) (Flip p) refl refl is
   changing_kept (Flip p) e f is = gate_opens n (h Phase) gs k t tl (changing_gating TurnedOver) p.cycle true (ap (λ (g : Gating). g.stand) is) refl
   changing_kept (Reopen p) e f is = gate_opens n (h Phase) gs k t tl (changing_gating TurnedOver) p.cycle false (ap (λ (g : Gating). g.stand) is) refl
-  changing_kept (ShadeRoot p u hand) e f is = stays_closing p (ShadeRoot p u hand) (root_shaded W p u) refl (shades_closing W p u) is
-  changing_kept (PutRoots p hand) e f is = stays_closing p (PutRoots p hand) (Start p) refl refl is
+  changing_kept (ShadeRoot p u list) e f is = stays_closing p (ShadeRoot p u list) (root_shaded W p u) refl (shades_closing W p u) is
+  changing_kept (PutRoots p list) e f is = stays_closing p (PutRoots p list) (Start p) refl refl is
   changing_kept (Start p) e f is = gate_opens n (h Phase) gs k t tl (changing_gating (StartedCycle (p.cycle + 1))) (p.cycle + 1) false (ap (λ (g : Gating). g.stand) is) refl
   changing_kept TurnedOver e f is = stays_out TurnedOver TurnedOver refl refl is
   changing_kept (StartedCycle y) e f is = stays_out (StartedCycle y) (StartedCycle y) refl refl is
@@ -199,7 +199,7 @@ module _ (W : Width) (p : Pass) where
   one_more : (d x w : ℕ) (ws : List ℕ) → w ≡ 0 → ws ≡ replicate d 0 ++ x ∷ [] → w ∷ ws ≡ replicate (suc d) 0 ++ x ∷ []
   one_more d x w ws e k = rw (e, k) refl
 
-  -- d lists are left behind list u: a flip has read 0 from each
+  -- d lists are left after list u: a flip has read 0 from each
   from_list : (d u : ℕ) (ws : List ℕ) → u + suc d ≡ p.threads → gate_after W (CheckList p u) ws ≡ Flip p → (x : ℕ) × (ws ≡ replicate (suc d) 0 ++ x ∷ [])
   from_list d u [] e k = absurd cc
   from_list zero u (w ∷ ws) e k = elim (cases_Bool (eqb w 0)) [
@@ -217,7 +217,7 @@ module _ (W : Width) (p : Pass) where
     | inr some ↦ absurd (no_flip_reopened ws (went (CheckList p u) (Reopen p) w ws IsFlip (grey_list p u w some) k))
   ]
 
-  -- with 0 read from each of d lists the part stands at the next
+  -- with 0 read from each of d lists the part is at the next
   zeros_from : (d u : ℕ) → u + d < p.threads → gate_after W (CheckList p u) (replicate d 0) ≡ CheckList p (u + d)
   zeros_from zero u low = ap (CheckList p) (omega arith)
   zeros_from (suc d) u low =
@@ -328,8 +328,8 @@ checked_empty W h (CheckList p v) e f empty u low = list_empty p (λ x. h (GreyL
 checked_empty W h (SetCursor p) e f empty u low = empty u low
 checked_empty W h (Flip p) e f empty u low = absurd (omega arith)
 checked_empty W h (Reopen p) e f empty u low = absurd (omega arith)
-checked_empty W h (ShadeRoot p v hand) e f empty u low = absurd (none_below (root_shaded W p v) u (shade_read W p v) low)
-checked_empty W h (PutRoots p hand) e f empty u low = absurd (omega arith)
+checked_empty W h (ShadeRoot p v list) e f empty u low = absurd (none_below (root_shaded W p v) u (shade_read W p v) low)
+checked_empty W h (PutRoots p list) e f empty u low = absurd (omega arith)
 checked_empty W h (Start p) e f empty u low = absurd (omega arith)
 checked_empty W h TurnedOver e f empty u low = absurd (omega arith)
 checked_empty W h (StartedCycle y) e f empty u low = absurd (omega arith)

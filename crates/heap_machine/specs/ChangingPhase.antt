@@ -1,5 +1,5 @@
 -- The part that closes the gate and changes the phase, or starts the next cycle: its rows, where
--- its thread stands, what it holds and knows, and what its events read.
+-- its thread is, what it holds and knows, and what its events read.
 use Rattle.std.specs.Prelude.{ℕ, zero, suc, ◌+◌, ◌-◌, ◌^◌, ◌≡◌, ◌≢◌, ◌<◌, Bool, true, false, List, [], ◌∷◌, Option, Some, None, IfSome}
 use Rattle.block_store.specs.Colours.{is_free, is_grey, black_word, white_word}
 use Rattle.block_store.specs.Heaps.{Heap}
@@ -11,7 +11,7 @@ use Rattle.block_store.specs.declared.Config.{Config}
 use Rattle.block_store.specs.declared.Width.{Width}
 use Rattle.heap_machine.specs.Gates.{gate_got, is_of_pass, is_empty, GateFits, GateAt}
 use Rattle.heap_machine.specs.Gating.{Stand, Outside, Closing, is_closing, Gating, GateOf}
-use Rattle.heap_machine.specs.Holdings.{Holding, holds_nothing}
+use Rattle.heap_machine.specs.WorkInHand.{WorkInHand, holds_nothing}
 use Rattle.heap_machine.specs.Solid.{NotFree}
 use Rattle.heap_machine.specs.declared.gate.GateRow.{GateRow}
 use Rattle.heap_machine.specs.declared.gate.GateRow.TheVariants.{Look, Enter, Entered, Leave, Left, CloseLook, Close, CheckList, SetCursor, Flip, Reopen, ShadeRoot, PutRoots, Start}
@@ -26,11 +26,11 @@ turns_over Leave = false
 turns_over Left = false
 turns_over _ = true
 
--- a thread that stands there, with the cycle and phase of the pass
+-- a thread that is there, with the cycle and phase of the pass
 abbrev pub in_pass : Pass → Stand → Gating
 in_pass p s = record { stand = s; cycle = p.cycle; sweep = p.sweep }
 
--- where the thread of such a part stands before the event of a row: it has closed the gate until it
+-- where the thread of such a part comes before the event of a row: it has closed the gate until it
 -- opens it again
 abbrev pub changing_gating : GateRow → Gating
 changing_gating (CloseLook p) = in_pass p Outside
@@ -39,8 +39,8 @@ changing_gating (CheckList p u) = in_pass p Closing
 changing_gating (SetCursor p) = in_pass p Closing
 changing_gating (Flip p) = in_pass p Closing
 changing_gating (Reopen p) = in_pass p Closing
-changing_gating (ShadeRoot p u hand) = in_pass p Closing
-changing_gating (PutRoots p hand) = in_pass p Closing
+changing_gating (ShadeRoot p u list) = in_pass p Closing
+changing_gating (PutRoots p list) = in_pass p Closing
 changing_gating (Start p) = in_pass p Closing
 changing_gating _ = record { stand = Outside; cycle = 0; sweep = false }
 
@@ -60,8 +60,8 @@ changing_pass (CheckList p u) = Some p
 changing_pass (SetCursor p) = Some p
 changing_pass (Flip p) = Some p
 changing_pass (Reopen p) = Some p
-changing_pass (ShadeRoot p u hand) = Some p
-changing_pass (PutRoots p hand) = Some p
+changing_pass (ShadeRoot p u list) = Some p
+changing_pass (PutRoots p list) = Some p
 changing_pass (Start p) = Some p
 changing_pass _ = None
 
@@ -78,12 +78,13 @@ lists_read _ = 0
 
 -- how many root blocks, from the first, were made grey for the next cycle since the gate was closed
 abbrev pub roots_shaded : GateRow → ℕ
-roots_shaded (ShadeRoot p u hand) = u
-roots_shaded (PutRoots p hand) = p.threads
+roots_shaded (ShadeRoot p u list) = u
+roots_shaded (PutRoots p list) = p.threads
 roots_shaded (Start p) = p.threads
 roots_shaded _ = 0
 
--- the root block of the thread before thread u, or 0: what is in the hand when its root is shaded
+-- the root block of the thread before thread u, or 0: what is in the private list when its root is
+-- shaded
 abbrev pub root_before : Width → ℕ → ℕ
 root_before W zero = 0
 root_before W (suc u) = root_block W u
@@ -93,12 +94,12 @@ abbrev pub cursor_set : GateRow → Bool
 cursor_set (Flip p) = true
 cursor_set _ = false
 
--- what the thread holds before the event of a row: the roots that it has shaded are in its hand, to
--- be put in its own list, which is empty
-abbrev pub changing_holding : GateRow → Holding
-changing_holding (ShadeRoot p u hand) = record holds_nothing { hand = hand; emptied = true }
-changing_holding (PutRoots p hand) = record holds_nothing { hand = hand; emptied = true }
-changing_holding _ = holds_nothing
+-- what the thread holds before the event of a row: the roots that it has shaded are in its private
+-- list, to be put in its own list, which is empty
+abbrev pub changing_in_hand : GateRow → WorkInHand
+changing_in_hand (ShadeRoot p u list) = record holds_nothing { list = list; emptied = true }
+changing_in_hand (PutRoots p list) = record holds_nothing { list = list; emptied = true }
+changing_in_hand _ = holds_nothing
 
 -- what a thread knows of the heap since it has closed the gate
 pub record ChangingPhaseKnows (W : Width) (r : GateRow) (h : Heap) : Type 0 where
@@ -112,16 +113,16 @@ pub record ChangingPhaseKnows (W : Width) (r : GateRow) (h : Heap) : Type 0 wher
 abbrev pub MayTurn : Extent → GateRow → Heap → Type 0
 MayTurn e (Close p seen) h =
     p.sweep ≡ true → h Phase ≡ seen → (x : ℕ) → is_grey (h (ColourOf x)) ≡ false
-MayTurn e (ShadeRoot p u hand) h = h (ColourOf (root_block e.width u)) ≡ black_word p.cycle
+MayTurn e (ShadeRoot p u list) h = h (ColourOf (root_block e.width u)) ≡ black_word p.cycle
 MayTurn e (Start p) h =
     ((x : ℕ) → h (ColourOf x) ≢ white_word p.cycle)
     × ((x j : ℕ) → is_free (h (ColourOf x)) ≡ false → j < payloads e.width
     → NotFree (λ y. h (ColourOf y)) (target (h (PayloadOf x j))))
 MayTurn e _ h = Unit {0}
 
--- thread t stands before the event of row r of such a part: it has closed the gate alone, and no
+-- thread t comes before the event of row r of such a part: it has closed the gate alone, and no
 -- other thread holds anything, from the event that closes it to the one that opens it again
-pub record IsChangingPhase (c : Config) (h : Heap) (gs : ℕ → Gating) (hs : ℕ → Holding) (t : ℕ)
+pub record IsChangingPhase (c : Config) (h : Heap) (gs : ℕ → Gating) (hs : ℕ → WorkInHand) (t : ℕ)
     (r : GateRow) : Type 0 where
   pub thread : t < c.threads
   pub turns : turns_over r ≡ true
@@ -130,7 +131,7 @@ pub record IsChangingPhase (c : Config) (h : Heap) (gs : ℕ → Gating) (hs : �
   pub own : IsTurnOf t r
   pub gate : GateOf c.threads (h Phase) gs
   pub stands : gs t ≡ changing_gating r
-  pub holds : hs t ≡ changing_holding r
+  pub holds : hs t ≡ changing_in_hand r
   pub alone : is_closing (changing_gating r).stand ≡ true → (u : ℕ) → u < c.threads → (t ≡ u → ⊥)
       → hs u ≡ holds_nothing
   pub knows : ChangingPhaseKnows c.width r h

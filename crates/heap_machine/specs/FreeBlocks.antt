@@ -1,6 +1,7 @@
--- The Free blocks. Each stands in exactly one place: in the chain of one free list word, in the
--- chain of the free hand of one thread, or among the blocks that one thread has collected to build
--- with and not yet coloured. All these chains end, have no block twice, and hold Free blocks alone.
+-- The Free blocks. Each is in exactly one place: in the chain of one free list word, in the
+-- chain of the private free list of one thread, or among the blocks that one thread has collected
+-- to build with and not yet coloured. All these chains end, have no block twice, and hold Free
+-- blocks alone.
 use Rattle.std.specs.Prelude.{ℕ, suc, ◌+◌, ◌≡◌, ◌<◌, ◌≤◌, ◌&&◌, Bool, true, false, List, [], length, nat_lt, if◌then◌else◌}
 use Rattle.block_store.specs.Colours.{is_free, free_word}
 use Rattle.block_store.specs.Heaps.{Heap}
@@ -9,20 +10,20 @@ use Rattle.block_store.specs.Places.{Extent, Place, FreeCount, FreeList, ColourO
 use Rattle.heap_machine.specs.Chains.{Chain}
 use Rattle.block_store.specs.Counts.{times, total}
 
--- what a thread holds of the Free blocks: the first block of the list in its hand, or 0; whether
+-- what a thread holds of the Free blocks: the first block of its private list, or 0; whether
 -- its own list is known to be empty, since it was taken in this pass and none was put there since;
 -- the blocks that it has collected and not yet coloured; how many it has reserved and not yet
 -- coloured; and how many it has freed and not yet credited
-pub record FreeHolding : Type 0 where
-  pub hand : ℕ
+pub record FreeInHand : Type 0 where
+  pub list : ℕ
   pub emptied : Bool
   pub held : List ℕ
   pub reserved : ℕ
   pub freed : ℕ
 
 -- it holds nothing
-abbrev pub no_free : FreeHolding
-no_free = record { hand = 0; emptied = false; held = []; reserved = 0; freed = 0 }
+abbrev pub no_free : FreeInHand
+no_free = record { list = 0; emptied = false; held = []; reserved = 0; freed = 0 }
 
 -- how many blocks are Free
 abbrev pub count_free : Extent → (ℕ → ℕ) → ℕ
@@ -32,14 +33,14 @@ count_free e colour = total e.blocks (λ x. bit (is_free (colour (suc x))))
 -- holds. The free count, the reserved blocks and the freed ones make up the Free blocks. Where a
 -- thread knows its own list to be empty, it is: so what it puts there loses nothing. A word out of
 -- range reads 0, which is a Free colour, so only blocks of the heap count
-pub record FreeOf (e : Extent) (heads colour : ℕ → ℕ) (count : ℕ) (fs : ℕ → FreeHolding)
+pub record FreeOf (e : Extent) (heads colour : ℕ → ℕ) (count : ℕ) (fs : ℕ → FreeInHand)
     : Type 0 where
   pub lists : ℕ → List ℕ
-  pub hands : ℕ → List ℕ
+  pub private_lists : ℕ → List ℕ
   pub list_chain : (t : ℕ) → t < e.threads → Chain colour (heads t) (lists t)
-  pub hand_chain : (t : ℕ) → t < e.threads → Chain colour (fs t).hand (hands t)
+  pub private_chain : (t : ℕ) → t < e.threads → Chain colour (fs t).list (private_lists t)
   pub once : (x : ℕ) → total e.threads (λ t. times x (lists t)) + total e.threads
-      (λ t. times x (hands t))
+      (λ t. times x (private_lists t))
       + total e.threads (λ t. times x (fs t).held) ≡ bit (is_block e x && is_free (colour x))
   pub credit : count + total e.threads (λ t. (fs t).reserved) + total e.threads (λ t. (fs t).freed)
       ≡ count_free e colour
@@ -47,7 +48,7 @@ pub record FreeOf (e : Extent) (heads colour : ℕ → ℕ) (count : ℕ) (fs : 
   pub emptied : (t : ℕ) → t < e.threads → (fs t).emptied ≡ true → heads t ≡ 0
 
 -- of a heap
-abbrev pub FreeKept : Extent → Heap → (ℕ → FreeHolding) → Type 0
+abbrev pub FreeKept : Extent → Heap → (ℕ → FreeInHand) → Type 0
 FreeKept e h fs = FreeOf e (λ t. h (FreeList t)) (λ x. h (ColourOf x)) (h FreeCount) fs
 
 -- the blocks from a on are Free, in ascending order in the list of the first thread, and counted;

@@ -38,8 +38,8 @@ gate_want W (CheckList p u) = Load (GreyList u)
 gate_want W (SetCursor p) = Exchange Cursor 1
 gate_want W (Flip p) = Exchange Phase (open_word p.cycle true)
 gate_want W (Reopen p) = Exchange Phase (open_word p.cycle false)
-gate_want W (ShadeRoot p u hand) = Exchange (ColourOf (root_block W u)) (grey_word hand)
-gate_want W (PutRoots p hand) = Exchange (GreyList p.thread) hand
+gate_want W (ShadeRoot p u list) = Exchange (ColourOf (root_block W u)) (grey_word list)
+gate_want W (PutRoots p list) = Exchange (GreyList p.thread) list
 gate_want W (Start p) = Exchange Phase (open_word (p.cycle + 1) false)
 gate_want W TurnedOver = Load Phase
 gate_want W (StartedCycle y) = Load Phase
@@ -67,7 +67,7 @@ list_checked p u w = if w == 0 then (if nat_lt (u + 1) p.threads then CheckList 
 abbrev pub closed_by : Pass → GateRow
 closed_by p = if p.sweep then ShadeRoot p 0 0 else CheckList p 0
 
--- after the root block of thread u became grey, and the first of the hand
+-- after the root block of thread u became grey, and the first of the private list
 abbrev pub root_shaded : Width → Pass → ℕ → GateRow
 root_shaded W p u = if nat_lt (u + 1) p.threads then ShadeRoot p (u + 1) (root_block W u)
     else PutRoots p (root_block W u)
@@ -91,8 +91,8 @@ gate_got W (CheckList p u) w = list_checked p u w
 gate_got W (SetCursor p) w = Flip p
 gate_got W (Flip p) w = TurnedOver
 gate_got W (Reopen p) w = TurnedOver
-gate_got W (ShadeRoot p u hand) w = root_shaded W p u
-gate_got W (PutRoots p hand) w = Start p
+gate_got W (ShadeRoot p u list) w = root_shaded W p u
+gate_got W (PutRoots p list) w = Start p
 gate_got W (Start p) w = StartedCycle (p.cycle + 1)
 gate_got W TurnedOver w = TurnedOver
 gate_got W (StartedCycle y) w = StartedCycle y
@@ -114,8 +114,8 @@ gate_step (CheckList p u) w = Went
 gate_step (SetCursor p) w = Went
 gate_step (Flip p) w = Over
 gate_step (Reopen p) w = Over
-gate_step (ShadeRoot p u hand) w = Went
-gate_step (PutRoots p hand) w = Went
+gate_step (ShadeRoot p u list) w = Went
+gate_step (PutRoots p list) w = Went
 gate_step (Start p) w = Over
 gate_step TurnedOver w = Over
 gate_step (StartedCycle y) w = Over
@@ -165,8 +165,8 @@ GateFits (CheckList p u) = IsIdle p × (u < p.threads)
 GateFits (SetCursor p) = IsIdle p
 GateFits (Flip p) = IsIdle p
 GateFits (Reopen p) = IsIdle p
-GateFits (ShadeRoot p u hand) = IsSwept p × (u < p.threads)
-GateFits (PutRoots p hand) = IsSwept p
+GateFits (ShadeRoot p u list) = IsSwept p × (u < p.threads)
+GateFits (PutRoots p list) = IsSwept p
 GateFits (Start p) = IsSwept p
 GateFits TurnedOver = Unit {0}
 GateFits (StartedCycle y) = Unit {0}
@@ -177,7 +177,7 @@ pub record IsAt (c : Config) (p : Pass) : Type 0 where
   pub threads : p.threads ≡ c.threads
   pub arrays : registers_end c.width c.threads ≤ c.blocks
 
--- and the row is one of the heap: the hand is a block of the first arrays, or 0
+-- and the row is one of the heap: the private list is a block of the first arrays, or 0
 abbrev pub GateAt : Config → GateRow → Type 0
 GateAt c (CloseLook p) = IsAt c p
 GateAt c (Close p seen) = IsAt c p
@@ -185,7 +185,7 @@ GateAt c (CheckList p u) = IsAt c p
 GateAt c (SetCursor p) = IsAt c p
 GateAt c (Flip p) = IsAt c p
 GateAt c (Reopen p) = IsAt c p
-GateAt c (ShadeRoot p u hand) = IsAt c p × (hand ≤ registers_end c.width u)
-GateAt c (PutRoots p hand) = IsAt c p × (hand ≤ registers_end c.width c.threads)
+GateAt c (ShadeRoot p u list) = IsAt c p × (list ≤ registers_end c.width u)
+GateAt c (PutRoots p list) = IsAt c p × (list ≤ registers_end c.width c.threads)
 GateAt c (Start p) = IsAt c p
 GateAt c _ = Unit {0}

@@ -33,7 +33,7 @@ is_closing Outside = false
 is_closing Inside = false
 is_closing Closing = true
 
--- where a thread stands, and the cycle and phase of its pass
+-- where a thread is, and the cycle and phase of its pass
 pub record Gating : Type 0 where
   pub stand : Stand
   pub cycle : ℕ

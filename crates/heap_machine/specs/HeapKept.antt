@@ -7,11 +7,11 @@ use Rattle.block_store.specs.Registers.{root_block}
 use Rattle.block_store.specs.Widths.{payloads}
 use Rattle.block_store.specs.Places.{Extent, Place, ColourOf, PayloadOf}
 use Rattle.heap_machine.specs.Grey.{GreyKept, is_of_grey}
-use Rattle.heap_machine.specs.Holdings.{Holding, grey_held, tricolour_held}
+use Rattle.heap_machine.specs.WorkInHand.{WorkInHand, grey_held, tricolour_held}
 use Rattle.heap_machine.specs.Solid.{NotFree, IsMarked, SolidKept}
 use Rattle.heap_machine.specs.Tricolour.{NotWhite, TricolourKept, is_of_tricolour}
 
-pub record HeapKept (e : Extent) (cycle : ℕ) (h : Heap) (hs : ℕ → Holding) : Type 0 where
+pub record HeapKept (e : Extent) (cycle : ℕ) (h : Heap) (hs : ℕ → WorkInHand) : Type 0 where
   pub grey : GreyKept e.threads h (λ t. grey_held (hs t))
   pub tricolour : TricolourKept e cycle h (λ t. tricolour_held (hs t))
   pub solid : SolidKept e cycle h
@@ -25,7 +25,7 @@ pub record CanRefer (cycle : ℕ) (h : Heap) (y : ℕ) : Type 0 where
   pub dark : NotWhite cycle (λ z. h (ColourOf z)) y
   pub solid : NotFree (λ z. h (ColourOf z)) y
 
--- block x may get colour v without a list or a hand
+-- block x may get colour v without a list or a private list
 pub record CanColour (e : Extent) (cycle : ℕ) (h : Heap) (x v : ℕ) : Type 0 where
   pub was : is_grey (h (ColourOf x)) ≡ false
   pub not_grey : is_grey v ≡ false

@@ -10,7 +10,7 @@ pub mod Tricolour
 pub mod Solid
 pub mod FreeBlocks
 pub mod Sweeping
-pub mod Holdings
+pub mod WorkInHand
 pub mod HeapKept
 pub mod ReuseKept
 pub mod PhaseKept

@@ -36,7 +36,7 @@ Fits (CompareExchange p old v) w = Unit {0}
 Fits (FetchAdd p v) w = w + v < 2 ^ 64
 Fits (FetchSub p v) w = v ≤ w
 
--- the operation that the code does: the index stands for the place
+-- the operation that the code does: the index represents the place
 abbrev pub op_at : Extent → Operation → Op
 op_at e (Load p) = ops.Load (index e p)
 op_at e (Exchange p v) = ops.Exchange (index e p) v

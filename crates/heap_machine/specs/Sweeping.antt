@@ -9,37 +9,37 @@ use Rattle.block_store.specs.Counts.{total}
 
 -- the blocks that a thread has claimed and not yet passed: those from low on below high, where
 -- (0, 0) is none; and the block among them that it has read white and is about to free, or 0
-pub record SweepHolding : Type 0 where
+pub record SweepInHand : Type 0 where
   pub low : ℕ
   pub high : ℕ
   pub doomed : ℕ
 
 -- it holds nothing
-abbrev pub no_claim : SweepHolding
+abbrev pub no_claim : SweepInHand
 no_claim = record { low = 0; high = 0; doomed = 0 }
 
 -- whether the thread has claimed block x and not yet passed it
-abbrev pub has_claimed : SweepHolding → ℕ → Bool
+abbrev pub has_claimed : SweepInHand → ℕ → Bool
 has_claimed w x = nat_le w.low x && nat_lt x w.high
 
 -- what is left of its range when the first block of it was passed
-abbrev pub rest_of : SweepHolding → SweepHolding
+abbrev pub rest_of : SweepInHand → SweepInHand
 rest_of w = cond (nat_lt (w.low + 1) w.high)
     (record { low = w.low + 1; high = w.high; doomed = 0 }) no_claim
 
 -- how many of n threads have claimed block x
-abbrev pub claims : ℕ → (ℕ → SweepHolding) → ℕ → ℕ
+abbrev pub claims : ℕ → (ℕ → SweepInHand) → ℕ → ℕ
 claims n cs x = total n (λ t. bit (has_claimed (cs t) x))
 
 -- nothing is claimed, or a range of blocks below the cursor
-abbrev pub IsRange : ℕ → SweepHolding → Type 0
+abbrev pub IsRange : ℕ → SweepInHand → Type 0
 IsRange cursor w = (w.low ≡ 0) × (w.high ≡ 0) ⊎ (1 ≤ w.low) × (w.low < w.high) × (w.high ≤ cursor)
 
 -- over whether the phase is Sweep, the white word of the cycle, the cursor, the colour words, and
 -- what each thread holds. No two ranges overlap; in Sweep a block below the cursor that no range
 -- has was passed, and is not white; and a block that is about to be freed is still white
 pub record SweepOf (e : Extent) (sweep : Bool) (white cursor : ℕ) (colour : ℕ → ℕ)
-    (cs : ℕ → SweepHolding) : Type 0 where
+    (cs : ℕ → SweepInHand) : Type 0 where
   pub cursor_in : (1 ≤ cursor) × (cursor ≤ e.blocks + 1)
   pub ranges : (t : ℕ) → t < e.threads → IsRange cursor (cs t)
   pub once : (x : ℕ) → claims e.threads cs x ≤ 1
@@ -49,7 +49,7 @@ pub record SweepOf (e : Extent) (sweep : Bool) (white cursor : ℕ) (colour : �
       → (sweep ≡ true) × (has_claimed (cs t) (cs t).doomed ≡ true) × (colour (cs t).doomed ≡ white)
 
 -- of a heap, in the phase and cycle of its phase word
-abbrev pub SweepKept : Extent → Heap → (ℕ → SweepHolding) → Type 0
+abbrev pub SweepKept : Extent → Heap → (ℕ → SweepInHand) → Type 0
 SweepKept e h cs =
     SweepOf e (is_sweep (h Phase)) (white_word (cycle_of (h Phase))) (h Cursor)
     (λ x. h (ColourOf x)) cs

@@ -43,11 +43,11 @@ pub enum GateRow {
     Flip { pass: Pass },
     /// A grey list was not empty: opens the gate again, in Mark.
     Reopen { pass: Pass },
-    /// Makes the root block of thread `u` grey for the next cycle, in front of the hand, after a
-    /// Sweep pass. The hand is the root block that was made grey before it, or 0.
-    ShadeRoot { pass: Pass, u: u32, hand: u32 },
+    /// Makes the root block of thread `u` grey for the next cycle, in front of the private list,
+    /// after a Sweep pass. The private list is the root block that was made grey before it, or 0.
+    ShadeRoot { pass: Pass, u: u32, list: u32 },
     /// Each root block is grey: puts them in the thread's own grey list.
-    PutRoots { pass: Pass, hand: u32 },
+    PutRoots { pass: Pass, list: u32 },
     /// Begins Mark in the next cycle, and opens the gate.
     Start { pass: Pass },
     /// Is over: the gate was closed, and is open again in the same cycle.
@@ -148,8 +148,8 @@ impl Gate {
             SetCursor { pass: _ } => Op::exchange(places.cursor(), 1),
             Flip { pass } => flip(place, pass),
             Reopen { pass } => reopen(place, pass),
-            ShadeRoot { pass, u, hand } => shade_root(places, pass, u, hand),
-            PutRoots { pass, hand } => put_roots(places, pass, hand),
+            ShadeRoot { pass, u, list } => shade_root(places, pass, u, list),
+            PutRoots { pass, list } => put_roots(places, pass, list),
             Start { pass } => start(place, pass),
         }
     }
@@ -180,8 +180,8 @@ impl Gate {
             CheckList { pass, u } => self.goes_by(list_checked(pass, u, word)),
             SetCursor { pass } => self.goes(Flip { pass }, Step::Went),
             Flip { pass: _ } | Reopen { pass: _ } => self.goes(TurnedOver, Step::Over),
-            ShadeRoot { pass, u, hand: _ } => self.goes(root_shaded(width, pass, u), Step::Went),
-            PutRoots { pass, hand: _ } => self.goes(Start { pass }, Step::Went),
+            ShadeRoot { pass, u, list: _ } => self.goes(root_shaded(width, pass, u), Step::Went),
+            PutRoots { pass, list: _ } => self.goes(Start { pass }, Step::Went),
             Start { pass } => self.goes(
                 StartedCycle {
                     cycle: pass.cycle + 1,

@@ -12,13 +12,13 @@ ghost use Rattle.heap_machine.specs.Operations.{Operation, Load, Exchange, Fits,
 ghost use Rattle.heap_machine.specs.Readings.{CanHold, StoresHeld, IsHeld};
 ghost use Rattle.block_store.specs.Counts.{changed, times, total};
 ghost use Rattle.heap_machine.specs.Chains.{Chain};
-ghost use Rattle.heap_machine.specs.Grey.{GreyHolding, no_grey, GreyKept, is_of_grey};
-ghost use Rattle.heap_machine.specs.Tricolour.{TricolourHolding, no_tricolour, NotWhite, TricolourKept, Tricolour, is_of_tricolour};
+ghost use Rattle.heap_machine.specs.Grey.{GreyInHand, no_grey, GreyKept, is_of_grey};
+ghost use Rattle.heap_machine.specs.Tricolour.{TricolourInHand, no_tricolour, NotWhite, TricolourKept, Tricolour, is_of_tricolour};
 ghost use Rattle.heap_machine.specs.Solid.{NotFree, IsMarked, SolidKept};
 ghost use Rattle.block_store.specs.Registers.{root_block};
 ghost use Rattle.block_store.specs.Widths.{payloads};
 ghost use Rattle.block_store.specs.declared.Width.{Width};
-ghost use Rattle.heap_machine.specs.Holdings.{Holding};
+ghost use Rattle.heap_machine.specs.WorkInHand.{WorkInHand};
 ghost use Rattle.heap_machine.specs.HeapKept.{HeapKept, is_ruled, CanColour, CanRefer};
 ghost use Rattle.heap_machine.specs.Gating.{Gating, GateOf, Outside, Inside, Closing, is_outside, closed_word, open_word};
 ghost use Rattle.heap_machine.specs.Gates.{gate_want, gate_got, gate_started, GateFits, GateAt, IsIdle};
@@ -43,7 +43,7 @@ pub fn operations_are_of_places()
 /// The phase word counts the threads inside, so at most all of them, and at least one where one is.
 /// A thread closes the gate where nobody is inside, and is then the only one that is not outside,
 /// until it opens the gate in either phase. To go in or out, or to close the gate, changes neither
-/// the cycle nor the phase. An event that leaves the phase word and where its thread stands keeps
+/// the cycle nor the phase. An event that leaves the phase word and where its thread is keeps
 /// the gate.
 pub fn gate_counts()
     ensures enters { (n phase : ℕ) (gs : ℕ → Gating) → GateOf n phase gs → (t : ℕ) → t < n
@@ -151,7 +151,7 @@ pub fn phase_changes_at_the_flip_and_the_start()
 
 /// A part that changes the phase comes to the flip exactly where it read 0 from the grey list of
 /// each thread, after it had read one word of an empty gate of its cycle and phase twice, and so
-/// had closed it; and behind the lists it set the cursor to 1. At the first list that is not empty
+/// had closed it; and after the lists it set the cursor to 1. At the first list that is not empty
 /// it opens the gate again. All of this is of a Mark pass.
 pub fn turn_over_checks_every_list()
     ensures flips { (W : Width) (p : Pass) (v x : ℕ) → IsIdle p → CanClose p v
@@ -207,77 +207,78 @@ pub fn chains_are_lists()
         → Chain (changed c y v) y (y ∷ xs) }
 {}
 
-/// Each grey block stands in one place: in the chain of one list, or in the hands of one thread,
-/// which are the block that it scans and the chain of its hand. Grey blocks alone stand there.
+/// Each grey block is in one place: in the chain of one list, or in the private lists of one
+/// thread, which are the block that it scans and the chain of its private list. Grey blocks alone
+/// are there.
 pub fn grey_blocks_stand_once()
-    ensures once { (n : ℕ) (h : Heap) (hs : ℕ → GreyHolding) (k : GreyKept n h hs) (x : ℕ)
+    ensures once { (n : ℕ) (h : Heap) (hs : ℕ → GreyInHand) (k : GreyKept n h hs) (x : ℕ)
         → is_grey (h (ColourOf x)) ≡ true
-        → total n (λ t. times x (k.lists t)) + total n (λ t. times x (k.hands t)) ≡ 1 }
-    ensures lists { (n : ℕ) (h : Heap) (hs : ℕ → GreyHolding) (k : GreyKept n h hs) (t x : ℕ)
+        → total n (λ t. times x (k.lists t)) + total n (λ t. times x (k.private_lists t)) ≡ 1 }
+    ensures lists { (n : ℕ) (h : Heap) (hs : ℕ → GreyInHand) (k : GreyKept n h hs) (t x : ℕ)
         → t < n
         → times x (k.lists t) ≤ bit (is_grey (h (ColourOf x))) }
-    ensures hands { (n : ℕ) (h : Heap) (hs : ℕ → GreyHolding) (k : GreyKept n h hs) (t x : ℕ)
+    ensures private_lists { (n : ℕ) (h : Heap) (hs : ℕ → GreyInHand) (k : GreyKept n h hs) (t x : ℕ)
         → t < n
-        → times x (k.hands t) ≤ bit (is_grey (h (ColourOf x))) }
-    ensures one_list { (n : ℕ) (h : Heap) (hs : ℕ → GreyHolding) (k : GreyKept n h hs) (t u x : ℕ)
+        → times x (k.private_lists t) ≤ bit (is_grey (h (ColourOf x))) }
+    ensures one_list { (n : ℕ) (h : Heap) (hs : ℕ → GreyInHand) (k : GreyKept n h hs) (t u x : ℕ)
         → t < n → u < n
         → 1 ≤ times x (k.lists t) → 1 ≤ times x (k.lists u) → t ≡ u }
-    ensures one_hand { (n : ℕ) (h : Heap) (hs : ℕ → GreyHolding) (k : GreyKept n h hs) (t u x : ℕ)
+    ensures one_private_list { (n : ℕ) (h : Heap) (hs : ℕ → GreyInHand) (k : GreyKept n h hs) (t u x : ℕ)
         → t < n → u < n
-        → 1 ≤ times x (k.hands t) → 1 ≤ times x (k.hands u) → t ≡ u }
-    ensures list_or_hand { (n : ℕ) (h : Heap) (hs : ℕ
-        → GreyHolding) (k : GreyKept n h hs) (t u x : ℕ) → t < n → u < n
-        → 1 ≤ times x (k.lists t) → times x (k.hands u) ≡ 0 }
-    ensures first { (n : ℕ) (h : Heap) (hs : ℕ → GreyHolding) → GreyKept n h hs → (t : ℕ) → t < n
+        → 1 ≤ times x (k.private_lists t) → 1 ≤ times x (k.private_lists u) → t ≡ u }
+    ensures own_or_private { (n : ℕ) (h : Heap) (hs : ℕ
+        → GreyInHand) (k : GreyKept n h hs) (t u x : ℕ) → t < n → u < n
+        → 1 ≤ times x (k.lists t) → times x (k.private_lists u) ≡ 0 }
+    ensures first { (n : ℕ) (h : Heap) (hs : ℕ → GreyInHand) → GreyKept n h hs → (t : ℕ) → t < n
         → h (GreyList t) ≢ 0 → is_grey (h (ColourOf (h (GreyList t)))) ≡ true }
-    ensures hand { (n : ℕ) (h : Heap) (hs : ℕ → GreyHolding) → GreyKept n h hs → (t : ℕ) → t < n
-        → (hs t).hand ≢ 0 → is_grey (h (ColourOf (hs t).hand)) ≡ true }
-    ensures scanned { (n : ℕ) (h : Heap) (hs : ℕ → GreyHolding) → GreyKept n h hs → (t x : ℕ)
+    ensures list { (n : ℕ) (h : Heap) (hs : ℕ → GreyInHand) → GreyKept n h hs → (t : ℕ) → t < n
+        → (hs t).list ≢ 0 → is_grey (h (ColourOf (hs t).list)) ≡ true }
+    ensures scanned { (n : ℕ) (h : Heap) (hs : ℕ → GreyInHand) → GreyKept n h hs → (t x : ℕ)
         → t < n
         → (hs t).scan ≡ Some x → is_grey (h (ColourOf x)) ≡ true }
-    ensures none { (n : ℕ) (h : Heap) (hs : ℕ → GreyHolding) → GreyKept n h hs
-        → ((t : ℕ) → t < n → (h (GreyList t) ≡ 0) × ((hs t).hand ≡ 0) × ((hs t).scan ≡ None))
+    ensures none { (n : ℕ) (h : Heap) (hs : ℕ → GreyInHand) → GreyKept n h hs
+        → ((t : ℕ) → t < n → (h (GreyList t) ≡ 0) × ((hs t).list ≡ 0) × ((hs t).scan ≡ None))
         → (x : ℕ) → is_grey (h (ColourOf x)) ≡ false }
 {}
 
 /// An operation on a word that is neither a grey list nor a colour keeps that each grey block
-/// stands in one place, and so does a write of a colour where neither the old nor the new one is
+/// is in one place, and so does a write of a colour where neither the old nor the new one is
 /// grey.
 pub fn other_writes_keep_grey()
-    ensures place { (n : ℕ) (h : Heap) (hs : ℕ → GreyHolding) (o : Operation)
+    ensures place { (n : ℕ) (h : Heap) (hs : ℕ → GreyInHand) (o : Operation)
         → is_of_grey (place_of o) ≡ false
         → GreyKept n h hs → GreyKept n (heap_after h o) hs }
-    ensures colour { (n : ℕ) (h : Heap) (hs : ℕ → GreyHolding) (x v : ℕ)
+    ensures colour { (n : ℕ) (h : Heap) (hs : ℕ → GreyInHand) (x v : ℕ)
         → is_grey (h (ColourOf x)) ≡ false
         → is_grey v ≡ false → GreyKept n h hs → GreyKept n (put_at h (ColourOf x) v) hs }
 {}
 
-/// Where a thread puts its hand in its own list and that list is not empty, not every grey block
-/// stands in one place any more: the blocks of that list are lost.
+/// Where a thread puts its private list in its own list and that list is not empty, not every grey
+/// block is in one place any more: the blocks of that list are lost.
 pub fn lists_are_lost_at_a_put()
-    ensures { (n : ℕ) (h : Heap) (hs : ℕ → GreyHolding) → GreyKept n h hs → (t : ℕ) → t < n
+    ensures { (n : ℕ) (h : Heap) (hs : ℕ → GreyInHand) → GreyKept n h hs → (t : ℕ) → t < n
         → (hs t).scan ≡ None → h (GreyList t) ≢ 0
-        → GreyKept n (put_at h (GreyList t) (hs t).hand) (changed hs t no_grey) → ⊥ }
+        → GreyKept n (put_at h (GreyList t) (hs t).list) (changed hs t no_grey) → ⊥ }
 {}
 
 /// The tricolour rule: no black block refers to a white one, and no payload that the thread has
 /// scanned refers to a white block; what it has shaded before a store is not white. So it is while
 /// the phase is Mark, in the cycle of the phase word.
 pub fn black_blocks_refer_to_none_white()
-    ensures black { (e : Extent) (cycle : ℕ) (h : Heap) (hs : ℕ → TricolourHolding)
+    ensures black { (e : Extent) (cycle : ℕ) (h : Heap) (hs : ℕ → TricolourInHand)
         → TricolourKept e cycle h hs
         → (x j : ℕ) → h (ColourOf x) ≡ black_word cycle → j < payloads e.width
         → target (h (PayloadOf x j)) ≢ 0
         → h (ColourOf (target (h (PayloadOf x j)))) ≢ white_word cycle }
-    ensures mark { (e : Extent) (h : Heap) (hs : ℕ → TricolourHolding) → Tricolour e h hs
+    ensures mark { (e : Extent) (h : Heap) (hs : ℕ → TricolourInHand) → Tricolour e h hs
         → is_sweep (h Phase) ≡ false → (x j : ℕ) → h (ColourOf x) ≡ black_word (cycle_of (h Phase))
         → j < payloads e.width → target (h (PayloadOf x j)) ≢ 0
         → h (ColourOf (target (h (PayloadOf x j)))) ≢ white_word (cycle_of (h Phase)) }
-    ensures scanned { (e : Extent) (cycle : ℕ) (h : Heap) (hs : ℕ → TricolourHolding)
+    ensures scanned { (e : Extent) (cycle : ℕ) (h : Heap) (hs : ℕ → TricolourInHand)
         → TricolourKept e cycle h hs
         → (t j : ℕ) → t < e.threads → j < (hs t).dealt → target (h (PayloadOf (hs t).scan j)) ≢ 0
         → h (ColourOf (target (h (PayloadOf (hs t).scan j)))) ≢ white_word cycle }
-    ensures shaded { (e : Extent) (cycle : ℕ) (h : Heap) (hs : ℕ → TricolourHolding)
+    ensures shaded { (e : Extent) (cycle : ℕ) (h : Heap) (hs : ℕ → TricolourInHand)
         → TricolourKept e cycle h hs
         → (t : ℕ) → t < e.threads → (hs t).shaded ≢ 0
         → h (ColourOf (hs t).shaded) ≢ white_word cycle }
@@ -289,23 +290,23 @@ pub fn black_blocks_refer_to_none_white()
 /// lets go what it holds keeps it too. It holds where no block is black and no thread holds
 /// anything, as at the opening and at the start of a cycle.
 pub fn what_keeps_tricolour()
-    ensures place { (e : Extent) (cycle : ℕ) (h : Heap) (hs : ℕ → TricolourHolding) (o : Operation)
+    ensures place { (e : Extent) (cycle : ℕ) (h : Heap) (hs : ℕ → TricolourInHand) (o : Operation)
         → is_of_tricolour (place_of o) ≡ false → TricolourKept e cycle h hs
         → TricolourKept e cycle (heap_after h o) hs }
-    ensures colour { (e : Extent) (cycle : ℕ) (h : Heap) (hs : ℕ → TricolourHolding) (x v : ℕ)
+    ensures colour { (e : Extent) (cycle : ℕ) (h : Heap) (hs : ℕ → TricolourInHand) (x v : ℕ)
         → v ≢ white_word cycle
         → (v ≡ black_word cycle → (j : ℕ) → j < payloads e.width → NotWhite cycle (λ y. h (ColourOf
         y)) (target (h (PayloadOf x j))))
         → TricolourKept e cycle h hs → TricolourKept e cycle (put_at h (ColourOf x) v) hs }
-    ensures payload { (e : Extent) (cycle : ℕ) (h : Heap) (hs : ℕ → TricolourHolding) (x j w : ℕ)
+    ensures payload { (e : Extent) (cycle : ℕ) (h : Heap) (hs : ℕ → TricolourInHand) (x j w : ℕ)
         → NotWhite cycle (λ y. h (ColourOf y)) (target w) → TricolourKept e cycle h hs
         → TricolourKept e cycle (put_at h (PayloadOf x j) w) hs }
-    ensures store { (e : Extent) (cycle : ℕ) (h : Heap) (hs : ℕ → TricolourHolding) (t x j w : ℕ)
+    ensures store { (e : Extent) (cycle : ℕ) (h : Heap) (hs : ℕ → TricolourInHand) (t x j w : ℕ)
         → t < e.threads → target w ≡ (hs t).shaded → TricolourKept e cycle h hs
         → TricolourKept e cycle (put_at h (PayloadOf x j) w) hs }
-    ensures lets_go { (e : Extent) (cycle : ℕ) (h : Heap) (hs : ℕ → TricolourHolding) (t : ℕ)
+    ensures lets_go { (e : Extent) (cycle : ℕ) (h : Heap) (hs : ℕ → TricolourInHand) (t : ℕ)
         → TricolourKept e cycle h hs → TricolourKept e cycle h (changed hs t no_tricolour) }
-    ensures begins { (e : Extent) (cycle : ℕ) (h : Heap) (hs : ℕ → TricolourHolding)
+    ensures begins { (e : Extent) (cycle : ℕ) (h : Heap) (hs : ℕ → TricolourInHand)
         → ((x : ℕ) → h (ColourOf x) ≢ black_word cycle)
         → ((t : ℕ) → t < e.threads → hs t ≡ no_tricolour) → TricolourKept e cycle h hs }
 {}
@@ -313,7 +314,7 @@ pub fn what_keeps_tricolour()
 /// Where a payload that refers to a white block is stored in a black one, the tricolour rule is
 /// broken: so a block is shaded before a store in a black block.
 pub fn unshaded_stores_break_tricolour()
-    ensures { (e : Extent) (cycle : ℕ) (h : Heap) (hs : ℕ → TricolourHolding) (x j w : ℕ)
+    ensures { (e : Extent) (cycle : ℕ) (h : Heap) (hs : ℕ → TricolourInHand) (x j w : ℕ)
         → h (ColourOf x) ≡ black_word cycle → j < payloads e.width → target w ≢ 0
         → h (ColourOf (target w)) ≡ white_word cycle
         → TricolourKept e cycle (put_at h (PayloadOf x j) w) hs → ⊥ }
@@ -342,13 +343,13 @@ pub fn what_keeps_solid()
 /// the block refers to a white one, on a block that was not Free or refers to no Free one, and
 /// black on a root block; and a payload that refers to no white and to no Free block.
 pub fn what_keeps_the_heap()
-    ensures place { (e : Extent) (cycle : ℕ) (h : Heap) (hs : ℕ → Holding) (o : Operation)
+    ensures place { (e : Extent) (cycle : ℕ) (h : Heap) (hs : ℕ → WorkInHand) (o : Operation)
         → is_ruled (place_of o) ≡ false
         → HeapKept e cycle h hs → HeapKept e cycle (heap_after h o) hs }
-    ensures colour { (e : Extent) (cycle : ℕ) (h : Heap) (hs : ℕ → Holding) (x v : ℕ)
+    ensures colour { (e : Extent) (cycle : ℕ) (h : Heap) (hs : ℕ → WorkInHand) (x v : ℕ)
         → CanColour e cycle h x v
         → HeapKept e cycle h hs → HeapKept e cycle (put_at h (ColourOf x) v) hs }
-    ensures payload { (e : Extent) (cycle : ℕ) (h : Heap) (hs : ℕ → Holding) (x j w : ℕ)
+    ensures payload { (e : Extent) (cycle : ℕ) (h : Heap) (hs : ℕ → WorkInHand) (x j w : ℕ)
         → CanRefer cycle h (target w)
         → HeapKept e cycle h hs → HeapKept e cycle (put_at h (PayloadOf x j) w) hs }
 {}

@@ -1,8 +1,8 @@
 //! The shared words of a heap: one atomic operation on one of them, and the part of a thread's work
 //! that goes in and out at the gate, or closes it and changes the phase, one operation at a
-//! time. And the rules that every part of a thread's work keeps: where grey blocks stand, that no
+//! time. And the rules that every part of a thread's work keeps: where grey blocks are, that no
 //! black block refers to a white one, that only Free blocks refer to Free ones, where Free blocks
-//! stand, and what of them the sweep has claimed and passed.
+//! are, and what of them the sweep has claimed and passed.
 #![tactic(auto)]
 
 mod gate;
@@ -23,7 +23,7 @@ pub use laws::{
     stores_are_held, turn_over_checks_every_list, turn_over_keeps_the_gate,
     unshaded_stores_break_tricolour, what_keeps_solid, what_keeps_the_heap, what_keeps_tricolour,
 };
-pub use memory::{Given, Memory};
+pub use memory::{Memory, ScriptedMemory};
 pub use op::Op;
 pub use pass::Pass;
 pub use phase_laws::{

@@ -22,15 +22,15 @@ pub trait Memory {
         ensures { acts self.old shared.now op.now result self.new };
 }
 
-/// A memory that answers one word, whatever is asked of it: it stands for an operation that was
+/// A memory that answers one word, whatever is asked of it: it represents an operation that was
 /// made elsewhere.
 #[derive(Drop)]
-pub struct Given {
+pub struct ScriptedMemory {
     /// The word.
     pub word: u64,
 }
 
-impl Memory for Given {
+impl Memory for ScriptedMemory {
     ghost use Rattle.std.specs.Prelude.{◌≡◌};
 
     // It is one event's alone.

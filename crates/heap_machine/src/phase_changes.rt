@@ -75,24 +75,24 @@ pub fn start(place: usize, pass: Pass) -> Op
     open(place, pass.cycle + 1, false)
 }
 
-// Makes the root block of thread u grey, in front of the hand.
-pub fn shade_root(places: &Places, pass: Pass, u: u32, hand: u32) -> Op
-    requires pass { GateFits (GateRow.ShadeRoot pass u hand) }
-    requires places { GateAt places.now (GateRow.ShadeRoot pass u hand) }
+// Makes the root block of thread u grey, in front of the private list.
+pub fn shade_root(places: &Places, pass: Pass, u: u32, list: u32) -> Op
+    requires pass { GateFits (GateRow.ShadeRoot pass u list) }
+    requires places { GateAt places.now (GateRow.ShadeRoot pass u list) }
     ensures { result ≡ op_at (extent places.now)
-        (Exchange (ColourOf (root_block places.now.width u)) (grey_word hand)) }
+        (Exchange (ColourOf (root_block places.now.width u)) (grey_word list)) }
 {
     let root = places.width().root(u);
-    Op::exchange(places.colour(root), colour_word(Colour::Grey(hand)))
+    Op::exchange(places.colour(root), colour_word(Colour::Grey(list)))
 }
 
 // Puts the roots in the own list.
-pub fn put_roots(places: &Places, pass: Pass, hand: u32) -> Op
+pub fn put_roots(places: &Places, pass: Pass, list: u32) -> Op
     requires pass { IsSwept pass }
     requires places { IsAt places.now pass }
-    ensures { result ≡ op_at (extent places.now) (Exchange (GreyList pass.thread) hand) }
+    ensures { result ≡ op_at (extent places.now) (Exchange (GreyList pass.thread) list) }
 {
-    Op::exchange(places.grey_list(pass.thread), hand as u64)
+    Op::exchange(places.grey_list(pass.thread), list as u64)
 }
 
 // After the look whether the gate can be closed.
@@ -124,7 +124,7 @@ fn closed_by(pass: Pass) -> GateRow
         GateRow::ShadeRoot {
             pass,
             u: 0,
-            hand: 0,
+            list: 0,
         }
     } else {
         GateRow::CheckList { pass, u: 0 }
@@ -171,14 +171,14 @@ pub fn root_shaded(width: Width, pass: Pass, u: u32) -> GateRow
     ensures row { result ≡ gates.root_shaded width pass u }
     ensures fits { GateFits result }
 {
-    let hand = width.root(u);
+    let list = width.root(u);
     if u + 1 < pass.threads {
         GateRow::ShadeRoot {
             pass,
             u: u + 1,
-            hand,
+            list,
         }
     } else {
-        GateRow::PutRoots { pass, hand }
+        GateRow::PutRoots { pass, list }
     }
 }

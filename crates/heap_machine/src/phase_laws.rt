@@ -12,11 +12,11 @@ ghost use Rattle.block_store.specs.Places.{Extent, extent, Phase, GreyList, Colo
 ghost use Rattle.block_store.specs.Registers.{root_block};
 ghost use Rattle.heap_machine.specs.Gates.{gate_want, gate_got, GateFits, GateAt, IsSwept};
 ghost use Rattle.heap_machine.specs.Gating.{Gating, GateOf, Closing};
-ghost use Rattle.heap_machine.specs.Holdings.{Holding};
+ghost use Rattle.heap_machine.specs.WorkInHand.{WorkInHand};
 ghost use Rattle.heap_machine.specs.Operations.{Exchange, place_of, heap_after};
 ghost use Rattle.heap_machine.specs.PhaseKept.{PhaseKept};
 ghost use Rattle.heap_machine.specs.Readings.{IsHeld};
-ghost use Rattle.heap_machine.specs.ChangingPhase.{turns_over, gate_after, root_before, CanClose, changing_holding, stands_outside, ChangingPhaseKnows, MayTurn, HasRoom, IsTurnOf, IsChangingPhase};
+ghost use Rattle.heap_machine.specs.ChangingPhase.{turns_over, gate_after, root_before, CanClose, changing_in_hand, stands_outside, ChangingPhaseKnows, MayTurn, HasRoom, IsTurnOf, IsChangingPhase};
 ghost use Rattle.heap_machine.specs.declared.gate.GateRow.{GateRow};
 ghost use Rattle.heap_machine.specs.declared.pass.Pass.{Pass};
 
@@ -80,7 +80,7 @@ pub fn gate_rows_keep_each_word()
 
 /// At the flip no block is grey, as each grey list was read 0 and nobody holds anything.
 pub fn nothing_is_grey_at_the_flip()
-    ensures { (c : Config) (h : Heap) (gs : ℕ → Gating) (hs : ℕ → Holding) (t : ℕ)
+    ensures { (c : Config) (h : Heap) (gs : ℕ → Gating) (hs : ℕ → WorkInHand) (t : ℕ)
         → PhaseKept (extent c) h hs → (p : Pass) → IsChangingPhase c h gs hs t (GateRow.Flip p)
         → (x : ℕ) → is_grey (h (ColourOf x)) ≡ false }
 {}
@@ -90,13 +90,13 @@ pub fn nothing_is_grey_at_the_flip()
 /// cycle, where the graph says what it has to. At the start nothing is black in the new cycle, as
 /// nothing was white in the old one.
 pub fn gate_rows_keep_the_rules()
-    ensures passes { (e : Extent) (h : Heap) (hs : ℕ → Holding) → PhaseKept e h hs
+    ensures passes { (e : Extent) (h : Heap) (hs : ℕ → WorkInHand) → PhaseKept e h hs
         → (r : GateRow) → turns_over r ≡ false → GateFits r
         → (r ≡ GateRow.Leave → 1 ≤ inside_of (h Phase))
         → PhaseKept e (heap_after h (gate_want e.width r)) hs }
-    ensures turns { (c : Config) (h : Heap) (gs : ℕ → Gating) (hs : ℕ → Holding) (t : ℕ)
+    ensures turns { (c : Config) (h : Heap) (gs : ℕ → Gating) (hs : ℕ → WorkInHand) (t : ℕ)
         → PhaseKept (extent c) h hs
         → (r : GateRow) → IsChangingPhase c h gs hs t r → MayTurn (extent c) r h
         → PhaseKept (extent c) (heap_after h (gate_want c.width r)) (changed hs t
-        (changing_holding (gate_got c.width r (h (place_of (gate_want c.width r)))))) }
+        (changing_in_hand (gate_got c.width r (h (place_of (gate_want c.width r)))))) }
 {}

@@ -18,7 +18,7 @@ abbrev pub stands : ℕ → List Alarm → Bool
 stands n [] = false
 stands n (x ∷ xs) = x.number == n || stands n xs
 
--- it stands too, unacknowledged and behind all others
+-- it is too, unacknowledged and after all others
 abbrev pub raised : ℕ → List Alarm → List Alarm
 raised n xs = xs ++ record { number = n; acknowledged = false } ∷ []
 
@@ -40,7 +40,7 @@ alarm_at i [] = None
 alarm_at zero (x ∷ xs) = Some x
 alarm_at (suc i) (x ∷ xs) = alarm_at i xs
 
--- no number stands twice
+-- no number occurs twice
 abbrev pub StandOnce : List Alarm → Type 0
 StandOnce [] = Unit {0}
 StandOnce (x ∷ xs) = (stands x.number xs ≡ false) × StandOnce xs
@@ -109,7 +109,7 @@ without i [] = []
 without zero (v ∷ vs) = vs
 without (suc i) (v ∷ vs) = v ∷ without i vs
 
--- value i of a list's array is gone, and those behind it have moved up
+-- value i of a list's array is gone, and those after it have moved up
 abbrev pub Closes : Sight → Control → Control → Graph → AlarmList → ℕ → List Value → Type 0
 Closes s h z g l i vs =
     Shows s (2 * (l.count - i)) h z l.cells g

@@ -6,13 +6,13 @@ use Rattle.block_store.specs.declared.Value.TheVariants.{Nil}
 use Rattle.rate_plan.specs.Rates.{IsRate}
 use Rattle.never_heap.specs.declared.Command.{Command}
 use Rattle.never_heap.specs.Graphs.{Graph}
-use Rattle.never_heap.specs.RightWork.{units_told}
+use Rattle.never_heap.specs.RightWork.{requested_units}
 use Rattle.never_heap.specs.Steps.{makes_object}
 use Rattle.heap_system.specs.Lives.{most_commands, most_objects, most_units}
 use Rattle.control_heap.specs.Controls.{Control, asked, units}
 use Rattle.control_heap.specs.declared.faults.Fault.{Fault}
 use Rattle.control_heap.specs.declared.faults.Fault.TheVariants as faults
-use Rattle.control_heap.specs.graph_view.Shown.{HasMetNoFull, Leaves, Shows}
+use Rattle.control_heap.specs.graph_view.ShownGraph.{HasMetNoFull, Leaves, Shows}
 use Rattle.heap_structures.specs.Cells.{IsCells, Spares, held}
 use Rattle.heap_structures.specs.declared.cells.Cells.{Cells}
 
@@ -30,7 +30,7 @@ Has Always h g = HasMetNoFull h g
 
 -- a command that makes neither an object nor a unit
 abbrev pub IsQuiet : Command → Type 0
-IsQuiet k = (makes_object k ≡ false) × (units_told k ≡ 0)
+IsQuiet k = (makes_object k ≡ false) × (requested_units k ≡ 0)
 
 -- the life has room for so many of these
 pub record HasRoom (n : ℕ) (h : Control) : Type 0 where

@@ -13,7 +13,7 @@ use Rattle.never_heap.specs.Steps.{step}
 use Rattle.control_heap.specs.Controls.{Control, HasLeft, asked, units}
 use Rattle.control_heap.specs.declared.faults.Fault.{Fault}
 use Rattle.control_heap.specs.declared.faults.Fault.TheVariants as faults
-use Rattle.control_heap.specs.graph_view.Shown.{IsSmall}
+use Rattle.control_heap.specs.graph_view.ShownGraph.{IsSmall}
 use Rattle.heap_structures.specs.declared.cells.Cells.{Cells}
 use Rattle.heap_structures.specs.Cells.{IsCells, IsPlaced, Spares}
 use Rattle.heap_structures.specs.Heaps.{Any, Has, Sight}

@@ -5,7 +5,7 @@ use Rattle.block_store.specs.declared.Value.{Value}
 use Rattle.never_heap.specs.Graphs.{Graph}
 use Rattle.saved_heap.specs.heap_pictures.UpToNames.{AreOneUpToNames, renamed}
 use Rattle.control_heap.specs.Controls.{Control}
-use Rattle.control_heap.specs.graph_view.Shown.{Leaves}
+use Rattle.control_heap.specs.graph_view.ShownGraph.{Leaves}
 use Rattle.heap_structures.specs.declared.cells.Cells.{Cells}
 use Rattle.heap_structures.specs.Pairs.{Pair}
 

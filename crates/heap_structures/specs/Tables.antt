@@ -1,4 +1,4 @@
--- Pairs in an array: each key, and its value behind it.
+-- Pairs in an array: each key, and its value after it.
 use Rattle.std.specs.Prelude.{ℕ, zero, suc, ◌+◌, ◌-◌, ◌*◌, ◌^◌, ◌<◌, ◌≤◌, ◌≡◌, List, [], ◌∷◌, ◌++◌, length, slice_index_or}
 use Rattle.std.specs.Int.Count.{count_leading_zeros}
 use Rattle.std.specs.List.{AllByRecursion}
@@ -20,7 +20,7 @@ place_of (x ∷ xs) zero = Int x.0
 place_of (x ∷ xs) (suc zero) = x.1
 place_of (x ∷ xs) (suc (suc t)) = place_of xs t
 
--- the array has these pairs, with rising keys below 2^32, and nils behind them
+-- the array has these pairs, with rising keys below 2^32, and nils after them
 pub record IsTable (g : Graph) (c : Cells) (count : ℕ) (xs : List Pair) : Type 0 where
   pub array : List Value
   pub cells : IsCells g c array

@@ -12,7 +12,7 @@ use Rattle.never_heap.specs.Graphs.{Array, Graph, has_name, nil_object, object_o
 use Rattle.control_heap.specs.Controls.{CanOpen, Control, HasLeft, asked, units}
 use Rattle.control_heap.specs.declared.faults.Fault.{Fault}
 use Rattle.control_heap.specs.declared.faults.Fault.TheVariants.{NoLifeLeft}
-use Rattle.control_heap.specs.graph_view.Shown.{HasMetNoFull}
+use Rattle.control_heap.specs.graph_view.ShownGraph.{HasMetNoFull}
 use Rattle.heap_structures.specs.declared.alarms.Alarm.{Alarm}
 use Rattle.heap_structures.specs.declared.alarms.AlarmList.{AlarmList}
 use Rattle.heap_structures.specs.declared.records.Records.{Records}

@@ -30,11 +30,11 @@ pub struct Alarm {
 /// What became of an alarm that was raised.
 #[derive(Clone, Copy, Debug, PartialEq, Eq)]
 pub enum Raised {
-    /// It stands now, unacknowledged, as the last.
+    /// It is now, unacknowledged, as the last.
     New,
     /// It stood already, and is as it was.
     Standing,
-    /// It does not stand, since as many others do as the list holds.
+    /// It does not be, since as many others do as the list holds.
     Full,
 }
 
@@ -247,7 +247,7 @@ impl AlarmList {
         Ok(Raised::New)
     }
 
-    /// Moves the values behind a place up by one, and lets the last be nil. Two commands for each
+    /// Moves the values after a place up by one, and lets the last be nil. Two commands for each
     /// value from the place on.
     fn close(&self, heap: &mut ControlHeap, place: u32) -> Result<(), Fault>
         requires { place < self.now.count }

@@ -7,7 +7,7 @@ ghost use Rattle.never_heap.specs.declared.Command.TheVariants.{Arr};
 ghost use Rattle.never_heap.specs.Graphs.{Graph};
 ghost use Rattle.control_heap.specs.Controls.{HasLeft};
 ghost use Rattle.saved_heap.specs.heap_pictures.UpToNames.{AreOneUpToNames};
-ghost use Rattle.control_heap.specs.graph_view.Shown.{Leaves};
+ghost use Rattle.control_heap.specs.graph_view.ShownGraph.{Leaves};
 ghost use Rattle.heap_structures.specs.declared.cells.Cells.{Cells};
 ghost use Rattle.heap_structures.specs.Cells.{HasPlace, IsCells, held};
 ghost use Rattle.heap_structures.specs.Heaps.{Does, Fills, Has, Ready, Sight, Takes};

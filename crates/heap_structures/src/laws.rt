@@ -8,7 +8,7 @@ ghost use Rattle.never_heap.specs.declared.Command.{Command};
 ghost use Rattle.never_heap.specs.Graphs.{Graph};
 ghost use Rattle.never_heap.specs.Steps.{step};
 ghost use Rattle.control_heap.specs.Controls.{Control};
-ghost use Rattle.control_heap.specs.graph_view.Asked.{HasDone};
+ghost use Rattle.control_heap.specs.graph_view.RunsOfCommands.{HasDone};
 ghost use Rattle.heap_structures.specs.declared.cells.Cells.{Cells};
 ghost use Rattle.heap_structures.specs.Cells.{IsNone, Spares};
 ghost use Rattle.heap_structures.specs.Heaps.{Has, IsQuiet, Sight, Took};
@@ -31,7 +31,7 @@ pub fn quiet_commands_keep_graphs()
 }
 
 /// A ring or queue keeps its values where a call spares its array and its base register. So several
-/// may stand on one heap; they may have one spare register in common.
+/// may be on one heap; they may have one spare register in common.
 pub fn others_stay()
     ensures { (rs : List ℕ) (a : Name) (g z : Graph) (c : Cells) (first count : ℕ)
         (xs : List Value) → Spares rs a g z → c.array ≢ a → IsNone rs c.base

@@ -26,7 +26,7 @@ pub(crate) fn around(size: u32, first: u32, i: u32) -> u64
     }
 }
 
-/// The place behind a place.
+/// The place after a place.
 pub(crate) fn next(size: u32, place: u32) -> u32
     ensures { place < size → result ≡ around size (place + 1) }
 {

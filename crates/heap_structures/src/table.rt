@@ -1,4 +1,4 @@
-//! An array of pairs with rising keys: each key, and its value behind it.
+//! An array of pairs with rising keys: each key, and its value after it.
 
 ghost use Rattle.std.specs.Prelude.{◌≡◌, ◌≢◌, ◌+◌, ◌-◌, ◌*◌, ◌<◌, ◌≤◌, ◌^◌, ◌∷◌, ℕ, List, [], Some, length, IfOk, IsOkAnd};
 ghost use Rattle.block_store.specs.declared.Value.{Value};

@@ -1,7 +1,7 @@
 pub mod FieldsLeft
 pub mod ObjectSizes
 pub mod LoneThread
-pub mod Serve
+pub mod Access
 pub mod NeverDry
 pub mod Build
 pub mod Sweep

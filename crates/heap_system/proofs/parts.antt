@@ -1,12 +1,12 @@
 pub mod InPass
 pub mod Rest
 pub mod Enter
-pub mod Serve
+pub mod Access
 pub mod Mark
 pub mod Sweep
 pub mod Build
 pub mod Retry
-pub mod ToChange
+pub mod LeaveToChangePhase
 pub mod Leave
 pub mod ClosedGate
 pub mod PhaseChange

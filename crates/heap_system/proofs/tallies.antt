@@ -4,5 +4,5 @@ pub mod Leave
 pub mod Mark
 pub mod Sweep
 pub mod Build
-pub mod Serve
+pub mod Access
 pub mod PhaseChange

@@ -10,7 +10,7 @@ use Rattle.array_trees.specs.Levels.{array_depth}
 use Rattle.never_heap.specs.declared.Command.{Command}
 use Rattle.never_heap.specs.declared.Command.TheVariants as commands
 use Rattle.never_heap.specs.declared.Entry.{Entry}
-use Rattle.never_heap.specs.RightWork.{units_told}
+use Rattle.never_heap.specs.RightWork.{requested_units}
 use Rattle.barrier_steps.specs.Operands.{is_idle}
 use Rattle.never_heap.specs.Steps.{blocks_of}
 use Rattle.rate_plan.specs.solo_bound.Near.{near_bound, near_other_bound}
@@ -34,7 +34,7 @@ pub record HasCommand (l : LocalState) : Type 0 where
 abbrev pub command_bound : Config → ℕ → Command → ℕ
 command_bound c rate k =
     if nat_lt 0 (blocks_of c.width k) then allocation_bound c.threads (blocks_of c.width k) rate
-    else (if is_idle k then idle_bound c.threads (units_told k) else other_bound c.object)
+    else (if is_idle k then idle_bound c.threads (requested_units k) else other_bound c.object)
 
 -- no array has more elements: the shared array, or one of as many blocks as the largest object
 abbrev pub longest_array : Config → ℕ
@@ -66,7 +66,7 @@ command_near c rate k =
     if nat_lt 0 (blocks_of c.width k)
     then near_bound c.threads (payloads c.width) c.blocks (rate * blocks_of c.width k)
     (blocks_of c.width k)
-    else near_other_bound c.threads (payloads c.width) c.blocks (units_told k) (most_events c k)
+    else near_other_bound c.threads (payloads c.width) c.blocks (requested_units k) (most_events c k)
 
 -- after so many turns of thread t, and of no other
 abbrev pub after_alone : Config → ℕ → Run → ℕ → Run

@@ -4,7 +4,7 @@ use Rattle.std.specs.Prelude.{ℕ, ◌+◌, ◌-◌, ◌<◌, ◌≤◌, ◌^◌
 use Rattle.never_heap.specs.declared.Command.{Command}
 use Rattle.never_heap.specs.declared.Reply.{Reply}
 use Rattle.never_heap.specs.Bounds.{IsCommandInBounds}
-use Rattle.never_heap.specs.RightWork.{units_owed, units_told}
+use Rattle.never_heap.specs.RightWork.{units_owed, requested_units}
 use Rattle.never_heap.specs.Steps.{blocks_of}
 use Rattle.block_store.specs.declared.Width.{Width}
 use Rattle.barrier_steps.specs.declared.rows.FieldRow.{FieldRow}
@@ -20,7 +20,7 @@ use Rattle.heap_system.specs.declared.Turn.TheVariants.{Waited}
 use Rattle.heap_system.specs.ThreadMemories.{HasRun, HasRunOn, MayRun}
 use Rattle.heap_system.specs.Lives.{most_objects, most_units, objects_of}
 use Rattle.heap_system.specs.Locals.{LocalState, answered, command_of, errand_of, first_part, owed, works}
-use Rattle.heap_system.specs.Parts.{Rest, Enter, Serve}
+use Rattle.heap_system.specs.Parts.{Rest, Enter, Access}
 
 -- the thread that has seen this phase word, and goes in
 abbrev pub entering_by : LocalState → ℕ → LocalState
@@ -39,7 +39,7 @@ abbrev pub serving_at : LocalState → Pass → FieldRow → LocalState
 serving_at l p r = record l {
   balance = entered p.cycle l.balance;
   pass = p;
-  part = Serve (record { pass = p; command = command_of l; row = r });
+  part = Access (record { pass = p; command = command_of l; row = r });
 }
 
 -- or on its way out, where that row has the reply
@@ -53,7 +53,7 @@ come_to l p r = if_answered (field_reply r) (serving_at l p r)
 -- a command makes no object and no units, and this is its first row
 pub record OwesNothing (k : Command) (r : FieldRow) : Type 0 where
   pub first : r ≡ first_row k
-  pub told : units_told k ≡ 0
+  pub told : requested_units k ≡ 0
   pub blocks : (w : Width) → blocks_of w k ≡ 0
   pub unsaid : field_reply r ≡ None
 

@@ -4,12 +4,12 @@ use Rattle.block_store.specs.declared.Config.{Config}
 use Rattle.block_store.specs.Counts.{total}
 use Rattle.block_store.specs.Phases.{bit, cycle_of}
 use Rattle.block_store.specs.Places.{Phase, Cursor, ColourOf, same_place}
-use Rattle.heap_machine.specs.Holdings.{sweep_held}
+use Rattle.heap_machine.specs.WorkInHand.{sweep_held}
 use Rattle.heap_machine.specs.Operations.{place_of}
 use Rattle.heap_machine.specs.Sweeping.{claims}
 use Rattle.heap_system.specs.Locals.{part_want}
 use Rattle.heap_system.specs.Machines.{State, local_at, heap_in, Run, next, opened, IsAfterTurns}
-use Rattle.heap_system.specs.Pictures.{holdings_in}
+use Rattle.heap_system.specs.Pictures.{work_in_hand_of}
 use Rattle.heap_system.specs.Units.{turn_blackens, turn_passes}
 
 -- whether the next event of thread t is on the colour of block x
@@ -50,4 +50,4 @@ taken_in c r is z =
 abbrev pub is_behind : Config → State → ℕ → Bool
 is_behind c s x =
     nat_lt x (heap_in c s Cursor)
-    && (claims c.threads (λ t. sweep_held (holdings_in c s t)) x == 0)
+    && (claims c.threads (λ t. sweep_held (work_in_hand_of c s t)) x == 0)

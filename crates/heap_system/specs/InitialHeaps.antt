@@ -1,4 +1,4 @@
--- The opening heap: each thread's register array, behind these the shared array, and behind that
+-- The opening heap: each thread's register array, after these the shared array, and after that
 -- the Free blocks.
 use Rattle.std.specs.Prelude.{ℕ, ◌+◌, ◌-◌, ◌==◌, ◌&&◌, nat_le, nat_lt, if◌then◌else◌, Bool, false}
 use Rattle.block_store.specs.declared.Config.{Config}
@@ -19,7 +19,7 @@ abbrev pub is_root : Config → ℕ → Bool
 is_root c x = nat_le x (registers_end c.width c.threads) && (register_ordinal c.width x == 0)
 
 -- the roots are Grey and alone in their lists, the other blocks of the arrays are white, and the
--- blocks behind them are Free, linked upwards
+-- blocks after them are Free, linked upwards
 abbrev pub opening_colour : Config → ℕ → ℕ
 opening_colour c x =
     if is_root c x then grey_word 0

@@ -10,7 +10,7 @@ use Rattle.never_heap.specs.Bounds.{IsCommandInBounds}
 use Rattle.never_heap.specs.RightWork.{units_owed}
 use Rattle.never_heap.specs.Steps.{makes_object}
 
--- the sum of a count over the commands behind the first n
+-- the sum of a count over the commands after the first n
 abbrev pub sum_after : (Command → ℕ) → ℕ → List Command → ℕ
 sum_after f n [] = 0
 sum_after f zero (k ∷ ks) = f k + sum_after f zero ks

@@ -5,7 +5,7 @@ use Rattle.block_store.specs.Payloads.{target}
 use Rattle.barrier_steps.specs.Operands.{takes_field, to_register}
 use Rattle.heap_invariant.specs.graph_relation.Events.{Loading, ObjectLoad, ValueLoad}
 use Rattle.barrier_steps.specs.Rows.{FieldState, field_decided}
-use Rattle.heap_system.specs.Parts.{Serve}
+use Rattle.heap_system.specs.Parts.{Access}
 use Rattle.heap_system.specs.Locals.{LocalState, command_of}
 
 -- a loaded value refers to block x: one that is to be stored, or with which a field is compared
@@ -28,7 +28,7 @@ IsLoadedBlock l x = IsOfObject l.object x ⊎ (IsOfValue l.expected x ⊎ IsOfVa
 -- the thread is in a `get` or a `swap` that is decided: register q becomes what the field held
 pub record IsTaking (l : LocalState) (q : ℕ) : Type 0 where
   pub field : FieldState
-  pub serves : l.part ≡ Serve field
+  pub serves : l.part ≡ Access field
   pub takes : takes_field (command_of l) ≡ true
   pub register : to_register (command_of l) ≡ q
   pub own : field.command ≡ command_of l

@@ -12,7 +12,7 @@ use Rattle.never_heap.specs.declared.Command.TheVariants as commands
 use Rattle.never_heap.specs.declared.Entry.{Entry}
 use Rattle.never_heap.specs.declared.Reply.{Reply}
 use Rattle.never_heap.specs.declared.Reply.TheVariants as replies
-use Rattle.never_heap.specs.RightWork.{units_told, units_owed}
+use Rattle.never_heap.specs.RightWork.{requested_units, units_owed}
 use Rattle.never_heap.specs.Steps.{blocks_of}
 use Rattle.work_account.specs.Accounts.{Balance, IsSound, entered, with_unit, with_idle, published, refused}
 use Rattle.work_account.specs.Accounts as accounts
@@ -21,27 +21,27 @@ use Rattle.heap_machine.specs.Operations.{Operation, place_of, op_at}
 use Rattle.heap_machine.specs.Readings.{CanHold}
 use Rattle.heap_machine.specs.Gates.{gate_want, gate_got, gate_step, gate_entered, is_going_in, is_of_pass, is_empty, GateFits, GateAt}
 use Rattle.heap_machine.specs.Gating.{Stand, Outside, Inside}
-use Rattle.heap_machine.specs.ChangingPhase.{turns_over, changing_gating, changing_holding}
-use Rattle.heap_machine.specs.Holdings.{Holding, holds_nothing}
+use Rattle.heap_machine.specs.ChangingPhase.{turns_over, changing_gating, changing_in_hand}
+use Rattle.heap_machine.specs.WorkInHand.{WorkInHand, holds_nothing}
 use Rattle.heap_machine.specs.Passes.{IsPass}
 use Rattle.heap_machine.specs.declared.pass.Pass.{Pass}
 use Rattle.heap_machine.specs.declared.gate.GateRow.{GateRow}
 use Rattle.heap_machine.specs.declared.gate.GateRow.TheVariants as gates
 use Rattle.heap_machine.specs.declared.Step.{Step}
 use Rattle.heap_machine.specs.declared.Step.TheVariants as steps
-use Rattle.grey_steps.specs.Rows.{grey_want, grey_got, grey_step, grey_over, grey_unit, grey_nothing, holding_at, scanning}
+use Rattle.grey_steps.specs.Rows.{grey_want, grey_got, grey_step, grey_over, grey_unit, grey_nothing, marking_in_hand, scanning}
 use Rattle.grey_steps.specs.Fits.{GreyFits, GreyReads}
 use Rattle.grey_steps.specs.MarkUnits.{is_blackening}
-use Rattle.barrier_steps.specs.Rows.{at_first_row, field_want, field_got, field_step, field_reply, field_decided, field_holding}
+use Rattle.barrier_steps.specs.Rows.{at_first_row, field_want, field_got, field_step, field_reply, field_decided, field_in_hand}
 use Rattle.barrier_steps.specs.Deciding.{is_deciding}
 use Rattle.barrier_steps.specs.Fits.{FieldFits, FieldReads}
 use Rattle.barrier_steps.specs.Projection.{loading_of}
-use Rattle.sweep_steps.specs.Rows.{sweep_want, sweep_got, sweep_step, sweep_over, sweep_passed, sweep_nothing, sweep_holding, sweeping}
+use Rattle.sweep_steps.specs.Rows.{sweep_want, sweep_got, sweep_step, sweep_over, sweep_passed, sweep_nothing, sweep_in_hand, sweeping}
 use Rattle.sweep_steps.specs.Fits.{SweepFits, SweepReads}
 use Rattle.sweep_steps.specs.SweepUnits.{row_passes}
 use Rattle.sweep_steps.specs.declared.rows.SweepRow.{SweepRow}
 use Rattle.sweep_steps.specs.declared.rows.SweepRow.TheVariants as sweeps
-use Rattle.build_steps.specs.Rows.{BuildState, build_want, build_got, build_step, build_reply, build_holding, built_at, building, full_cycle}
+use Rattle.build_steps.specs.Rows.{BuildState, build_want, build_got, build_step, build_reply, build_in_hand, built_at, building, full_cycle}
 use Rattle.build_steps.specs.Fits.{BuildFits, BuildReads}
 use Rattle.build_steps.specs.LinearizationPoints.{is_counting, is_publishing}
 use Rattle.build_steps.specs.Naming.{build_of}
@@ -52,12 +52,12 @@ use Rattle.heap_invariant.specs.name_invariant.Building.{Build as Builder}
 use Rattle.heap_invariant.specs.name_invariant.Pictures.{Task}
 use Rattle.heap_system.specs.Lives.{AreCommands, sum_after, objects_of, most_units, most_objects}
 use Rattle.heap_system.specs.Naming.{Naming, Same, Lost, Begun, Shaded, Made}
-use Rattle.heap_system.specs.Parts.{Part, Rest, Enter, Serve, Mark, Sweep, Build, Retry, ToChange, PhaseChange, Leave}
+use Rattle.heap_system.specs.Parts.{Part, Rest, Enter, Access, Mark, Sweep, Build, Retry, LeaveToChangePhase, PhaseChange, Leave}
 use Rattle.heap_system.specs.declared.Turn.{Turn}
 use Rattle.heap_system.specs.declared.Turn.TheVariants as turns
 
 -- A thread of a heap: its commands, the entries of those that are done, and the row at which it
--- stands. The rate is the number of units that an allocation owes for each of its blocks. So many
+-- is. The rate is the number of units that an allocation owes for each of its blocks. So many
 -- units were made for the command in hand (spent); the balance has those of them that are paid,
 -- which those of an idle are not, and the units of the cycle that it entered last. It has made so
 -- many objects, and has room to hold so many blocks. The pass is the one of its last entry. So many
@@ -86,7 +86,7 @@ command_of l = command_behind l.trace l.log
 
 -- the units that it is told to make
 abbrev pub told_behind : List Command → List Entry → ℕ
-told_behind trace log = units_told (command_behind trace log)
+told_behind trace log = requested_units (command_behind trace log)
 
 -- the units that the command in hand owes
 abbrev pub owed : LocalState → ℕ
@@ -109,12 +109,12 @@ errand_of l = record {
 }
 
 -- what a part of a thread's work says before its next event: the operation that it wants, where the
--- thread stands at the gate, what it holds, has loaded and builds, and the units that it may still
+-- thread is at the gate, what it holds, has loaded and builds, and the units that it may still
 -- make
 pub record View : Type 0 where
   pub want : Operation
   pub stand : Stand
-  pub holding : Holding
+  pub work_in_hand : WorkInHand
   pub loading : Loading
   pub build : Option Builder
   pub to_come : ℕ
@@ -124,7 +124,7 @@ abbrev pub quiet : Operation → View
 quiet o = record {
   want = o;
   stand = Inside;
-  holding = holds_nothing;
+  work_in_hand = holds_nothing;
   loading = unloaded;
   build = None;
   to_come = 0;
@@ -134,27 +134,27 @@ quiet o = record {
 abbrev pub view : Config → Part → View
 view c Rest = record (quiet (gate_want c.width gates.Look)) { stand = Outside }
 view c (Enter g) = record (quiet (gate_want c.width g)) { stand = Outside }
-view c (Serve f) = record (quiet (field_want (extent c) f)) {
-  holding = field_holding (extent c) f;
+view c (Access f) = record (quiet (field_want (extent c) f)) {
+  work_in_hand = field_in_hand (extent c) f;
   loading = loading_of (extent c) f;
 }
 view c (Mark m) = record (quiet (grey_want m)) {
-  holding = holding_at (extent c) m;
+  work_in_hand = marking_in_hand (extent c) m;
   to_come = bit (not (grey_unit m.row));
 }
 view c (Sweep s) = record (quiet (sweep_want s)) {
-  holding = sweep_holding s.row;
+  work_in_hand = sweep_in_hand s.row;
   to_come = s.owed - sweep_passed s.row;
 }
 view c (Build b) = record (quiet (build_want (extent c) b)) {
-  holding = build_holding b;
+  work_in_hand = build_in_hand b;
   build = build_of c.width b;
 }
 view c Retry = quiet (gate_want c.width gates.Leave)
-view c ToChange = quiet (gate_want c.width gates.Leave)
+view c LeaveToChangePhase = quiet (gate_want c.width gates.Leave)
 view c (PhaseChange g) = record (quiet (gate_want c.width g)) {
   stand = (changing_gating g).stand;
-  holding = changing_holding g;
+  work_in_hand = changing_in_hand g;
 }
 view c Leave = quiet (gate_want c.width gates.Leave)
 
@@ -166,7 +166,7 @@ abbrev pub task : Config → Part → Task
 task c p = record {
   loading = (view c p).loading;
   build = (view c p).build;
-  scan = (view c p).holding.found;
+  scan = (view c p).work_in_hand.found;
 }
 
 abbrev pub is_rest : Part → Bool
@@ -194,12 +194,12 @@ is_sweeping (Sweep s) = true
 is_sweeping _ = false
 
 abbrev pub is_serving : Part → Bool
-is_serving (Serve f) = true
+is_serving (Access f) = true
 is_serving _ = false
 
 abbrev pub is_on_way_out : Part → Bool
 is_on_way_out Retry = true
-is_on_way_out ToChange = true
+is_on_way_out LeaveToChangePhase = true
 is_on_way_out Leave = true
 is_on_way_out _ = false
 
@@ -219,7 +219,7 @@ first_part c p e =
     then (if p.sweep then Sweep (sweeping p.thread p.cycle c.blocks e.due) else Mark (scanning p))
     else (if nat_lt 0 (blocks_of c.width e.command)
     then Build (building c.width p.thread p.threads p.cycle e.serial e.command e.space)
-    else Serve (at_first_row p e.command))
+    else Access (at_first_row p e.command))
 
 abbrev pub if_entered : Option PhaseWord → Config → ℕ → Errand → GateRow → Part
 if_entered None c t e g = Enter g
@@ -237,7 +237,7 @@ if_replied (Some r) p = Leave
 -- a pass that is over: the thread goes out, to come in again, or, where the pass found nothing to
 -- do, to change the phase
 abbrev pub if_over : Bool → Bool → Part → Part
-if_over over nothing p = if over then (if nothing then ToChange else Retry) else p
+if_over over nothing p = if over then (if nothing then LeaveToChangePhase else Retry) else p
 
 -- whether the step is the last of its part
 abbrev pub is_last : Step → Bool
@@ -256,8 +256,8 @@ part_got c t e q Rest w = if_entered (gate_entered (gate_got c.width gates.Look 
     (gate_got c.width gates.Look w)
 part_got c t e q (Enter g) w =
     let n = gate_got c.width g w in if_entered (gate_entered n) c t e n
-part_got c t e q (Serve f) w = if_replied (field_reply (field_got (extent c) f w).row)
-    (Serve (field_got (extent c) f w))
+part_got c t e q (Access f) w = if_replied (field_reply (field_got (extent c) f w).row)
+    (Access (field_got (extent c) f w))
 part_got c t e q (Mark m) w =
     let n = grey_got (extent c) m w in if_over (grey_over n.row) (grey_nothing n.row) (Mark n)
 part_got c t e q (Sweep s) w =
@@ -265,7 +265,7 @@ part_got c t e q (Sweep s) w =
 part_got c t e q (Build b) w = if_replied (build_reply (build_got (extent c) b w))
     (Build (build_got (extent c) b w))
 part_got c t e q Retry w = Enter gates.Look
-part_got c t e q ToChange w = PhaseChange (gates.CloseLook q)
+part_got c t e q LeaveToChangePhase w = PhaseChange (gates.CloseLook q)
 part_got c t e q (PhaseChange g) w = if_turned (is_last (gate_step g w)) (gate_got c.width g w)
 part_got c t e q Leave w = Rest
 
@@ -316,7 +316,7 @@ plain s = record {
 -- the flip and a start change the names, and so does a root that is shaded
 abbrev pub turn_naming : GateRow → Naming
 turn_naming (gates.Flip p) = Lost
-turn_naming (gates.ShadeRoot p u hand) = Shaded u
+turn_naming (gates.ShadeRoot p u list) = Shaded u
 turn_naming (gates.Start p) = Begun
 turn_naming _ = Same
 
@@ -329,7 +329,7 @@ effect c Rest w = record (plain (gate_step gates.Look w)) {
 effect c (Enter g) w = record (plain (gate_step g w)) {
   entered = gate_entered (gate_got c.width g w);
 }
-effect c (Serve f) w = record (plain (field_step (extent c) f w)) {
+effect c (Access f) w = record (plain (field_step (extent c) f w)) {
   reply = field_reply (field_got (extent c) f w).row;
   verdict = if_decides (is_deciding f.command f.row w);
 }
@@ -343,7 +343,7 @@ effect c (Build b) w = record (plain (build_step b w)) {
   naming = if is_publishing b.row then Made (built_at b) else Same;
 }
 effect c Retry w = plain (gate_step gates.Leave w)
-effect c ToChange w = plain (gate_step gates.Leave w)
+effect c LeaveToChangePhase w = plain (gate_step gates.Leave w)
 effect c (PhaseChange g) w = record (plain (gate_step g w)) { naming = turn_naming g }
 effect c Leave w = plain (gate_step gates.Leave w)
 
@@ -445,7 +445,7 @@ entries_of t k work (Some r) = entry_of t k work r ∷ []
 -- how many commands are decided: those in the log, and the one in hand where it is and has no entry
 -- there yet
 abbrev pub decided_in : Part → ℕ
-decided_in (Serve f) = bit (field_decided f.row)
+decided_in (Access f) = bit (field_decided f.row)
 decided_in _ = 0
 
 abbrev pub commands_decided : LocalState → ℕ
@@ -457,7 +457,7 @@ local_got l w =
     let e = effect l.config l.part w in
     record l {
       log = l.log ++ entries_of l.thread (command_of l) l.spent e.reply;
-      balance = balance_got e (units_told (command_of l)) (blocks_of l.config.width (command_of l))
+      balance = balance_got e (requested_units (command_of l)) (blocks_of l.config.width (command_of l))
           l.balance;
       spent = spent_got e.reply e.unit l.spent;
       made = made_got (command_of l) e.reply l.made;
@@ -493,12 +493,12 @@ IsPassAt c q = IsPass q × (q.threads ≡ c.threads)
 abbrev pub PartFits : Config → ℕ → ℕ → Pass → Part → Type 0
 PartFits c done all q Rest = Unit {0}
 PartFits c done all q (Enter g) = GateFits g × (is_going_in g ≡ true) × (done < all)
-PartFits c done all q (Serve f) = FieldFits c f × (done < all)
+PartFits c done all q (Access f) = FieldFits c f × (done < all)
 PartFits c done all q (Mark m) = GreyFits c m × (done < all) × IsPassAt c q
 PartFits c done all q (Sweep s) = SweepFits c s × (done < all) × IsPassAt c q
 PartFits c done all q (Build b) = BuildFits c b × (done < all)
 PartFits c done all q Retry = done < all
-PartFits c done all q ToChange = (done < all) × IsPassAt c q
+PartFits c done all q LeaveToChangePhase = (done < all) × IsPassAt c q
 PartFits c done all q (PhaseChange g) =
     GateFits g × GateAt c g × (turns_over g ≡ true) × (done < all)
 PartFits c done all q Leave = Unit {0}
@@ -509,7 +509,7 @@ unit_to_come c p = (view c p).to_come
 
 -- where a thread does its command, all that this owes is made
 abbrev pub IsAllMade : ℕ → ℕ → Part → Type 0
-IsAllMade due spent (Serve f) = spent ≡ due
+IsAllMade due spent (Access f) = spent ≡ due
 IsAllMade due spent (Build b) = spent ≡ due
 IsAllMade due spent _ = Unit {0}
 
@@ -536,7 +536,7 @@ pub record IsLocal (l : LocalState) : Type 0 where
   pub paid : l.spent + unit_to_come l.config l.part ≤ owed l
   pub settled : IsAllMade (owed l) l.spent l.part
   pub sound : IsSound l.rate l.config.object l.balance
-  pub account : l.balance.paid ≡ paid_part (units_told (command_of l)) l.spent
+  pub account : l.balance.paid ≡ paid_part (requested_units (command_of l)) l.spent
   pub units : l.balance.units ≤ l.before + works l.log + l.spent
   pub made : l.made + sum_after objects_of (length l.log) l.trace ≤ most_objects
   pub space : l.config.object ≤ l.space
@@ -546,12 +546,12 @@ pub record IsLocal (l : LocalState) : Type 0 where
 abbrev pub PartReads : Config → Part → ℕ → Type 0
 PartReads c Rest w = CanHold (extent c) Phase w × (1 ≤ cycle_of w)
 PartReads c (Enter g) w = CanHold (extent c) Phase w × (1 ≤ cycle_of w)
-PartReads c (Serve f) w = FieldReads c f w
+PartReads c (Access f) w = FieldReads c f w
 PartReads c (Mark m) w = GreyReads c m w
 PartReads c (Sweep s) w = SweepReads c s w
 PartReads c (Build b) w = BuildReads c b w
 PartReads c Retry w = CanHold (extent c) Phase w
-PartReads c ToChange w = CanHold (extent c) Phase w
+PartReads c LeaveToChangePhase w = CanHold (extent c) Phase w
 PartReads c (PhaseChange g) w = CanHold (extent c) (place_of (gate_want c.width g)) w
 PartReads c Leave w = CanHold (extent c) Phase w
 

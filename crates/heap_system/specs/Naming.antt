@@ -14,7 +14,7 @@ use Rattle.heap_invariant.specs.name_invariant.Pictures.{Names}
 use Rattle.heap_invariant.specs.name_invariant.States.{with_name}
 
 -- nothing; what the flip found unmarked is lost; what is reachable at a start is known and kept;
--- the root of thread u is shaded; or an object is made, whose ordinals stand at these blocks
+-- the root of thread u is shaded; or an object is made, whose ordinals are at these blocks
 pub data Naming : Type 0 where
   Same : Naming
   Lost : Naming

@@ -2,7 +2,7 @@
 use Rattle.std.specs.Prelude.{ℕ, ◌+◌, ◌/◌, ◌≤◌, ◌≡◌, Option, Some, None, map}
 use Rattle.std.specs.Vec.{vec_capacity}
 use Rattle.block_store.specs.declared.Config.{Config}
-use Rattle.never_heap.specs.Orders.{item_of}
+use Rattle.never_heap.specs.HistoryOfOrder.{item_of}
 use Rattle.heap_system.specs.declared.orders.KeptOrder.{KeptOrder}
 use Rattle.heap_system.specs.Costs.{units_so_far}
 use Rattle.heap_system.specs.Machines.{State, Run}

@@ -17,7 +17,7 @@ pub data Part : Type 0 where
   -- on its way in
   Enter : (gate : GateRow) → Part
   -- inside, in a command that makes no object and owes no more
-  Serve : (pass : FieldState) → Part
+  Access : (pass : FieldState) → Part
   -- inside while the phase is Mark, in a command that owes units, of which it makes one at most:
   -- none where nothing is grey
   Mark : (scan : GreyState) → Part
@@ -29,19 +29,19 @@ pub data Part : Type 0 where
   -- on its way out, to come in again for the command in hand
   Retry : Part
   -- on its way out after a pass that found nothing to do, to change the phase
-  ToChange : Part
+  LeaveToChangePhase : Part
   -- outside, to change the phase or to start the next cycle, and then to come in again
   PhaseChange : (gate : GateRow) → Part
   -- on its way out, with its command in the log
   Leave : Part
 
 -- the part that a row is in a pass of a thread, with the command, the gate and the builder that
--- stand beside it
+-- are beside it
 abbrev pub part_at : Config → Pass → FieldState → GateRow → BuildState → Row → Part
 part_at c q f g b rows.Rest = Rest
 part_at c q f g b rows.Look = Enter gates.Look
 part_at c q f g b (rows.Enter seen) = Enter (gates.Enter seen)
-part_at c q f g b rows.Serve = Serve f
+part_at c q f g b rows.Access = Access f
 part_at c q f g b (rows.Mark r) = Mark (record { pass = q; row = r })
 part_at c q f g b (rows.Sweep owed r) = Sweep (record {
   thread = q.thread;
@@ -52,6 +52,6 @@ part_at c q f g b (rows.Sweep owed r) = Sweep (record {
 })
 part_at c q f g b rows.Build = Build b
 part_at c q f g b rows.Retry = Retry
-part_at c q f g b rows.ToChange = ToChange
+part_at c q f g b rows.LeaveToChangePhase = LeaveToChangePhase
 part_at c q f g b rows.PhaseChange = PhaseChange g
 part_at c q f g b rows.Leave = Leave

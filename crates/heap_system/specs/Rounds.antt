@@ -1,4 +1,4 @@
--- At which rows a thread puts the list in its hand back, and at which it turns the phase.
+-- At which rows a thread puts its private list back, and at which it turns the phase.
 use Rattle.std.specs.Prelude.{Bool, true, false}
 use Rattle.heap_machine.specs.declared.gate.GateRow.{GateRow}
 use Rattle.heap_machine.specs.declared.gate.GateRow.TheVariants as gates
@@ -8,7 +8,7 @@ use Rattle.barrier_steps.specs.declared.rows.FieldRow.TheVariants as fields
 use Rattle.sweep_steps.specs.SweepUnits as sweeping
 use Rattle.build_steps.specs.declared.rows.BuildRow.{BuildRow}
 use Rattle.build_steps.specs.declared.rows.BuildRow.TheVariants as builds
-use Rattle.heap_system.specs.Parts.{Part, Serve, Mark, Sweep, Build, PhaseChange}
+use Rattle.heap_system.specs.Parts.{Part, Access, Mark, Sweep, Build, PhaseChange}
 
 -- a write barrier puts what it has shaded, and a thread that changes the phase the roots
 abbrev pub puts_shaded : FieldRow → Bool
@@ -16,18 +16,18 @@ puts_shaded (fields.Shade r store) = marking.is_putting r
 puts_shaded _ = false
 
 abbrev pub puts_roots : GateRow → Bool
-puts_roots (gates.PutRoots p hand) = true
+puts_roots (gates.PutRoots p list) = true
 puts_roots _ = false
 
--- whether a thread puts its hand in its own grey list
+-- whether a thread puts its private list in its own grey list
 abbrev pub puts_grey : Part → Bool
-puts_grey (Serve f) = puts_shaded f.row
+puts_grey (Access f) = puts_shaded f.row
 puts_grey (Mark m) = marking.is_putting m.row
 puts_grey (PhaseChange g) = puts_roots g
 puts_grey _ = false
 
 abbrev pub puts_rest : BuildRow → Bool
-puts_rest (builds.PutRest hand) = true
+puts_rest (builds.PutRest list) = true
 puts_rest _ = false
 
 -- or in its own free list

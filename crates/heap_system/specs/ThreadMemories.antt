@@ -29,7 +29,7 @@ Ran acts s m l [] n k = (m ≡ n) × (l ≡ k)
 Ran {M} acts s m l (w ∷ ws) n k = (o : M) × acts m s (op_wanted l) w o × LocalReads l.config l w
     × Ran acts s o (local_got l w) ws n k × IsGoing l
 
--- a step that does not wait, of a part that is not over behind it
+-- a step that does not wait, of a part that is not over after it
 abbrev pub goes_on : Step → Bool
 goes_on steps.Went = true
 goes_on _ = false
@@ -58,8 +58,8 @@ longest = 64
 abbrev pub HasRunOn : {M S : Type 0} → Acts M S → S → M → LocalState → M → LocalState → Turn → Type 0
 HasRunOn = HasRunIn longest
 
--- A memory that stands for the thread may make its next event, reads no word that the row may not,
--- and then stands for the thread that has moved on.
+-- A memory that represents the thread may make its next event, reads no word that the row may not,
+-- and then represents the thread that has moved on.
 pub record MakesTheNextEvent {M S : Type 0} (may : M → S → Op → Type 0) (acts : Acts M S)
     (stands : M → S → LocalState → Type 0) (m : M) (s : S) (l : LocalState) : Type 0 where
   pub allowed : may m s (op_wanted l)

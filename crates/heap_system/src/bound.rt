@@ -6,11 +6,11 @@ ghost use Rattle.std.specs.Prelude.{ℕ, ◌+◌, ◌-◌, ◌*◌, ◌^◌, ◌
 ghost use Rattle.block_store.specs.declared.Config.{Config};
 ghost use Rattle.block_store.specs.Counts.{total};
 ghost use Rattle.rate_plan.specs.Rates.{IsRate};
-ghost use Rattle.never_heap.specs.Given.{given};
+ghost use Rattle.never_heap.specs.GivenBlocks.{given};
 ghost use Rattle.never_heap.specs.Histories.{starts_in, work_in};
 ghost use Rattle.never_heap.specs.Licensed.{Licensed, StartsSmall, NoFulls};
 ghost use Rattle.never_heap.specs.RightWork.{RightWork};
-ghost use Rattle.heap_invariant.specs.cycle_tally.Kept.{most_given};
+ghost use Rattle.heap_invariant.specs.cycle_tally.TallyInvariant.{most_given};
 ghost use Rattle.heap_system.specs.Costs.{units_so_far};
 ghost use Rattle.heap_system.specs.Machines.{Run, IsAfterTurns, opened};
 ghost use Rattle.heap_system.specs.Systems.{AllDone};

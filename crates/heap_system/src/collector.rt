@@ -1,5 +1,5 @@
 //! What holds of the collector after every list of turns, for the proofs above: where grey and Free
-//! blocks stand, the tricolour rule, the change between the phases, and the sweep. Each law is the
+//! blocks are, the tricolour rule, the change between the phases, and the sweep. Each law is the
 //! contract of a function that does nothing.
 
 ghost use Rattle.std.specs.Prelude.{◌+◌, ◌≡◌, ◌≢◌, ◌<◌, ◌≤◌, ◌⊎◌, ℕ, Some, true, false};
@@ -15,7 +15,7 @@ ghost use Rattle.heap_invariant.specs.name_invariant.Reached.{IsReachedBlock, Is
 ghost use Rattle.heap_machine.specs.FreeBlocks.{FreeKept};
 ghost use Rattle.heap_machine.specs.Gating.{open_word};
 ghost use Rattle.heap_machine.specs.Grey.{GreyKept};
-ghost use Rattle.heap_machine.specs.Holdings.{grey_held, free_held, sweep_held, tricolour_held};
+ghost use Rattle.heap_machine.specs.WorkInHand.{grey_held, free_held, sweep_held, tricolour_held};
 ghost use Rattle.heap_machine.specs.Operations.{Exchange};
 ghost use Rattle.heap_machine.specs.Solid.{SolidKept};
 ghost use Rattle.heap_machine.specs.Sweeping.{claims};
@@ -25,33 +25,33 @@ ghost use Rattle.heap_machine.specs.declared.pass.Pass.{Pass};
 ghost use Rattle.heap_system.specs.Parts.{PhaseChange};
 ghost use Rattle.heap_system.specs.Locals.{task, part_want};
 ghost use Rattle.heap_system.specs.Machines.{turned, Run, IsAfterTurns, local_in, heap_in};
-ghost use Rattle.heap_system.specs.Pictures.{holding, holdings_in, tasks_in, kept_state};
+ghost use Rattle.heap_system.specs.Pictures.{work_in_hand, work_in_hand_of, tasks_in, kept_state};
 ghost use Rattle.heap_system.specs.Rounds.{puts_grey, puts_free, turns_phase};
 ghost use Rattle.heap_system.specs.Shades.{IsBlack, IsGreyRoot};
 
-/// The grey blocks stand in the chains of the lists and of the threads' hands, or are under scan,
-/// each once. Where a thread puts its hand in its own list, in a Mark pass, in a write barrier or
-/// where it has shaded the roots, that list is empty.
+/// The grey blocks are in the chains of the lists and of the threads' hands, or are under scan,
+/// each once. Where a thread puts its private list in its own list, in a Mark pass, in a write
+/// barrier or where it has shaded the roots, that list is empty.
 pub fn grey_blocks_stand_once()
     ensures kept { (c : Config) (r : Run) → IsAfterTurns c r
-        → GreyKept c.threads (heap_in c r.state) (λ t. grey_held (holdings_in c r.state t)) }
+        → GreyKept c.threads (heap_in c r.state) (λ t. grey_held (work_in_hand_of c r.state t)) }
     ensures put { (c : Config) (r : Run) → IsAfterTurns c r → (t : ℕ) → t < c.threads
         → puts_grey (local_in c r t).part ≡ true
         → (part_want c (local_in c r t).part
-        ≡ Exchange (GreyList t) (holding c (local_in c r t).part).hand)
+        ≡ Exchange (GreyList t) (work_in_hand c (local_in c r t).part).list)
         × (heap_in c r.state (GreyList t) ≡ 0) }
 {}
 
-/// The Free blocks stand in the chains of the free lists and of the threads' hands, or are held to
-/// build with, each once, and are counted. Where a thread puts its hand in its own free list, that
-/// list is empty.
+/// The Free blocks are in the chains of the free lists and of the threads' hands, or are held to
+/// build with, each once, and are counted. Where a thread puts its private list in its own free
+/// list, that list is empty.
 pub fn free_blocks_stand_once()
     ensures kept { (c : Config) (r : Run) → IsAfterTurns c r
-        → FreeKept (extent c) (heap_in c r.state) (λ t. free_held (holdings_in c r.state t)) }
+        → FreeKept (extent c) (heap_in c r.state) (λ t. free_held (work_in_hand_of c r.state t)) }
     ensures put { (c : Config) (r : Run) → IsAfterTurns c r → (t : ℕ) → t < c.threads
         → puts_free (local_in c r t).part ≡ true
         → (part_want c (local_in c r t).part
-        ≡ Exchange (FreeList t) (holding c (local_in c r t).part).free_hand)
+        ≡ Exchange (FreeList t) (work_in_hand c (local_in c r t).part).free_list)
         × (heap_in c r.state (FreeList t) ≡ 0) }
 {}
 
@@ -65,7 +65,7 @@ pub fn marking_is_tricolour()
     ensures tricolour { (c : Config) (r : Run) → IsAfterTurns c r
         → is_sweep (heap_in c r.state Phase) ≡ false
         → TricolourKept (extent c) (cycle_of (heap_in c r.state Phase)) (heap_in c r.state)
-        (λ t. tricolour_held (holdings_in c r.state t)) }
+        (λ t. tricolour_held (work_in_hand_of c r.state t)) }
     ensures solid { (c : Config) (r : Run) → IsAfterTurns c r
         → is_sweep (heap_in c r.state Phase) ≡ false
         → SolidKept (extent c) (cycle_of (heap_in c r.state Phase)) (heap_in c r.state) }
@@ -137,12 +137,12 @@ pub fn sweeping_spares_what_is_reached()
         → IfRefers (IsBlack c r) (heap_in c r.state (PayloadOf x j)) }
     ensures passed { (c : Config) (r : Run) → IsAfterTurns c r → (x : ℕ)
         → is_sweep (heap_in c r.state Phase) ≡ true → 1 ≤ x → x < heap_in c r.state Cursor
-        → claims c.threads (λ t. sweep_held (holdings_in c r.state t)) x ≡ 0
+        → claims c.threads (λ t. sweep_held (work_in_hand_of c r.state t)) x ≡ 0
         → heap_in c r.state (ColourOf x) ≢ white_word (cycle_of (heap_in c r.state Phase)) }
     ensures doomed { (c : Config) (r : Run) → IsAfterTurns c r → (t : ℕ) → t < c.threads
-        → (holding c (local_in c r t).part).doomed ≢ 0
+        → (work_in_hand c (local_in c r t).part).doomed ≢ 0
         → (is_sweep (heap_in c r.state Phase) ≡ true)
-        × (heap_in c r.state (ColourOf (holding c (local_in c r t).part).doomed)
+        × (heap_in c r.state (ColourOf (work_in_hand c (local_in c r t).part).doomed)
         ≡ white_word (cycle_of (heap_in c r.state Phase))) }
 {}
 

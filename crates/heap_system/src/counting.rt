@@ -24,7 +24,7 @@ pub fn count(account: &mut Account, spent: &mut u64, trace: &[Command], log: &[E
     ensures spent { spent.new ≡ spent_got None unit spent.old }
 {
     if unit {
-        if trace[log.len()].told() == 0 {
+        if trace[log.len()].requested_units() == 0 {
             account.unit();
         } else {
             account.idle();

@@ -15,32 +15,32 @@ ghost use Rattle.rate_plan.specs.Rates.{IsRate, IsAdmitted};
 ghost use Rattle.never_heap.specs.declared.Reply.{Reply};
 ghost use Rattle.never_heap.specs.Histories.{replay, part, Legal, starts_in, work_in};
 ghost use Rattle.never_heap.specs.Reach.{reachable};
-ghost use Rattle.never_heap.specs.RightWork.{RightWork, units_told};
+ghost use Rattle.never_heap.specs.RightWork.{RightWork, requested_units};
 ghost use Rattle.never_heap.specs.Steps.{blocks_of};
 ghost use Rattle.heap_invariant.specs.graph_relation.Events.{pending_registers, Follows};
 ghost use Rattle.heap_invariant.specs.graph_relation.InitialHeaps.{opening_words};
-ghost use Rattle.heap_invariant.specs.graph_relation.Shown.{Shows};
+ghost use Rattle.heap_invariant.specs.graph_relation.GraphOfWords.{Shows};
 ghost use Rattle.heap_invariant.specs.graph_relation.Words.{block_words, Agrees};
 ghost use Rattle.heap_invariant.specs.name_invariant.Building.{Build as Building, NotHeld};
-ghost use Rattle.heap_invariant.specs.name_invariant.Kept.{IsKept, IsOlder};
+ghost use Rattle.heap_invariant.specs.name_invariant.Invariant.{Invariant, IsOlder};
 ghost use Rattle.heap_invariant.specs.name_invariant.Pictures.{no_task};
 ghost use Rattle.heap_invariant.specs.name_invariant.Reached.{IsReachedBlock};
 ghost use Rattle.heap_invariant.specs.name_invariant.States.{sizes};
 ghost use Rattle.heap_machine.specs.Gating.{is_inside, GateOf};
-ghost use Rattle.heap_machine.specs.Holdings.{holds_nothing};
+ghost use Rattle.heap_machine.specs.WorkInHand.{holds_nothing};
 ghost use Rattle.heap_machine.specs.Operations.{place_of, op_at, SumFits};
 ghost use Rattle.heap_machine.specs.PhaseKept.{PhaseKept};
 ghost use Rattle.heap_machine.specs.Readings.{IsHeld};
 ghost use Rattle.barrier_steps.specs.Operands.{is_idle};
 ghost use Rattle.barrier_steps.specs.Rows.{FieldState, field_decided};
 ghost use Rattle.build_steps.specs.Rows.{BuildState};
-ghost use Rattle.heap_system.specs.Parts.{Part, Serve, Build, Leave};
+ghost use Rattle.heap_system.specs.Parts.{Part, Access, Build, Leave};
 ghost use Rattle.heap_system.specs.declared.Turn.TheVariants as Turn;
 ghost use Rattle.heap_system.specs.Loaded.{IsLoadedBlock, IsTaking};
 ghost use Rattle.heap_system.specs.Locals.{task, is_done, waits, is_rest, command_of, owed, entry_of, works, part_want, part_step, turn_of, LocalReads};
 ghost use Rattle.heap_system.specs.Machines.{State, answer, turned, Run, opened, IsAfterTurns, local_in, local_at, heap_in, word_read};
 ghost use Rattle.heap_system.specs.InitialHeaps.{opening_heap};
-ghost use Rattle.heap_system.specs.Pictures.{stand_of, holding, gates_in, holdings_in, tasks_in, kept_state, entries_waiting};
+ghost use Rattle.heap_system.specs.Pictures.{stand_of, work_in_hand, gates_in, work_in_hand_of, tasks_in, kept_state, entries_waiting};
 ghost use Rattle.heap_system.specs.Systems.{units_of, logs_of, Finish};
 ghost use Rattle.heap_system.specs.Units.{units_made, units_made_for, blacks_made, passes_made, AreMadeFor, IsRight};
 
@@ -56,7 +56,7 @@ pub fn opening_shows_the_start()
 {}
 
 /// The words show, of the replay of the order, each object that the rules keep, where they say that
-/// it stands, and no two of its blocks are one; and they keep each one that the graph reaches.
+/// it is, and no two of its blocks are one; and they keep each one that the graph reaches.
 /// There is one exception: between the event that takes a field's value and the store in the
 /// register, so between the load and the store of a `get`, and between the exchange and the store
 /// of a `swap`, that register's word is still that of the value that it had before. What a thread
@@ -100,13 +100,13 @@ pub fn words_show_the_order()
 {}
 
 /// Each rule on the heap and on its names is kept: each word is one that its place can hold; grey
-/// and Free blocks stand once, what is claimed and what was passed; in Mark the tricolour rule, and
+/// and Free blocks occur once, what is claimed and what was passed; in Mark the tricolour rule, and
 /// that only Free blocks refer to Free ones; and what needs the graph.
 pub fn turns_keep_the_rules()
     ensures held { (c : Config) (r : Run) → IsAfterTurns c r → IsHeld c (heap_in c r.state) }
     ensures rules { (c : Config) (r : Run) → IsAfterTurns c r
-        → PhaseKept (extent c) (heap_in c r.state) (holdings_in c r.state) }
-    ensures names { (c : Config) (r : Run) → IsAfterTurns c r → IsKept c (kept_state c r) }
+        → PhaseKept (extent c) (heap_in c r.state) (work_in_hand_of c r.state) }
+    ensures names { (c : Config) (r : Run) → IsAfterTurns c r → Invariant c (kept_state c r) }
 {}
 
 /// The order is legal: each command is answered as the heap that never frees answers it there, or
@@ -134,14 +134,14 @@ pub fn logs_are_parts()
         → is_rest (local_in c r t).part ≡ true
         → (part t r.order ≡ (local_in c r t).log)
         × (task c (local_in c r t).part ≡ no_task)
-        × (holding c (local_in c r t).part ≡ holds_nothing) }
+        × (work_in_hand c (local_in c r t).part ≡ holds_nothing) }
     ensures decided { (c : Config) (r : Run) → IsAfterTurns c r → (t : ℕ) → t < c.threads
-        → (f : FieldState) → (local_in c r t).part ≡ Serve f → field_decided f.row ≡ true
+        → (f : FieldState) → (local_in c r t).part ≡ Access f → field_decided f.row ≡ true
         → (y : Reply)
         × (part t r.order
         ≡ (local_in c r t).log ++ entry_of t (command_of (local_in c r t)) 0 y ∷ []) }
     ensures undecided { (c : Config) (r : Run) → IsAfterTurns c r → (t : ℕ) → t < c.threads
-        → (f : FieldState) → (local_in c r t).part ≡ Serve f → field_decided f.row ≡ false
+        → (f : FieldState) → (local_in c r t).part ≡ Access f → field_decided f.row ≡ false
         → part t r.order ≡ (local_in c r t).log }
     ensures building { (c : Config) (r : Run) → IsAfterTurns c r → (t : ℕ) → t < c.threads
         → (b : BuildState) → (local_in c r t).part ≡ Build b
@@ -189,10 +189,10 @@ pub fn works_are_units()
         × ((local_in c r t).balance.paid ≡ rate * blocks_of c.width (command_of (local_in c r t)))
         × ((local_in c r t).spent ≡ owed (local_in c r t)) }
     ensures serves { (c : Config) (r : Run) → (is : IsAfterTurns c r) → (t : ℕ) → t < c.threads
-        → (f : FieldState) → (local_in c r t).part ≡ Serve f
+        → (f : FieldState) → (local_in c r t).part ≡ Access f
         → (blocks_of c.width (command_of (local_in c r t)) ≡ 0)
         × (units_made_for c t (length (local_in c r t).log) (opened c is.by_turns.first) is.turns
-        ≡ units_told (command_of (local_in c r t))) }
+        ≡ requested_units (command_of (local_in c r t))) }
     ensures rest { (c : Config) (r : Run) → IsAfterTurns c r → (t : ℕ) → t < c.threads
         → is_rest (local_in c r t).part ≡ true
         → ((local_in c r t).spent ≡ 0) × ((local_in c r t).balance.paid ≡ 0) }

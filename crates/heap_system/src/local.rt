@@ -125,7 +125,7 @@ fn price_in_full(c: &Config, rate: u64, command: &Command) -> u64
     ensures price { result ≡ units_owed c.now.width rate command.now }
     ensures few { result ≤ most_units }
 {
-    rate * u64::from(command.blocks(c.width)) + command.told()
+    rate * u64::from(command.blocks(c.width)) + command.requested_units()
 }
 
 // The units that the first command of a trace owes, where it has one.
@@ -300,7 +300,7 @@ impl Local {
         ensures { result ≡ commands_decided self.now }
     {
         match self.row {
-            Row::Serve => if_decided(self.log.len(), self.field.decided()),
+            Row::Access => if_decided(self.log.len(), self.field.decided()),
             _ => self.log.len(),
         }
     }

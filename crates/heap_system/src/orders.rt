@@ -5,7 +5,7 @@ ghost use Rattle.std.specs.Vec.{vec_capacity};
 ghost use Rattle.block_store.specs.declared.Config.{Config};
 ghost use Rattle.block_store.specs.Phases.{bit};
 ghost use Rattle.never_heap.specs.declared.Item.{Item};
-ghost use Rattle.never_heap.specs.Orders.{item_of};
+ghost use Rattle.never_heap.specs.HistoryOfOrder.{item_of};
 ghost use Rattle.heap_system.specs.Machines.{State, Run, next};
 ghost use Rattle.heap_system.specs.Ordering.{ordered_of};
 ghost use Rattle.heap_system.specs.Systems.{Ordered, items_added, ordered_after, commands_in, opening_order};

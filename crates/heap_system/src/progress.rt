@@ -8,7 +8,7 @@ ghost use Rattle.block_store.specs.Widths.{payloads};
 ghost use Rattle.rate_plan.specs.solo_bound.Near.{near_bound, near_other_bound};
 ghost use Rattle.never_heap.specs.declared.Command.{Command};
 ghost use Rattle.never_heap.specs.declared.Command.TheVariants.{Idle};
-ghost use Rattle.never_heap.specs.RightWork.{units_told};
+ghost use Rattle.never_heap.specs.RightWork.{requested_units};
 ghost use Rattle.never_heap.specs.Steps.{blocks_of};
 ghost use Rattle.barrier_steps.specs.Operands.{is_idle};
 ghost use Rattle.rate_plan.specs.Rates.{IsRate, IsAdmitted};
@@ -52,7 +52,7 @@ pub fn a_lone_command_ends_near_its_bound()
         (blocks_of c.width k) }
     ensures other { (c : Config) (k : Command) (rate : ℕ) → blocks_of c.width k ≡ 0
         → command_near c rate k
-        ≡ near_other_bound c.threads (payloads c.width) c.blocks (units_told k) (most_events c k) }
+        ≡ near_other_bound c.threads (payloads c.width) c.blocks (requested_units k) (most_events c k) }
     ensures stated { (c : Config) (k : Command) (rate : ℕ) → IsInBounds c → IsAdmitted c
         → command_near c rate k ≤ command_bound c rate k }
 {}

@@ -1,9 +1,9 @@
-//! Where a thread stands, in few bytes.
+//! Where a thread is, in few bytes.
 
 use grey_steps::GreyRow;
 use sweep_steps::SweepRow;
 
-/// The row at which a thread stands. The thread keeps beside it what rows have in common, the pass
+/// The row at which a thread is. The thread keeps beside it what rows have in common, the pass
 /// above all, and what does a command, builds an object or changes the phase.
 #[derive(Clone, Copy)]
 pub enum Row {
@@ -14,7 +14,7 @@ pub enum Row {
     /// Outside, and goes in where the phase word is still the one that was seen.
     Enter { seen: u64 },
     /// Inside, in a command that makes no object.
-    Serve,
+    Access,
     /// Inside, and marks.
     Mark(GreyRow),
     /// Inside, and sweeps, with so many units owed when it came in.
@@ -24,7 +24,7 @@ pub enum Row {
     /// On its way out, to come in again.
     Retry,
     /// On its way out, to change the phase.
-    ToChange,
+    LeaveToChangePhase,
     /// Outside, and changes the phase.
     PhaseChange,
     /// On its way out, with its command in the log.

@@ -25,7 +25,7 @@ use heap_machine::Words;
 use std::alloc::Global;
 
 /// The words of the opening heap of a configuration that has a rate: each thread has its registers,
-/// of which register 0 refers to the shared array, and all blocks behind that are Free.
+/// of which register 0 refers to the shared array, and all blocks after that are Free.
 ///
 /// # Errors
 ///
@@ -98,7 +98,7 @@ fn free_list_at(c: &Config, t: usize) -> u64
     if t == 0 { last_block(c) as u64 + 1 } else { 0 }
 }
 
-// The word of block `x` that stands `k` words behind its colour.
+// The word of block `x` that is `k` words after its colour.
 fn block_word(c: &Config, x: u32, k: usize) -> u64
     requires bounds { IsInBounds c.now }
     requires plan { IsAdmitted c.now }
@@ -201,7 +201,7 @@ fn shape_at(c: &Config, x: u32) -> u64
     }
 }
 
-// The word of payload `j` of an array of nils, whose ordinals stand from block `first` on.
+// The word of payload `j` of an array of nils, whose ordinals are from block `first` on.
 fn link_at(width: Width, elements: u32, first: u32, ordinal: u32, j: u32) -> u64
     requires few { elements ≤ 65535 }
     requires inside { ordinal < array_blocks width elements }

@@ -2,7 +2,7 @@
 
 use heap_machine::Memory;
 
-/// A memory that stands for a thread, from one of its events to the next.
+/// A memory that represents a thread, from one of its events to the next.
 pub trait ThreadMemory: Memory {
     ghost use Rattle.std.specs.Prelude.{◌≡◌, ◌<◌, false};
     ghost use Rattle.block_store.specs.Places.{extent, words_count};

@@ -63,7 +63,7 @@ fn drawn_trace(
     Ok(trace)
 }
 
-// Puts a command behind others, where it is in bounds.
+// Puts a command after others, where it is in bounds.
 fn push_fitting(c: &Config, trace: &mut Vec<Command>, command: Command) -> Result<(), OutOfMemory>
     requires { All (IsCommandInBounds c.now) trace.old.items }
     ensures few { OnOk result (length trace.new.items ≤ length trace.old.items + 1) }

@@ -85,7 +85,7 @@ fn drawn_command(draws: &mut Lcg64Xsh32, kind: u32) -> Command {
     }
 }
 
-// Puts a command behind others, where it is in bounds and there is room for it. With blocks of
+// Puts a command after others, where it is in bounds and there is room for it. With blocks of
 // width four no swap, cas or idle is in bounds.
 fn push_fitting(c: &Config, trace: &mut Vec<Command>, command: Command) -> Result<(), OutOfMemory>
     requires few { length trace.old.items ≤ 131072 }

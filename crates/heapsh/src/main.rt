@@ -57,7 +57,7 @@ impl Stop {
 enum Form {
     /// A command.
     Plain,
-    /// A command behind a prompt.
+    /// A command after a prompt.
     Prompted,
     /// A command if it begins with `> `; a remark if it is empty or begins with `#`, and otherwise
     /// what was replied before.

@@ -159,7 +159,7 @@ fn idle_of(n: &[u64]) -> Option<Command> {
 }
 
 /// The configuration that words spell: `2 blocks 64 live 20 object 2 shared 0`, where `threads` may
-/// stand too and is otherwise 1. It may be none that a heap takes.
+/// are too and is otherwise 1. It may be none that a heap takes.
 pub fn config_of(words: &[&str]) -> Option<Config> {
     let width = match *words.first()? {
         "1" => Width::Four,
@@ -176,7 +176,7 @@ pub fn config_of(words: &[&str]) -> Option<Config> {
     })
 }
 
-/// The number behind a name.
+/// The number after a name.
 fn named(words: &[&str], name: &str) -> Option<u32> {
     let mut is_next = false;
     for word in words {

@@ -12,8 +12,8 @@ use Rattle.heap_structures.specs.Heaps.{HasRoom}
 use Rattle.heap_structures.specs.Trends.{HoldsTrend}
 use Rattle.heap_structures.specs.declared.trend.Sample.{Sample}
 use Rattle.historian_core.specs.declared.Historian.{Historian}
-use Rattle.historian_core.specs.Kept.{Fits, IsGiven, heap_config, heap_of}
-use Rattle.historian_core.specs.Texts.{life}
+use Rattle.historian_core.specs.StoredReadings.{Fits, IsGiven, heap_config, heap_of}
+use Rattle.historian_core.specs.ReportTexts.{life}
 
 -- ---- the rate of this configuration is 5
 

@@ -4,7 +4,7 @@ use Rattle.std.proofs.lemmas.Bool.{cases_eq, cases_lt}
 use Rattle.trace_text.specs.Lines.{tokens_of, onto_first}
 use Rattle.trace_text.specs.Reading.{◌>>=◌, number_at, two_tokens_of, one_token_of, no_more_of}
 use Rattle.historian_core.specs.declared.Limits.{Limits}
-use Rattle.historian_core.specs.Texts.{reading_at, limits_at}
+use Rattle.historian_core.specs.ReportTexts.{reading_at, limits_at}
 
 -- a number has at most 19 digits
 pub reading_long : (line : List ℕ) → 19 < length line → reading_at line ≡ None
@@ -12,7 +12,7 @@ unfolding reading_at number_at
 reading_long line long =
     rw (ne_eqb (length line) 0 (omega arith), lt-ltb 19 (length line) long) refl
 
--- the bytes of tokens, and one for the space behind each
+-- the bytes of tokens, and one for the space after each
 abbrev weigh : List (List ℕ) → ℕ
 weigh [] = 0
 weigh (t ∷ ts) = length t + 1 + weigh ts

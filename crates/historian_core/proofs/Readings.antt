@@ -8,7 +8,7 @@ use Rattle.heap_structures.specs.declared.trend.Sample.{Sample}
 use Rattle.historian_core.specs.declared.Figures.{Figures}
 use Rattle.historian_core.specs.declared.Historian.{Historian}
 use Rattle.historian_core.specs.declared.Limits.{Limits}
-use Rattle.historian_core.specs.Kept.{IsGiven, Keeps, counted, counted_in, samples}
+use Rattle.historian_core.specs.StoredReadings.{IsGiven, Stores, counted, counted_in, samples}
 use Rattle.historian_core.specs.Windows.{alarms_in, figures_of, greatest_in, is_alarm, last_ones, least_in, mark, total_in}
 
 values_are : (l : Limits) (ys : List ℕ) → values_in (samples l ys) ≡ ys
@@ -32,7 +32,7 @@ pub long_as : (l : Limits) (xs : List ℕ) → length (samples l xs) ≡ length 
 long_as l xs = length-map xs (λ x. record { value = x; alarm = is_alarm l x })
 
 -- a historian knows how many readings it was given
-pub as_long : (h : Historian) (l : Limits) (xs ys : List ℕ) → Keeps h l xs → Keeps h l ys
+pub as_long : (h : Historian) (l : Limits) (xs ys : List ℕ) → Stores h l xs → Stores h l ys
     → length xs ≡ length ys
 as_long h l xs ys k m =
     omega (arith, long_as l xs, long_as l ys, k.pushed, m.pushed)
@@ -42,7 +42,7 @@ pub keeps_on : (l : Limits) (xs : List ℕ) (x : ℕ) (b : Bool) → b ≡ is_al
     (f : Figures)
     → (f ≡ counted_in (samples l xs ++ record { value = x; alarm = b } ∷ []))
     × IsGiven h (2 + 207 * length xs + 127 + 80) (samples l xs ++ record { value = x; alarm = b } ∷ [])
-    → (f ≡ figures_of l (last_ones (xs ++ x ∷ []))) × Keeps h l (xs ++ x ∷ [])
+    → (f ≡ figures_of l (last_ones (xs ++ x ∷ []))) × Stores h l (xs ++ x ∷ [])
 keeps_on l xs x b is h f by =
     let g : ℕ → Sample = λ y. record { value = y; alarm = is_alarm l y } in
     let e : samples l xs ++ record { value = x; alarm = b } ∷ [] ≡ samples l (xs ++ x ∷ []) =

@@ -8,7 +8,7 @@ use Rattle.historian_core.specs.declared.stops.Stop.{Stop}
 use Rattle.historian_core.specs.declared.stops.Stop.TheVariants.{ReadFault, WriteFault}
 use Rattle.historian_core.specs.Lines.{Spells, EndsHere}
 use Rattle.historian_core.specs.Reports.{AreReadings, IsReport, IsFineText, IsToldOrFails}
-use Rattle.historian_core.specs.Texts.{Due, life, reading_at, checked, with_text, due_after, due_from, due_in}
+use Rattle.historian_core.specs.ReportTexts.{Due, life, reading_at, checked, with_text, due_after, due_from, due_in}
 use Rattle.historian_core.specs.Windows.{told_line, told_lines}
 
 -- nothing more is written

@@ -1,6 +1,6 @@
 pub mod Windows
-pub mod Kept
-pub mod Texts
+pub mod StoredReadings
+pub mod ReportTexts
 pub mod Lines
 pub mod Reports
 pub mod Stops

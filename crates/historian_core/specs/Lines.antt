@@ -6,7 +6,7 @@ use Rattle.trace_text.specs.short_lines.Found.{IsCut}
 use Rattle.historian_core.specs.declared.Limits.{Limits}
 use Rattle.historian_core.specs.declared.stops.Stop.{Stop}
 use Rattle.historian_core.specs.declared.stops.Stop.TheVariants.{ReadFault, WriteFault}
-use Rattle.historian_core.specs.Texts.{Due, stops, reading_at, first_at, due_after, due_in}
+use Rattle.historian_core.specs.ReportTexts.{Due, stops, reading_at, first_at, due_after, due_in}
 
 -- the first line spells this, and what is left are the lines after it
 pub record Spells {X : Type 0} (at : List ℕ → X) (x : X) (bytes : List ℕ)

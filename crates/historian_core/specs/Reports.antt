@@ -7,7 +7,7 @@ use Rattle.trace_text.specs.short_lines.Found.{IsCut}
 use Rattle.historian_core.specs.declared.Limits.{Limits}
 use Rattle.historian_core.specs.declared.stops.Stop.{Stop}
 use Rattle.historian_core.specs.declared.stops.Stop.TheVariants.{ReadFault, WriteFault}
-use Rattle.historian_core.specs.Texts.{Due, life, reading_at, limits_at}
+use Rattle.historian_core.specs.ReportTexts.{Due, life, reading_at, limits_at}
 use Rattle.historian_core.specs.Windows.{told_lines}
 
 -- The source failed: these lines were read and reported. Some bytes of the next line may be lost.

@@ -8,7 +8,7 @@ use Rattle.historian_core.specs.declared.stops.Stop.TheVariants.{BadLine, NoLife
 use Rattle.historian_core.specs.declared.stops.Why.{Why}
 use Rattle.historian_core.specs.declared.stops.Why.TheVariants.{Limits, Order, Reading}
 use Rattle.historian_core.specs.Reports.{IsReport, AreCounted}
-use Rattle.historian_core.specs.Texts.{due_in}
+use Rattle.historian_core.specs.ReportTexts.{due_in}
 
 -- the exit status of each stop
 abbrev pub status_of : Stop → ℕ

@@ -11,7 +11,7 @@ ghost use Rattle.trace_text.specs.Faults.{Rose};
 ghost use Rattle.trace_text.specs.Streams.{Appends, AppendsPrefix};
 ghost use Rattle.historian_core.specs.declared.Historian.{Historian};
 ghost use Rattle.historian_core.specs.declared.Limits.{Limits};
-ghost use Rattle.historian_core.specs.Kept.{Fits, IsGiven, Keeps, counted, counted_in, heap_config, heap_of};
+ghost use Rattle.historian_core.specs.StoredReadings.{Fits, IsGiven, Stores, counted, counted_in, heap_config, heap_of};
 ghost use Rattle.historian_core.specs.Windows as windows;
 
 mod stops;
@@ -141,7 +141,7 @@ impl Figures {
 ///
 /// `NoMemory`: the configuration rules out the other causes of `ControlHeap::open`.
 pub fn start(alloc: Global) -> Result<Historian, OpenFault>
-    ensures kept { (l : Limits) → IfOk result (λ h. Keeps h l []) }
+    ensures kept { (l : Limits) → IfOk result (λ h. Stores h l []) }
     ensures refused { IfErr result (IsOpenFault heap_config) }
 {
     let trend = Trend::open(alloc, HEAP, KEPT)?;
@@ -159,13 +159,13 @@ pub fn tell<K: Sink>(
     reading: u32,
     sink: &mut K,
 ) -> Result<(), Failed>
-    requires { (xs : List ℕ) × Keeps historian.old limits.now xs × (length xs < LIFE) }
-    ensures kept { (xs : List ℕ) → Keeps historian.old limits.now xs
-        → Keeps historian.new limits.now (xs ++ reading ∷ []) }
-    ensures written { (xs : List ℕ) → Keeps historian.old limits.now xs
+    requires { (xs : List ℕ) × Stores historian.old limits.now xs × (length xs < LIFE) }
+    ensures kept { (xs : List ℕ) → Stores historian.old limits.now xs
+        → Stores historian.new limits.now (xs ++ reading ∷ []) }
+    ensures written { (xs : List ℕ) → Stores historian.old limits.now xs
         → OnOk result (Appends (K.held sink.old) (K.held sink.new)
         (windows.told_line limits.now (xs ++ reading ∷ []))) }
-    ensures prefix { (xs : List ℕ) → Keeps historian.old limits.now xs
+    ensures prefix { (xs : List ℕ) → Stores historian.old limits.now xs
         → OnErr result (AppendsPrefix (K.held sink.old) (K.held sink.new)
         (windows.told_line limits.now (xs ++ reading ∷ []))) }
     ensures still { OnOk result (K.faults sink.new ≡ K.faults sink.old) }
@@ -177,7 +177,7 @@ pub fn tell<K: Sink>(
 
 /// No allocation of a heap that keeps readings was answered `Full`.
 pub fn readings_met_no_full()
-    ensures { (h : Historian) (l : Limits) (xs : List ℕ) (k : Keeps h l xs)
+    ensures { (h : Historian) (l : Limits) (xs : List ℕ) (k : Stores h l xs)
         → NoFulls k.lays.has.shows.run.order }
 {
     shown_heaps_met_no_full();
@@ -186,16 +186,16 @@ pub fn readings_met_no_full()
 /// The life of the heap has room for the object of one more reading exactly where it has kept fewer
 /// than `LIFE` readings.
 pub fn lives_end_with_the_heap()
-    ensures { (h : Historian) (l : Limits) (xs : List ℕ) → Keeps h l xs
+    ensures { (h : Historian) (l : Limits) (xs : List ℕ) → Stores h l xs
         → (length xs < LIFE) ↔ HasLeft (heap_of h) (Arr 1 1) }
 {}
 
 /// Adds a reading to fewer than `LIFE` others, and returns the figures of the last 40.
 pub fn take(historian: &mut Historian, limits: &Limits, reading: u32) -> Figures
-    requires { (xs : List ℕ) × Keeps historian.old limits.now xs × (length xs < LIFE) }
-    ensures { (xs : List ℕ) → Keeps historian.old limits.now xs
+    requires { (xs : List ℕ) × Stores historian.old limits.now xs × (length xs < LIFE) }
+    ensures { (xs : List ℕ) → Stores historian.old limits.now xs
         → (result ≡ windows.figures_of limits.now (windows.last_ones (xs ++ reading ∷ [])))
-        × Keeps historian.new limits.now (xs ++ reading ∷ []) }
+        × Stores historian.new limits.now (xs ++ reading ∷ []) }
 {
     let Ok(figures) = historian.add(limits, reading) else {
         unreachable!();
@@ -206,10 +206,10 @@ pub fn take(historian: &mut Historian, limits: &Limits, reading: u32) -> Figures
 impl Historian {
     /// Does `take`. No command is refused.
     fn add(&mut self, limits: &Limits, reading: u32) -> Result<Figures, Fault>
-        ensures { (xs : List ℕ) → Keeps self.old limits.now xs → length xs < LIFE
+        ensures { (xs : List ℕ) → Stores self.old limits.now xs → length xs < LIFE
             → IsOkAnd result (λ f.
             (f ≡ windows.figures_of limits.now (windows.last_ones (xs ++ reading ∷ [])))
-            × Keeps self.new limits.now (xs ++ reading ∷ [])) }
+            × Stores self.new limits.now (xs ++ reading ∷ [])) }
     {
         self.trend.push(Sample {
             value: reading,

@@ -2,7 +2,7 @@
 
 ghost use Rattle.std.specs.Prelude.{◌≡◌, ◌≤◌, ◌++◌, [], length};
 ghost use Rattle.historian_core.specs.declared.Limits.{Limits};
-ghost use Rattle.historian_core.specs.Kept.{Keeps};
+ghost use Rattle.historian_core.specs.StoredReadings.{Stores};
 ghost use Rattle.historian_core.specs.Stops.{EndsSo, IsEnded, IsSaid, status_of, stop_line, stop_text, why_text};
 
 use crate::{Historian, report};
@@ -96,7 +96,7 @@ pub fn report_with_status<S: Source, K: Sink>(
     source: &mut S,
     sink: &mut K,
 ) -> u8
-    requires { (l : Limits) → Keeps historian.old l [] }
+    requires { (l : Limits) → Stores historian.old l [] }
     ensures { IsEnded (S.left source.old) (S.left source.new) (K.held sink.old) (K.held sink.new)
         (S.faults source.old) (S.faults source.new) (K.faults sink.old) (K.faults sink.new) result }
 {

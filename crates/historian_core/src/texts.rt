@@ -3,16 +3,16 @@
 ghost use Rattle.std.specs.Prelude.{◌≡◌, ◌<◌, ◌≤◌, ◌+◌, ◌∷◌, ◌++◌, ℕ, List, [], length, IfOk, IfSome};
 ghost use Rattle.trace_text.specs.Streams.{Appends};
 ghost use Rattle.historian_core.specs.declared.Limits.{Limits};
-ghost use Rattle.historian_core.specs.Kept.{Keeps};
+ghost use Rattle.historian_core.specs.StoredReadings.{Stores};
 ghost use Rattle.historian_core.specs.Lines.{IsFirstLine, IsNextLine, CountsRead, CountsNext};
 ghost use Rattle.historian_core.specs.Reports.{IsReport, IsFineText, IsToldOrFails, AreCounted};
-ghost use Rattle.historian_core.specs.Texts.{reading_at, limits_at, first_at, due_after, due_in};
+ghost use Rattle.historian_core.specs.ReportTexts.{reading_at, limits_at, first_at, due_after, due_in};
 
 use crate::{Historian, LIFE, Limits, Stop, Why, tell};
 use trace_text::{Next, ShortLine, Sink, Source, next_line, number_of, two_tokens};
 
 /// The reading that a line spells: a number below 2^32.
-#[tactic(auto, unfolding(crate::specs::Texts::reading_at))]
+#[tactic(auto, unfolding(crate::specs::ReportTexts::reading_at))]
 pub fn reading_of(line: &[u8]) -> Option<u32>
     ensures { result ≡ reading_at line.now }
 {
@@ -25,7 +25,7 @@ pub fn reading_of(line: &[u8]) -> Option<u32>
 }
 
 /// The limits that a line spells: two numbers below 2^32 with one space between them, in any order.
-#[tactic(auto, unfolding(crate::specs::Texts::limits_at))]
+#[tactic(auto, unfolding(crate::specs::ReportTexts::limits_at))]
 pub fn limits_of(line: &[u8]) -> Option<Limits>
     ensures { result ≡ limits_at line.now }
 {
@@ -63,7 +63,7 @@ pub fn report<S: Source, K: Sink>(
     source: &mut S,
     sink: &mut K,
 ) -> Result<(), Stop>
-    requires { (l : Limits) → Keeps historian.old l [] }
+    requires { (l : Limits) → Stores historian.old l [] }
     ensures report { IfSome (S.left source.old) (λ bytes.
         IsReport due_in bytes (S.left source.new) (K.held sink.old) (K.held sink.new) result) }
     ensures fine { IfSome (S.left source.old) (λ bytes. (l : Limits) (xs : List ℕ)
@@ -147,7 +147,7 @@ fn tell_all<S: Source, K: Sink>(
     line: &mut ShortLine,
     sink: &mut K,
 ) -> Result<(), Stop>
-    requires { Keeps historian.old limits.now [] }
+    requires { Stores historian.old limits.now [] }
     ensures report { IfSome (S.left source.old) (λ bytes. IsReport (due_after limits.now []) bytes
         (S.left source.new) (K.held sink.old) (K.held sink.new) result) }
     ensures counted { AreCounted (S.faults source.old) (S.faults source.new) (K.faults sink.old)

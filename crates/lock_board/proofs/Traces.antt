@@ -4,7 +4,7 @@ use Rattle.block_store.specs.declared.Config.{Config}
 use Rattle.never_heap.specs.declared.Command.{Command}
 use Rattle.never_heap.specs.declared.Entry.{Entry}
 use Rattle.heap_system.specs.Systems.{Finish, IsFinished}
-use Rattle.heap_system.proofs.LoggedTraces.{traces_logged}
+use Rattle.heap_system.proofs.Lemmas.{traces_logged}
 use Rattle.lock_board.specs.Logs.{commands_of}
 
 -- what shows a run of some traces shows one of the commands of its logs

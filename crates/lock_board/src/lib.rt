@@ -1,4 +1,4 @@
-//! All threads of a heap behind one lock: one event is one hold of it.
+//! All threads of a heap after one lock: one event is one hold of it.
 #![tactic(auto)]
 
 ghost use Rattle.std.specs.Prelude.{◌≡◌, None, map, IfOk, IfErr};
@@ -31,7 +31,7 @@ impl Model for Plain {
     ghost invariant = { λ p. p.system.ordered ≡ None };
 }
 
-/// A system behind a lock. Of it only its type is known: that it is one after some list of turns,
+/// A system after a lock. Of it only its type is known: that it is one after some list of turns,
 /// and keeps no order.
 #[derive(Drop)]
 pub struct LockBoard {

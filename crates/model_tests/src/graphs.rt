@@ -1,13 +1,12 @@
 //! Commands on one graph and on two threads, with their replies; and what of a graph is live.
 
-ghost use Rattle.std.specs.Prelude.{◌≡◌, ◌<◌, ◌≤◌, ◌+◌, length, OnOk};
 ghost use Rattle.block_store.specs.Configs.{IsInBounds};
-ghost use Rattle.never_heap.specs.Graphs.{count_of};
 
 use crate::stored::last_stored;
 use block_store::{Config, Name, OutOfMemory, Value, Width};
 use never_heap::{Command, Graph, MOST_UNITS, NUMBERS, Reply};
 use std::alloc::Global;
+use std::marker::Model;
 use std::process::Abort;
 
 const CONFIG: Config = Config {
@@ -126,21 +125,78 @@ fn compared() -> [(Command, Reply); 25] {
     ]
 }
 
+/// A graph whose commands are tried while the test runs: at most a thousand.
+#[derive(Drop)]
+struct Asked<'c> {
+    graph: Graph,
+    config: &'c Config,
+    left: u32,
+}
+
+impl<'c> Model for Asked<'c> {
+    ghost use Rattle.std.specs.Prelude.{ℕ, ◌≡◌, ◌≤◌, ◌+◌, length};
+    ghost use Rattle.never_heap.specs.Graphs.{WideGraph, count_of};
+
+    ghost Value = { WideGraph };
+
+    ghost view = { λ a. a.graph };
+
+    ghost invariant = { λ a. (length a.graph.graph.mutators ≡ a.config.now.threads)
+        × ((t : ℕ) → count_of a.graph.graph t + a.left ≤ 1000) };
+}
+
+impl<'c> Asked<'c> {
+    #[tactic(auto, using(never_heap::proofs::StartGraph::count_of_start, never_heap::proofs::StartGraph::threads_of_start))]
+    fn start(alloc: Global, config: &'c Config) -> Result<Asked<'c>, OutOfMemory>
+        requires { IsInBounds config.now }
+    {
+        let graph = Graph::start(alloc, config)?;
+        Ok(Asked {
+            graph,
+            config,
+            left: 1000,
+        })
+    }
+
+    /// The reply to a command. `None` if it is out of bounds, or too many were asked.
+    #[tactic(auto, using(never_heap::proofs::StepChanges::step_threads, never_heap::proofs::StepChanges::step_counts_one))]
+    fn ask(&mut self, thread: u32, command: &Command) -> Result<Option<Reply>, OutOfMemory> {
+        if self.left == 0 || thread >= self.config.threads || !command.in_bounds(self.config) {
+            return Ok(None);
+        }
+        self.left -= 1;
+        Ok(Some(self.graph.apply(thread, command)?))
+    }
+
+    /// What a register holds; nil, if there is none of this number.
+    fn register(&self, thread: u32, register: u8) -> Value {
+        if thread >= self.config.threads || register >= 16 {
+            return Value::Nil;
+        }
+        self.graph.register(thread, register)
+    }
+
+    fn reach_blocks(&self) -> Result<u64, OutOfMemory> {
+        self.graph.reach_blocks()
+    }
+
+    fn count_live(&self) -> Result<u64, OutOfMemory> {
+        self.graph.count_live()
+    }
+}
+
 /// A graph after commands of thread 0, of which each was answered with the reply beside it.
-#[tactic(auto, using(never_heap::proofs::StepChanges::step_threads, never_heap::proofs::StepChanges::step_count))]
-fn answered(
+fn answered<'c>(
     rt: &impl Abort,
     alloc: Global,
-    config: &Config,
+    config: &'c Config,
     table: &[(Command, Reply)],
-) -> Result<Graph, OutOfMemory>
-    requires config { IsInBounds config.now }
-    requires few { length table.now ≤ 1000 }
+) -> Result<Asked<'c>, OutOfMemory>
+    requires { IsInBounds config.now }
 {
-    let mut graph = Graph::start(alloc, config)?;
+    let mut graph = Asked::start(alloc, config)?;
     for (command, reply) in table {
-        assert!(rt; command.in_bounds(config));
-        assert_eq!(rt; graph.apply(0, command)?, *reply, "{command:?}");
+        assert_eq!(rt; graph.ask(0, command)?, Some(*reply), "{command:?}");
     }
     Ok(graph)
 }
@@ -177,12 +233,12 @@ fn three_commands_are_of_version_2(rt: HostRuntime) {
         (Command::Idle { units: MOST_UNITS }, 131_070),
     ] {
         assert!(rt; command.in_bounds(&WIDE) && !command.in_bounds(&CONFIG));
-        assert_eq!(rt; command.told(), told);
+        assert_eq!(rt; command.requested_units(), told);
         assert_eq!(rt; command.blocks(Width::Eight), 0);
     }
 }
 
-// A ring of two records with a long array beside it, a chain of two behind register 3, and what
+// A ring of two records with a long array beside it, a chain of two after register 3, and what
 // registers no longer refer to.
 const LINKED: [Command; 13] = [
     Command::New { d: 1, fields: 4 },
@@ -201,15 +257,14 @@ const LINKED: [Command; 13] = [
 ];
 
 #[test]
-#[tactic(auto, using(never_heap::proofs::StepChanges::step_threads, never_heap::proofs::StepChanges::step_count))]
 fn one_scan_counts_what_rounds_count(rt: HostRuntime) -> Result<(), OutOfMemory> {
     let config = Config {
         object: 8,
         ..CONFIG
     };
-    let mut graph = Graph::start(rt.alloc(), &config)?;
+    let mut graph = Asked::start(rt.alloc(), &config)?;
     for command in LINKED {
-        graph.apply(0, &command)?;
+        assert!(rt; graph.ask(0, &command)?.is_some());
         assert_eq!(rt; graph.count_live()?, graph.reach_blocks()?);
     }
     // 6 at the opening, 2 and 1 of the ring, 8 of the array, 3 and 1 of the chain.
@@ -232,33 +287,27 @@ fn counted_at(round: u32) -> Option<u64> {
 }
 
 /// A round: one more record, which refers to the one before it.
-#[tactic(auto, using(never_heap::proofs::StepChanges::step_threads, never_heap::proofs::StepChanges::step_count))]
-fn link(graph: &mut Graph) -> Result<(), OutOfMemory>
-    requires threads { length graph.old.graph.mutators ≡ 1 }
-    requires few { count_of graph.old.graph 0 < 1000 }
-    ensures threads { OnOk result (length graph.new.graph.mutators ≡ 1) }
-    ensures count { OnOk result (count_of graph.new.graph 0 ≤ count_of graph.old.graph 0 + 3) }
-{
-    graph.apply(0, &Command::New { d: 1, fields: 1 })?;
-    graph.apply(0, &Command::Put { s: 1, i: 0, v: 2 })?;
-    graph.apply(0, &Command::Mov { d: 2, s: 1 })?;
-    Ok(())
-}
+const ROUND: [Command; 3] = [
+    Command::New { d: 1, fields: 1 },
+    Command::Put { s: 1, i: 0, v: 2 },
+    Command::Mov { d: 2, s: 1 },
+];
 
 #[test]
 fn a_chain_can_be_reached_to_its_end(rt: HostRuntime) -> Result<(), OutOfMemory> {
-    let mut graph = Graph::start(rt.alloc(), &CONFIG)?;
+    let mut graph = Asked::start(rt.alloc(), &CONFIG)?;
     for round in 0..59 {
         if let Some(blocks) = counted_at(round) {
             assert_eq!(rt; graph.reach_blocks()?, blocks, "after {round} rounds");
         }
-        link(&mut graph)?;
+        for command in ROUND {
+            assert!(rt; graph.ask(0, &command)?.is_some());
+        }
     }
     Ok(())
 }
 
 /// Two threads on blocks of this width, of which thread 1 makes a record of 14 fields.
-#[tactic(auto, using(never_heap::proofs::StepChanges::step_threads, never_heap::proofs::StepChanges::step_count))]
 fn other_thread(
     rt: &impl Abort,
     alloc: Global,
@@ -268,20 +317,21 @@ fn other_thread(
     let config = Config {
         width,
         threads: 2,
+        object: 8,
         ..CONFIG
     };
     let name = Name {
         thread: 1,
         serial: 1,
     };
-    let mut graph = Graph::start(alloc, &config)?;
-    let made = graph.apply(1, &Command::New { d: 1, fields: 14 })?;
-    assert_eq!(rt; made, Reply::New(name));
-    assert_eq!(rt;
-        graph.apply(1, &Command::Say { s: 1 })?,
-        Reply::Val(Value::Ref(name))
-    );
-    assert_eq!(rt; graph.apply(0, &Command::Say { s: 1 })?, NIL);
+    let mut graph = Asked::start(alloc, &config)?;
+    for (thread, command, reply) in [
+        (1, Command::New { d: 1, fields: 14 }, Reply::New(name)),
+        (1, Command::Say { s: 1 }, Reply::Val(Value::Ref(name))),
+        (0, Command::Say { s: 1 }, NIL),
+    ] {
+        assert_eq!(rt; graph.ask(thread, &command)?, Some(reply));
+    }
     assert_eq!(rt; graph.reach_blocks()?, blocks);
     Ok(())
 }
@@ -332,38 +382,60 @@ fn shared() -> [(u32, Command); 20] {
     ]
 }
 
+/// What was stored, in which field of which object.
+type Stored = (Value, u64, Value);
+
+/// The object that a command is about, and the value of the register that it may store.
+fn about(graph: &Asked<'_>, thread: u32, command: &Command) -> (Value, Value) {
+    match *command {
+        Command::Put { s, v, .. } | Command::Swap { s, v, .. } | Command::Cas { s, v, .. } => {
+            (graph.register(thread, s), graph.register(thread, v))
+        }
+        Command::Get { s, .. } => (graph.register(thread, s), Value::Nil),
+        _ => (Value::Nil, Value::Nil),
+    }
+}
+
+/// Notes what a command stored, and compares what it loaded.
+fn notes(
+    rt: &impl Abort,
+    stored: &mut Vec<Stored>,
+    (object, value): (Value, Value),
+    command: &Command,
+    reply: Reply,
+) -> Result<(), OutOfMemory> {
+    match (*command, reply) {
+        (Command::Put { i, .. }, Reply::Stored) | (Command::Cas { i, .. }, Reply::Yes) => {
+            stored.push((object, i, value))?;
+        }
+        (Command::Swap { i, .. }, Reply::Val(old)) => {
+            assert_eq!(rt; old, last_stored(stored, object, i));
+            stored.push((object, i, value))?;
+        }
+        (Command::Get { i, .. }, Reply::Val(got)) => {
+            assert_eq!(rt; got, last_stored(stored, object, i));
+        }
+        _ => (),
+    }
+    Ok(())
+}
+
 #[test]
-#[tactic(auto, using(never_heap::proofs::StepChanges::step_threads, never_heap::proofs::StepChanges::step_count))]
 fn gets_answer_what_was_last_stored(rt: HostRuntime) -> Result<(), OutOfMemory> {
     let config = Config {
         threads: 2,
         shared: 2,
         ..WIDE
     };
-    let mut graph = Graph::start(rt.alloc(), &config)?;
+    let mut graph = Asked::start(rt.alloc(), &config)?;
     let mut stored = Vec::new(rt.alloc());
     for (thread, command) in shared() {
-        assert!(rt; thread < 2 && command.in_bounds(&config));
-        let (object, value) = match command {
-            Command::Put { s, v, .. } | Command::Swap { s, v, .. } | Command::Cas { s, v, .. } => {
-                (graph.register(thread, s), graph.register(thread, v))
-            }
-            Command::Get { s, .. } => (graph.register(thread, s), Value::Nil),
-            _ => (Value::Nil, Value::Nil),
+        let about = about(&graph, thread, &command);
+        let Some(reply) = graph.ask(thread, &command)? else {
+            assert!(rt; false, "{command:?} is out of bounds");
+            return Ok(());
         };
-        match (command, graph.apply(thread, &command)?) {
-            (Command::Put { i, .. }, Reply::Stored) | (Command::Cas { i, .. }, Reply::Yes) => {
-                stored.push((object, i, value))?
-            }
-            (Command::Swap { i, .. }, Reply::Val(old)) => {
-                assert_eq!(rt; old, last_stored(&stored, object, i));
-                stored.push((object, i, value))?;
-            }
-            (Command::Get { i, .. }, Reply::Val(got)) => {
-                assert_eq!(rt; got, last_stored(&stored, object, i));
-            }
-            _ => (),
-        }
+        notes(&rt, &mut stored, about, &command, reply)?;
     }
     // Three puts, two exchanges, and two compares that were won.
     assert_eq!(rt; stored.len(), 7);

@@ -1,12 +1,9 @@
 //! A history of seven items in two cycles: each program answers of it, and of others that are
 //! wrong.
 
-ghost use Rattle.std.specs.Prelude.{◌<◌};
-
 use block_store::{Config, Name, Value, Width};
 use never_heap::{Command, Entry, Item, Logs, Reply};
 use std::alloc::Global;
-use std::process::Abort;
 use std::test::Fail;
 use test_kit::{
     Happened, given_in, history_of, in_bounds, is_legal, is_licensed, is_right_work, live_at,
@@ -107,56 +104,71 @@ fn history(alloc: Global, log: [Entry; 5]) -> Result<Vec<Happened>, Fail> {
     }
 }
 
+/// The work of a history in bounds.
+fn work_of(h: &[Happened]) -> Option<u64> {
+    if in_bounds(&HEAP, h) {
+        Some(work(h))
+    } else {
+        None
+    }
+}
+
+/// How many blocks a cycle gives, and how many are live at its start.
+fn blocks_of(alloc: Global, h: &[Happened], cycle: u64) -> Result<Option<(u64, u64)>, Fail> {
+    if !in_bounds(&HEAP, h) {
+        return Ok(None);
+    }
+    let live = live_at(alloc, &HEAP, h, cycle)?;
+    Ok(Some((given_in(&HEAP, h, cycle), live)))
+}
+
 #[test]
 fn a_right_history_is_counted(rt: HostRuntime) -> Result<(), Fail> {
     let h = history(rt.alloc(), log())?;
     assert_eq!(rt; judged(rt.alloc(), &h)?, [true, true, true]);
     assert_eq!(rt; starts(&h), 2);
-    let inside = in_bounds(&HEAP, &h);
-    assert!(rt; inside);
-    if inside {
-        assert_eq!(rt; work(&h), 26);
-        assert_eq!(rt; given_in(&HEAP, &h, 1), 1);
-        assert_eq!(rt; given_in(&HEAP, &h, 2), 1);
-        assert_eq!(rt; live_at(rt.alloc(), &HEAP, &h, 1)?, 4);
-        assert_eq!(rt; live_at(rt.alloc(), &HEAP, &h, 2)?, 5);
+    assert_eq!(rt; work_of(&h), Some(26));
+    for (cycle, wanted) in [(1, (1, 4)), (2, (1, 5))] {
+        assert_eq!(rt; blocks_of(rt.alloc(), &h, cycle)?, Some(wanted));
     }
     Ok(())
 }
 
-/// That a history whose log has this entry at a place is judged so.
-fn expect(
-    rt: &impl Abort,
-    alloc: Global,
-    place: usize,
-    wrong: Entry,
-    answer: [bool; 3],
-) -> Result<(), Fail>
-    requires { place < 5 }
-{
+/// Places of the log, each with a wrong entry, and how the history is then judged.
+fn wrong_entries() -> [(usize, Entry, [bool; 3]); 6] {
+    let new = Command::New { d: 1, fields: 2 };
+    let say = Command::Say { s: 1 };
+    [
+        (
+            1,
+            entry(say, Reply::Val(Value::Nil), 0),
+            [false, true, true],
+        ),
+        (1, entry(say, Reply::Full(1), 0), [false, true, true]),
+        (2, entry(IDLE, Reply::Idle, 6), [true, true, false]),
+        (2, entry(IDLE, Reply::Stored, 5), [false, true, true]),
+        (3, entry(new, Reply::Full(2), 7), [true, false, true]),
+        (3, entry(new, Reply::Full(1), 0), [true, true, false]),
+    ]
+}
+
+/// How a history is judged whose log has this entry at a place.
+fn judged_with(alloc: Global, place: usize, wrong: Entry) -> Result<[bool; 3], Fail> {
     let mut log = log();
-    log[place] = wrong;
+    if let Some(entry) = log.get_mut(place) {
+        *entry = wrong;
+    }
     let h = history(alloc, log)?;
-    assert_eq!(rt; judged(alloc, &h)?, answer, "entry {place}");
-    Ok(())
+    judged(alloc, &h)
 }
 
 #[test]
 fn a_wrong_entry_is_seen(rt: HostRuntime) -> Result<(), Fail> {
-    let alloc = rt.alloc();
-    let new = Command::New { d: 1, fields: 2 };
-    let said = entry(Command::Say { s: 1 }, Reply::Val(Value::Nil), 0);
-    expect(&rt, alloc, 1, said, [false, true, true])?;
-    let refused = entry(Command::Say { s: 1 }, Reply::Full(1), 0);
-    expect(&rt, alloc, 1, refused, [false, true, true])?;
-    let longer = entry(IDLE, Reply::Idle, 6);
-    expect(&rt, alloc, 2, longer, [true, true, false])?;
-    let stored = entry(IDLE, Reply::Stored, 5);
-    expect(&rt, alloc, 2, stored, [false, true, true])?;
-    let present = entry(new, Reply::Full(2), 7);
-    expect(&rt, alloc, 3, present, [true, false, true])?;
-    let unpaid = entry(new, Reply::Full(1), 0);
-    expect(&rt, alloc, 3, unpaid, [true, true, false])
+    for (place, wrong, answer) in wrong_entries() {
+        let judged = judged_with(rt.alloc(), place, wrong)?;
+        assert_eq!(rt; judged, answer, "entry {place}");
+    }
+    Ok(())
 }
 
 #[test]

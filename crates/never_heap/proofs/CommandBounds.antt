@@ -7,7 +7,7 @@ use Rattle.std.specs.List.{AllByRecursion}
 use Rattle.block_store.specs.declared.Config.{Config}
 use Rattle.never_heap.specs.declared.Command.{Command}
 use Rattle.never_heap.specs.Bounds.{IsCommandInBounds, IsCommandInRange}
-use Rattle.never_heap.specs.RightWork.{units_told}
+use Rattle.never_heap.specs.RightWork.{requested_units}
 use Rattle.never_heap.specs.Signatures.{Operand, Length, Each, IsInRange, IsOfVersion, object_in, operands, signature, Register, value_of}
 use Rattle.never_heap.specs.Steps.{blocks_in, blocks_of, length_in, length_made, object_made}
 use Rattle.never_heap.specs.declared.Command.TheVariants as commands
@@ -52,7 +52,7 @@ length_in_range command h = length_low (operands command) (operands_in_range com
 -- the parts of what it is to be in bounds
 abbrev pub BoundParts : Config → Command → Type 0
 BoundParts c k =
-    IsCommandInRange k × (blocks_of c.width k ≤ c.object) × (units_told k ≤ 131070)
+    IsCommandInRange k × (blocks_of c.width k ≤ c.object) × (requested_units k ≤ 131070)
     × IsOfVersion (signature k).version c.width
 
 pub bounds_are : (c : Config) (k : Command) → BoundParts c k ↔ IsCommandInBounds c k
@@ -62,7 +62,7 @@ bounds_are c k = (
 )
 
 -- a command in range that makes no object and no units, and is of this version
-pub plain_fits : {c : Config} {k : Command} → object_made k ≡ None → units_told k ≡ 0
+pub plain_fits : {c : Config} {k : Command} → object_made k ≡ None → requested_units k ≡ 0
     → IsOfVersion (signature k).version c.width → IsCommandInRange k → IsCommandInBounds c k
 plain_fits {c} {k} none untold version range = record {
   range = range;
@@ -76,10 +76,10 @@ pub blocks_low : (c : Config) (k : Command) → IsCommandInBounds c k → blocks
 blocks_low c k h = h.blocks
 
 -- a command is told of few units
-pub told_low : (c : Config) (k : Command) → IsCommandInBounds c k → units_told k ≤ 131070
+pub told_low : (c : Config) (k : Command) → IsCommandInBounds c k → requested_units k ≤ 131070
 told_low c k h = h.units
 
--- the command at any place of a trace is in bounds, and so is what stands for none
+-- the command at any place of a trace is in bounds, and so is what represents none
 pub bounds_at : (c : Config) (ks : List Command) (i : ℕ) → AllByRecursion (IsCommandInBounds c) ks → IsCommandInBounds c (get_or ks i (commands.Nil 0))
 bounds_at c ks i all = elim (cases_lt i (length ks)) [
   | inl low ↦ All-from_recursion (IsCommandInBounds c) ks all i (commands.Nil 0) low

@@ -7,7 +7,7 @@ use Rattle.block_store.specs.declared.Width.{Width}
 use Rattle.never_heap.specs.declared.Entry.{Entry}
 use Rattle.never_heap.specs.Histories.{HistoryItem, Started, Did, replay, starts_in, after, replay_from}
 use Rattle.never_heap.specs.Cycles.{before_start, after_start, graph_at}
-use Rattle.never_heap.specs.Given.{given}
+use Rattle.never_heap.specs.GivenBlocks.{given}
 use Rattle.never_heap.specs.Licensed.{IsLicensedItem, LicensedFrom, Licensed}
 use Rattle.never_heap.specs.RightWork.{IsRightWork, RightWork}
 use Rattle.never_heap.specs.Taken.{taken_by, taken_in, blocks_if_new}

@@ -146,7 +146,7 @@ not_same a b f = elim (cases_eq a.thread b.thread) [
   | inr t ↦ rw (ne_eqb a.thread b.thread t) refl
 ]
 
--- what stands at a name of serial 0, and at another
+-- what is at a name of serial 0, and at another
 pub at_zero : (s : Object) (n : ℕ) (os : List Object) (b : Name) → b.serial ≡ 0
     → object_from s n os b ≡ cond (eqb b.thread n) s no_object
 at_zero s n os b z = rw (eq-eqb b.serial 0 z) refl

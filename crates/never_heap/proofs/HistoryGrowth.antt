@@ -64,7 +64,7 @@ pub replay_append : (g : Graph) (h k : List HistoryItem)
 replay_append g [] k = refl
 replay_append g (x ∷ h) k = replay_append (after g x) h k
 
--- the legal items behind some of them
+-- the legal items after some of them
 pub legal_back : (g : Graph) (h k : List HistoryItem) → LegalFrom g (h ++ k)
     → LegalFrom (replay_from g h) k
 legal_back g [] k l = l

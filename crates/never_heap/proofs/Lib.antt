@@ -23,10 +23,13 @@ pub mod RunInduction
 pub mod LiveBlocksBound
 pub mod LiveGrows
 pub mod OpeningLiveBlocks
-pub mod Once
+pub mod DistinctNames
 pub mod Readback
 pub mod TraceOrder
 pub mod LiveScan
-pub mod Stamps
+pub mod MarksByStamp
 pub mod Effects
 pub mod PartLogs
+pub mod BlockLists
+pub mod NamesInValues
+pub mod Lemmas

@@ -1,4 +1,4 @@
--- Each name stands once among the names of a graph, so the blocks of what can be reached are no
+-- Each name occurs once among the names of a graph, so the blocks of what can be reached are no
 -- more than those of any closed list of names.
 use Rattle.std.proofs.Common.{◌≡◌, ◌≢◌, ℕ, zero, suc, ne_eqb, ◌+◌, ◌<◌, ◌≤◌, ◌==◌, ◌&&◌, ◌||◌, ◌⊎◌, inl, inr, if◌then◌else◌, cond, Bool, true, false, List, [], ◌∷◌, length, sym, refl, ap, ◌∙◌, subst, arith}
 use Rattle.std.proofs.lemmas.Bool.{cases_eq, cases_Bool}
@@ -58,7 +58,7 @@ module _ (w : Name → ℕ) (s : Name) where
       differs (inr (inl low)) = inr (λ e. omega arith)
       differs (inr (inr e)) = inr (λ f. omega arith)
 
-  -- among the names of one thread s stands once at most
+  -- among the names of one thread s occurs once at most
   once_here : (t k : ℕ) → sum_by at (thread_names t k) ≤ w s
   once_here t zero = omega arith
   once_here t (suc k) =

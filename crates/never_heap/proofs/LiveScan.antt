@@ -8,7 +8,7 @@ use Rattle.std.proofs.lemmas.List.{length_push, take_all, get_or_append_left, ge
 use Rattle.block_store.specs.declared.Name.{Name}
 use Rattle.block_store.specs.declared.Width.{Width}
 use Rattle.block_store.specs.Registers.{registers_end}
-use Rattle.block_store.proofs.Registers.{end_few}
+use Rattle.block_store.proofs.Lemmas.{end_few}
 use Rattle.block_store.specs.declared.Value.{Value}
 use Rattle.block_store.specs.declared.Value.TheVariants.{Nil, Ref}
 use Rattle.never_heap.specs.Graphs.{Graph, Mutator, same_name, has_name, object_of}
@@ -17,7 +17,7 @@ use Rattle.never_heap.specs.Marks.{Marked, has_place, has_mark}
 use Rattle.never_heap.specs.Reach.{names, refers, stands_in, reachable}
 use Rattle.never_heap.specs.Scans.{Scanned, Finds, HasRegisters}
 use Rattle.never_heap.proofs.NameLists.{one_name, same_itself, any_place, place_of_name, stands_at}
-use Rattle.never_heap.proofs.Once.{same_turned, one_more_weight}
+use Rattle.never_heap.proofs.DistinctNames.{same_turned, one_more_weight}
 use Rattle.never_heap.proofs.ReachableNames.{reached_by, reachable_closed, reachable_least, in_register, field_there}
 use Rattle.never_heap.proofs.Rounds.{both_true, mark_place}
 use Rattle.never_heap.proofs.StepChanges.{has_field}
@@ -182,7 +182,7 @@ scanned_none w g m blocks places none is few = record {
   small = (let low = end_few w (length g.mutators) few in omega arith);
 }
 
--- what stands in the registers of the first threads is marked
+-- what is in the registers of the first threads is marked
 abbrev pub HasFirst : Graph → Marked → List Mutator → ℕ → Type 0
 HasFirst g m ms i = (b : Name)
     → list_any (λ (x : Mutator). stands_in b x.registers) (take i ms) ≡ true → has_name g b ≡ true

@@ -40,7 +40,7 @@ refers-ref a (Ref b) h = ap Ref (one_name b a h)
 pub ref-refers : (a : Name) (v : Value) → v ≡ Ref a → refers a v ≡ true
 ref-refers a v e = subst (λ w. refers a w ≡ true) (sym e) (same_itself a)
 
--- a name stands in a list at a place of it, and nowhere past its end
+-- a name is in a list at a place of it, and nowhere past its end
 pub stands_at : (a : Name) (vs : List Value) (i : ℕ) → get_or vs i Nil ≡ Ref a
     → stands_in a vs ≡ true
 stands_at a vs i e = elim (cases_lt i (length vs)) [
@@ -131,7 +131,7 @@ pub names_below_more : (g : Graph) (t : ℕ)
     → names_below g (t + 1) ≡ names_below g t ++ thread_names t (count_of g t)
 names_below_more g t = ap (λ n. names_below g n) (add-one t)
 
--- the names of the next thread behind those of the threads before it
+-- the names of the next thread after those of the threads before it
 pub names_step : (g : Graph) (t n : ℕ) (m : Mutator) (ms : List Mutator) (old new : List Name)
     → t < length ms → m ≡ get_or ms t m → ms ≡ g.mutators → n ≡ length m.objects
     → old ≡ names_below g t → new ≡ old ++ thread_names t n → new ≡ names_below g (t + 1)

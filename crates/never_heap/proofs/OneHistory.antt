@@ -5,7 +5,7 @@ use Rattle.never_heap.specs.declared.Entry.{Entry}
 use Rattle.never_heap.specs.declared.Item.{Item}
 use Rattle.never_heap.specs.declared.Item.TheVariants as items
 use Rattle.never_heap.specs.Histories.{HistoryItem, Started, Did, part}
-use Rattle.never_heap.specs.Orders.{item_of, IsHistoryOf}
+use Rattle.never_heap.specs.HistoryOfOrder.{item_of, IsHistoryOf}
 
 abbrev first_or : {A : Type 0} → A → List A → A
 first_or d [] = d

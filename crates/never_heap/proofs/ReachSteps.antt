@@ -21,7 +21,7 @@ use Rattle.never_heap.proofs.UnchangedBySteps.{step_past, next_is_new, names_of_
 use Rattle.never_heap.proofs.Outcomes.{Stored, nil, number, register, field}
 use Rattle.never_heap.proofs.StepChanges.{Change, none, store, put, swap, make, change_of, has_field, with_object_threads, threads_put}
 
--- what stands in a list after a write was written, or stood there before
+-- what is in a list after a write was written, or stood there before
 set_cases : (xs : List Value) (i k : ℕ) (v : Value)
     → (get_or (set xs i v) k Nil ≡ v) ⊎ (get_or (set xs i v) k Nil ≡ get_or xs k Nil)
 set_cases xs i k v = elim (cases_eq i k) [

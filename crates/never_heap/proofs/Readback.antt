@@ -96,7 +96,7 @@ abbrev parts_of : Option Stored → Stored
 parts_of None = (0, (0, 0))
 parts_of (Some p) = p
 
--- what stands in a field in which it was just stored
+-- what is in a field in which it was just stored
 field_put_there : (g : Graph) (a : Name) (i : ℕ) (w : Value) → i < length (object_of g a).fields
     → field_at (with_field g a i w) a i ≡ w
 field_put_there g a i w there =
@@ -197,7 +197,7 @@ none_stored g (Did x ∷ h) a i legal none =
     (λ b s e v is. none (Did x ∷ b) s e v (ap (λ k. Did x ∷ k) is))
     ∙ no_store g x a i legal.0 (λ v. none [] h x v refl)
 
--- what stands in a field after a store there, and items of which none stores there
+-- what is in a field after a store there, and items of which none stores there
 since_store : (g : Graph) (store : Entry) (since : List HistoryItem) (a : Name) (i : ℕ) (v : Value)
     → StoresIn g store a i v → LegalFrom g (Did store ∷ since)
     → NoneStores (after g (Did store)) since a i
@@ -224,7 +224,7 @@ field_of_start c a i = elim (cases_Bool (has_name (start_graph c) a)) [
   | inr n ↦ field_of_none (start_graph c) a i n
 ]
 
--- what was last stored stands in the field
+-- what was last stored is in the field
 last_stands : (c : Config) (h : List HistoryItem) (a : Name) (i : ℕ) (v : Value)
     → LegalFrom (start_graph c) h → IsLastStored c h a i v → field_at (replay c h) a i ≡ v
 last_stands c h a i v legal (inl p) =

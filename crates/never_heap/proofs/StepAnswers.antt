@@ -5,7 +5,7 @@ use Rattle.array_trees.specs.Trees.{leaves}
 use Rattle.array_trees.proofs.Counts.{le-tree}
 use Rattle.block_store.specs.declared.Width.{Width}
 use Rattle.block_store.specs.Widths.{payloads}
-use Rattle.block_store.proofs.Registers.{wide}
+use Rattle.block_store.proofs.Lemmas.{wide}
 use Rattle.never_heap.specs.declared.Command.{Command}
 use Rattle.never_heap.specs.declared.Command.TheVariants as commands
 use Rattle.never_heap.specs.declared.Reply.{Reply}
@@ -13,7 +13,7 @@ use Rattle.never_heap.specs.declared.Reply.TheVariants as replies
 use Rattle.never_heap.specs.Graphs.{Graph, ObjectKind, Record, Array, count_of, next_name}
 use Rattle.never_heap.specs.Histories.{is_full, Did, IsAnswered}
 use Rattle.never_heap.specs.LiveBlocks.{blocks_of_kind}
-use Rattle.never_heap.specs.RightWork.{units_told, units_owed}
+use Rattle.never_heap.specs.RightWork.{requested_units, units_owed}
 use Rattle.never_heap.specs.Steps.{step, blocks_of, blocks_in, makes_object, object_made}
 use Rattle.never_heap.specs.declared.Entry.{Entry}
 use Rattle.never_heap.proofs.Outcomes.{Told, plain, held, is_plain, Outcome, unchanged, in_register, in_field, in_both, new_object, outcome_of}
@@ -90,13 +90,13 @@ blocks_make w command some = elim (cases_Bool (makes_object command)) [
 ]
 
 -- nor is it told to make units
-pub makers_untold : (command : Command) → makes_object command ≡ true → units_told command ≡ 0
+pub makers_untold : (command : Command) → makes_object command ≡ true → requested_units command ≡ 0
 makers_untold (commands.Idle u) e = absurd cc
 makers_untold _ e = refl
 
 -- a command that has no blocks owes what it is told to make
 pub owes_told : (w : Width) (rate : ℕ) (command : Command) → blocks_of w command ≡ 0
-    → units_owed w rate command ≡ units_told command
+    → units_owed w rate command ≡ requested_units command
 owes_told w rate command none =
     let price : rate * blocks_of w command ≡ rate * 0 = ap (λ n. rate * n) none in omega arith
 
@@ -109,7 +109,7 @@ none_make w command none = elim (cases_Bool (makes_object command)) [
 
 -- one that has blocks is told of no units, and is answered with the name of its object
 pub blocks_untold : (w : Width) (command : Command) → 0 < blocks_of w command
-    → units_told command ≡ 0
+    → requested_units command ≡ 0
 blocks_untold w command some = makers_untold command (blocks_make w command some)
 
 pub blocks_answer : (w : Width) (g : Graph) (t : ℕ) (command : Command) → 0 < blocks_of w command

@@ -1,4 +1,4 @@
--- A thread's commands stand in the history in the order of its trace.
+-- A thread's commands are in the history in the order of its trace.
 use Rattle.std.proofs.Common.{ℕ, ◌≡◌, cond, List, [], ◌∷◌, ◌++◌, map, ap, sym, ◌∙◌, refl, inl, inr, eq-eqb, ne_eqb, slice_index_or}
 use Rattle.std.proofs.lemmas.Bool.{cases_eq}
 use Rattle.never_heap.specs.declared.Command.{Command}

@@ -2,7 +2,7 @@
 use Rattle.std.specs.Prelude.{◌≤◌}
 use Rattle.block_store.specs.declared.Config.{Config}
 use Rattle.never_heap.specs.declared.Command.{Command}
-use Rattle.never_heap.specs.RightWork.{units_told}
+use Rattle.never_heap.specs.RightWork.{requested_units}
 use Rattle.never_heap.specs.Signatures.{Each, IsInRange, IsOfVersion, operands, signature}
 use Rattle.never_heap.specs.Steps.{blocks_of}
 
@@ -15,5 +15,5 @@ IsCommandInRange k = Each IsInRange (operands k)
 pub record IsCommandInBounds (c : Config) (k : Command) : Type 0 where
   pub range : IsCommandInRange k
   pub blocks : blocks_of c.width k ≤ c.object
-  pub units : units_told k ≤ 131070
+  pub units : requested_units k ≤ 131070
   pub version : IsOfVersion (signature k).version c.width

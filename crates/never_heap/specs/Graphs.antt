@@ -21,7 +21,7 @@ pub record Mutator : Type 0 where
   pub registers : List Value
   pub objects : List Object
 
--- The array that all threads share, and the threads. Names are dense, so an object stands where its
+-- The array that all threads share, and the threads. Names are dense, so an object is where its
 -- name says.
 pub record Graph : Type 0 where
   pub shared : Object

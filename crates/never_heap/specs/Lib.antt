@@ -8,10 +8,10 @@ pub mod Steps
 pub mod Bounds
 pub mod Histories
 pub mod Readback
-pub mod Orders
+pub mod HistoryOfOrder
 pub mod Taken
 pub mod Cycles
-pub mod Given
+pub mod GivenBlocks
 pub mod Licensed
 pub mod RightWork
 pub mod Runs

@@ -11,7 +11,7 @@ abbrev pub refers : Name → Value → Bool
 refers a (Ref b) = same_name b a
 refers a _ = false
 
--- whether a name stands in a list of values
+-- whether a name is in a list of values
 abbrev pub stands_in : Name → List Value → Bool
 stands_in a vs = list_any (refers a) vs
 
@@ -29,7 +29,7 @@ names_below g (suc t) = names_below g t ++ thread_names t (count_of g t)
 abbrev pub names : Graph → List Name
 names g = names_below g (length g.mutators)
 
--- whether a name stands in a field of one of these objects that is in a set
+-- whether a name is in a field of one of these objects that is in a set
 abbrev pub leads_to : Graph → (Name → Bool) → List Name → Name → Bool
 leads_to g set list a = list_any (λ (b : Name). set b && stands_in a (object_of g b).fields) list
 

@@ -7,13 +7,13 @@ use Rattle.never_heap.specs.Signatures.{operands, units_in}
 use Rattle.never_heap.specs.Steps.{blocks_of}
 
 -- the units that a command is told to make; 0 for one that is told of none
-abbrev pub units_told : Command → ℕ
-units_told k = units_in (operands k)
+abbrev pub requested_units : Command → ℕ
+requested_units k = units_in (operands k)
 
 -- The units of work that a command owes at this rate, on blocks of this width: those of its blocks,
 -- and those that it is told to make. A command has blocks or is told of units, and not both.
 abbrev pub units_owed : Width → ℕ → Command → ℕ
-units_owed w rate command = rate * blocks_of w command + units_told command
+units_owed w rate command = rate * blocks_of w command + requested_units command
 
 abbrev pub IsRightWork : Width → ℕ → HistoryItem → Type 0
 IsRightWork w rate Started = Unit {0}

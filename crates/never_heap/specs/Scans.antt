@@ -28,7 +28,7 @@ pub record Scanned
       + marked_weight (λ a. object_blocks w (object_of g a)) g m
   pub small : blocks ≤ 80 + 21845 * length found
 
--- what is found in a list of values: the objects to which they refer, behind what was found before
+-- what is found in a list of values: the objects to which they refer, after what was found before
 pub record Finds
     (g : Graph) (old new : Marked) (before after : List Name) (vs : List Value)
     : Type 0 where
@@ -36,7 +36,7 @@ pub record Finds
   pub all : (b : Name) → stands_in b vs ≡ true → has_name g b ≡ true → has_mark new b ≡ true
   pub behind : (more : List Name) × (after ≡ before ++ more)
 
--- what stands in registers is marked
+-- what is in registers is marked
 abbrev pub HasRegisters : Graph → Marked → Type 0
 HasRegisters g m = (b : Name) → in_round g 0 b ≡ true → has_name g b ≡ true → has_mark m b ≡ true
 

@@ -78,7 +78,7 @@ value_of (Number n) = n
 value_of (Length kind n) = n
 value_of (Units u) = u
 
--- what stands behind the word of a command
+-- what comes after the word of a command
 abbrev pub numbers : Command → List ℕ
 numbers k = map value_of (operands k)
 

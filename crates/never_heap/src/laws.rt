@@ -25,7 +25,7 @@ pub fn reachable_is_least()
         → IsClosed g s → reachable g a ≡ true → s a ≡ true }
 {}
 
-/// Where names in a list are closed under references, and have all that stands in registers, no
+/// Where names in a list are closed under references, and have all that is in registers, no
 /// more blocks are live than theirs and those of the registers.
 pub fn live_blocks_are_few()
     ensures { (w : Width) (g : Graph) (some : List Name) → IsClosed g (is_among some)

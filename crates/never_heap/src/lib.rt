@@ -3,7 +3,7 @@
 
 ghost use Rattle.std.specs.Prelude.{◌≡◌, ◌<◌, ◌≤◌, ◌↔◌, IsTrue, ℕ, List, [], ◌∷◌, ◌++◌, length, slice_index_or};
 ghost use Rattle.never_heap.specs.Bounds.{IsCommandInBounds, IsCommandInRange};
-ghost use Rattle.never_heap.specs.RightWork.{units_told};
+ghost use Rattle.never_heap.specs.RightWork.{requested_units};
 ghost use Rattle.never_heap.specs.Signatures.{IsOfVersion, signature};
 ghost use Rattle.never_heap.specs.Steps.{length_made, blocks_of};
 ghost use Rattle.block_store.specs.declared.Config.{Config};
@@ -90,7 +90,7 @@ impl Command {
     {
         self.is_in_range()
             && self.blocks(c.width) <= c.object
-            && self.told() <= MOST_UNITS
+            && self.requested_units() <= MOST_UNITS
             && self.is_of_width(c.width)
     }
 
@@ -139,8 +139,8 @@ impl Command {
     }
 
     /// How many units the command is told to make; 0 for one that is no `Idle`.
-    pub fn told(&self) -> u64
-        ensures { result ≡ units_told self.now }
+    pub fn requested_units(&self) -> u64
+        ensures { result ≡ requested_units self.now }
     {
         match *self {
             Command::Idle { units } => units,

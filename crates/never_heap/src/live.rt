@@ -91,7 +91,7 @@ impl Graph {
         Ok(scan.total)
     }
 
-    // The scan begins, and finds what stands in registers.
+    // The scan begins, and finds what is in registers.
     fn scan_registers(&self, scan: &mut Scan) -> Result<(), OutOfMemory>
         requires { length (names self.now.graph) ≤ 2097153 }
         ensures scanned { OnOk result (IsScanOf self.now scan.new) }

@@ -170,7 +170,7 @@ impl Marks {
         thread < self.rows.len() && self.rows[thread].mark(name.serial as usize - 1)
     }
 
-    // Marks each name that stands in a list of values, and answers whether one was not marked
+    // Marks each name that is in a list of values, and answers whether one was not marked
     // before.
     pub(crate) fn spread(&mut self, values: &[Value]) -> bool
         ensures marks { (b : Name) → has_mark self.new b

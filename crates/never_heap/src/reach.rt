@@ -12,7 +12,7 @@ use crate::Graph;
 use crate::marks::Marks;
 use block_store::{Name, OutOfMemory};
 
-// The names of the first objects of a thread, behind what the list has.
+// The names of the first objects of a thread, after what the list has.
 fn push_names(list: &mut Vec<Name>, thread: u32, count: u64) -> Result<(), OutOfMemory>
     requires { count ≤ 131072 }
     ensures names { OnOk result (list.new.items ≡ list.old.items ++ thread_names thread count) }
@@ -68,7 +68,7 @@ impl Graph {
         Ok(())
     }
 
-    // Marks what stands in registers.
+    // Marks what is in registers.
     fn mark_registers(&self, marks: &mut Marks)
         ensures marks { (b : Name) → has_mark marks.new b
             ≡ (has_mark marks.old b || (in_round self.now.graph 0 b && has_place marks.old b)) }
@@ -99,7 +99,7 @@ impl Graph {
         is_new
     }
 
-    // Marks all objects that can be reached: what stands in registers, and then round by round.
+    // Marks all objects that can be reached: what is in registers, and then round by round.
     fn mark_reachable(&self, list: &[Name]) -> Result<Marks, OutOfMemory>
         requires { list.now ≡ names self.now.graph }
         ensures { IfOk result (λ m. (b : Name)

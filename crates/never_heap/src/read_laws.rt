@@ -47,8 +47,8 @@ pub fn gets_read_what_was_last_stored()
         → get.reply ≡ Val v }
 {}
 
-/// A thread's commands stand in a history in the order of its trace: each has its entry, behind
-/// those of the commands before it and before those of the commands behind it.
+/// A thread's commands are in a history in the order of its trace: each has its entry, after
+/// those of the commands before it and before those of the commands after it.
 pub fn commands_stand_in_trace_order()
     ensures { (traces : List (List Command)) (h : List HistoryItem) (t : ℕ)
         (xs : List Command) (x : Command) (ys : List Command)

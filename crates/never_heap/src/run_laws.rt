@@ -8,11 +8,11 @@ ghost use Rattle.never_heap.specs.declared.Entry.{Entry};
 ghost use Rattle.never_heap.specs.declared.Item.{Item};
 ghost use Rattle.never_heap.specs.Coming.{left_of, MayCome, AllMayCome, IsNoFull};
 ghost use Rattle.never_heap.specs.Cycles.{graph_at};
-ghost use Rattle.never_heap.specs.Given.{given};
+ghost use Rattle.never_heap.specs.GivenBlocks.{given};
 ghost use Rattle.never_heap.specs.Histories.{HistoryItem, Started, Did, replay, starts_in, Legal};
 ghost use Rattle.never_heap.specs.Licensed.{IsLicensedItem, Licensed, StartsSmall, NoFulls};
 ghost use Rattle.never_heap.specs.LiveBlocks.{live_blocks};
-ghost use Rattle.never_heap.specs.Orders.{IsHistoryOf};
+ghost use Rattle.never_heap.specs.HistoryOfOrder.{IsHistoryOf};
 ghost use Rattle.never_heap.specs.RightWork.{IsRightWork, RightWork};
 ghost use Rattle.never_heap.specs.Runs.{IsRun};
 ghost use Rattle.never_heap.specs.Taken.{taken_by};
@@ -60,7 +60,7 @@ pub fn orders_make_one_history()
         → IsHistoryOf order logs h → IsHistoryOf order logs k → h ≡ k }
 {}
 
-/// A run is items of which each may come behind those before it, to the end of all traces; and any
+/// A run is items of which each may come after those before it, to the end of all traces; and any
 /// such items, where there are some, are a run.
 pub fn runs_are_items_that_may_come()
     ensures item { (c : Config) (rate : ℕ) (traces : List (List Command))

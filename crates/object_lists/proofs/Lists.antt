@@ -11,7 +11,7 @@ use Rattle.object_lists.specs.Records.{list_blocks, list_part, list_slot, record
 use Rattle.object_lists.proofs.PartLemmas.{field_below-in, link_below-in, field_below-field, link_below-link, field_below-link, link_below-field}
 
 module _ (k f : ℕ) (some : 0 < k) where
-  -- what stands at the places behind the link
+  -- what is at the places after the link
   part_field : (o j i : ℕ) → list_part k f o (suc j) ≡ Field i
       → (j < k) × (o * k + j < f) × (o * k + j ≡ i)
   part_field o j i e = elim (cases_lt j k) [

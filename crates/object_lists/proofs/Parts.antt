@@ -1,4 +1,4 @@
--- What stands in a part of a block.
+-- What is in a part of a block.
 use Rattle.std.proofs.Common.{◌≡◌, ℕ, Some, None, ap}
 use Rattle.object_lists.specs.Parts.{Part, Link, Field, Blank, link_in}
 

@@ -3,14 +3,14 @@ use Rattle.std.specs.Prelude.{ℕ, ◌+◌, ◌<◌, ◌≡◌}
 use Rattle.object_lists.specs.Parts.{Part, Link, Field}
 
 -- The layout of an object of `len` fields in `blocks` blocks of w payload words. `part o j` is what
--- stands at payload j of the block of ordinal o, and `slot i` is where field i stands: an ordinal
+-- is at payload j of the block of ordinal o, and `slot i` is where field i is: an ordinal
 -- and a payload.
 pub record IsLayout (w len blocks : ℕ) (part : ℕ → ℕ → Part) (slot : ℕ → ℕ × ℕ) : Type 0 where
   -- there is a first block
   pub first : 0 < blocks
-  -- a field stands where its slot is
+  -- a field is where its slot is
   pub fields : (i : ℕ) → i < len → part (slot i).0 (slot i).1 ≡ Field i
-  -- and nowhere else; no other fields stand anywhere
+  -- and nowhere else; no other fields are anywhere
   pub slots : (o j i : ℕ) → part o j ≡ Field i
       → (i < len) × (o < blocks) × (j < w) × (o ≡ (slot i).0) × (j ≡ (slot i).1)
   -- distinct fields have distinct slots

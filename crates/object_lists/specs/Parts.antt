@@ -1,4 +1,4 @@
--- What stands in the payload words of an object's blocks.
+-- What is in the payload words of an object's blocks.
 use Rattle.std.specs.Prelude.{ℕ, Option, None, Some, nat_lt, if◌then◌else◌}
 
 -- a reference to another block of the object, a field or element, or nothing

@@ -1,4 +1,4 @@
--- How a record lies in blocks, where each has room for k fields behind its link: one less than it
+-- How a record lies in blocks, where each has room for k fields after its link: one less than it
 -- has payload words.
 use Rattle.std.specs.Prelude.{ℕ, zero, suc, ◌+◌, ◌-◌, ◌*◌, ◌/◌, ◌%◌, max, nat_lt, if◌then◌else◌}
 use Rattle.block_store.specs.declared.Width.{Width}
@@ -15,7 +15,7 @@ abbrev pub list_part : ℕ → ℕ → ℕ → ℕ → Part
 list_part k f o zero = link_below (o + 1) (list_blocks k f)
 list_part k f o (suc j) = if nat_lt j k then field_below (o * k + j) f else Blank
 
--- where field i stands: its block, and its payload
+-- where field i is: its block, and its payload
 abbrev pub list_slot : ℕ → ℕ → ℕ × ℕ
 list_slot k i = (i / k, 1 + i % k)
 

@@ -22,7 +22,7 @@ pub fn blocks_of_record(width: Width, f: u32) -> u32
     }
 }
 
-/// Where field `i` of a record stands: the number of links to follow from the first block, which is
+/// Where field `i` of a record is: the number of links to follow from the first block, which is
 /// the ordinal of the field's block, and the payload there.
 #[inline(always)]
 pub fn walk_of(width: Width, i: u32) -> (u32, u32)

@@ -2,7 +2,7 @@
 #![tactic(auto)]
 
 ghost use Rattle.std.specs.Prelude.{IfOk, OnOk};
-ghost use Rattle.plant.specs.Kept.{HasKept, HasRead};
+ghost use Rattle.plant.specs.StoredReadings.{HasStored, HasRead};
 
 use block_store::{Config, Value, Width};
 use control_heap::{ControlHeap, Fault, OpenFault};
@@ -70,7 +70,7 @@ fn run(rt: &(impl Input + Print + AllocGlobal)) -> Result<(), Failure> {
 }
 
 fn keep(heap: &mut ControlHeap, place: usize, reading: u32) -> Result<(), Fault>
-    ensures { OnOk result (HasKept heap.old place reading heap.new) }
+    ensures { OnOk result (HasStored heap.old place reading heap.new) }
 {
     heap.record(RECORD, 1)?;
     heap.set(NUMBER, u64::from(reading))?;

@@ -9,9 +9,9 @@ use Rattle.array_tables.specs.declared.tag_table.operation.Operation.{Operation}
 use Rattle.array_tables.specs.declared.tag_table.operation.Operation.TheVariants.{Write, Clear, Read}
 use Rattle.plantrun_core.specs.declared.calls.Done.{Done}
 use Rattle.plantrun_core.specs.Logs.{call_by}
-use Rattle.plantrun_core.specs.Orders.{HasOrder}
+use Rattle.plantrun_core.specs.MergedLogs.{HasOrder}
 use Rattle.plantrun_core.specs.Refusals.{AreFitting, AreInRange, IsFitting, all_in_range, in_range}
-use Rattle.plantrun_core.proofs.Mixing.{calls_mine, calls_other}
+use Rattle.plantrun_core.proofs.MergedOrders.{calls_mine, calls_other}
 use Rattle.plantrun_core.proofs.Ranges.{range_from}
 
 abbrev Calls : Type 0

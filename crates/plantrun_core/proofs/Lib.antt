@@ -1,8 +1,8 @@
-pub mod Crews
-pub mod Mixing
+pub mod WorkersApart
+pub mod MergedOrders
 pub mod Lines
-pub mod Worked
-pub mod Homes
+pub mod LogOfTicks
+pub mod OwnPlaces
 pub mod Ranges
 pub mod Fits
-pub mod Gone
+pub mod EndOfPlant

@@ -7,7 +7,7 @@ use Rattle.plantrun_core.specs.declared.plans.Plan.{Plan}
 use Rattle.plantrun_core.specs.declared.stops.Stop.{Stop}
 use Rattle.plantrun_core.specs.declared.stops.Stop.TheVariants.{BadLine, TooMany, ReadFault, Refused, NoMemory}
 use Rattle.plantrun_core.specs.declared.top.Ended.{Ended}
-use Rattle.plantrun_core.specs.Crews.{HaveWorked, IsStop}
+use Rattle.plantrun_core.specs.PlantWorkers.{HaveWorked, IsStop}
 use Rattle.plantrun_core.specs.Readings.{CountsRead, plan_at}
 
 -- the exit status of each stop

@@ -5,7 +5,7 @@ pub mod Roles
 pub mod Readings
 pub mod Refusals
 pub mod Works
-pub mod Crews
-pub mod Orders
-pub mod Texts
+pub mod PlantWorkers
+pub mod MergedLogs
+pub mod PlantTexts
 pub mod Exits

@@ -54,7 +54,7 @@ put_in_ring number None tag = []
 put_in_ring number (Some (v, w)) tag = did (Write (14 + number % 32) v w) tag ∷ []
 
 -- the sensor was read, and the reading with this number went into the ring
-pub record HasKept (number : ℕ) (old new : List Done) : Type 0 where
+pub record HasStored (number : ℕ) (old new : List Done) : Type 0 where
   pub measured : Tag
   pub replaced : Tag
   pub log : new ≡ old ++ did (Read 0) measured ∷ put_in_ring number measured replaced
@@ -84,7 +84,7 @@ HasWatched false old new = new ≡ old
 
 -- a reading with this number was kept, if this is a tick for it
 abbrev pub HasRecorded : Bool → ℕ → List Done → List Done → Type 0
-HasRecorded true number old new = HasKept number old new
+HasRecorded true number old new = HasStored number old new
 HasRecorded false number old new = new ≡ old
 
 -- What a role adds to its log at a tick, and what it is for the next. Alarms are scanned and readings

@@ -5,8 +5,8 @@ ghost use Rattle.std.specs.Prelude.{ℕ, List, Option, ◌≡◌, ◌+◌, ◌�
 ghost use Rattle.std.specs.Vec.{vec_capacity};
 ghost use Rattle.live_tables.specs.tags.Live.{HaveOneTable, opened_config};
 ghost use Rattle.live_tables.specs.rows.Workers.{AreFresh, AreInOrder, IsFresh, IsOf, IsSameWorker};
-ghost use Rattle.plantrun_core.specs.Crews as ends;
-ghost use Rattle.plantrun_core.specs.Crews.{AreAtWork, AreOfTable, AreTheirs, HasLogs, HaveEnded, HaveGone, IsCrew, IsGone, IsNew, IsPlantOf, IsWorker};
+ghost use Rattle.plantrun_core.specs.PlantWorkers as ends;
+ghost use Rattle.plantrun_core.specs.PlantWorkers.{AreAtWork, AreOfTable, AreTheirs, HasLogs, HaveEnded, HaveGone, IsCrew, IsGone, IsNew, IsPlantOf, IsWorker};
 ghost use Rattle.plantrun_core.specs.Readings.{room};
 ghost use Rattle.plantrun_core.specs.Roles.{IsFine};
 ghost use Rattle.plantrun_core.specs.Works.{CountsInput, HasGone, HasInput, IsAtWork, first_of, most_in};

@@ -5,7 +5,7 @@ ghost use Rattle.array_tables.specs.tag_table.Tables as tables;
 ghost use Rattle.array_tables.specs.tag_table.Tables.{table_after, answer, empty_table};
 ghost use Rattle.plantrun_core.specs.declared.calls.Done.{Done};
 ghost use Rattle.plantrun_core.specs.Logs.{IsOrder};
-ghost use Rattle.plantrun_core.specs.Orders.{AreAtHome, HasOrder, IsMerged, IsStuck, by_thread, logs_of};
+ghost use Rattle.plantrun_core.specs.MergedLogs.{AreAtHome, HasOrder, IsMerged, IsStuck, by_thread, logs_of};
 
 use crate::calls::{Done, Logs, Step};
 use crate::places::PLACES;

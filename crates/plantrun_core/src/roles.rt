@@ -4,7 +4,7 @@
 ghost use Rattle.std.specs.Prelude.{◌≡◌, ◌≤◌, ◌<◌, ◌+◌, length, IfOk, OnErr};
 ghost use Rattle.std.specs.Vec.{vec_capacity};
 ghost use Rattle.live_tables.specs.rows.Workers.{IsOf, IsSameWorker};
-ghost use Rattle.plantrun_core.specs.Roles.{HasControlled, HasKept, HasScanned, HasScannedTo, HasRecorded, HasTicked, HasWatched, IsFine};
+ghost use Rattle.plantrun_core.specs.Roles.{HasControlled, HasStored, HasScanned, HasScannedTo, HasRecorded, HasTicked, HasWatched, IsFine};
 ghost use Rattle.plantrun_core.specs.Refusals.{IsRefusedAfter};
 ghost use Rattle.plantrun_core.specs.Works.{at_scan, most_at};
 
@@ -123,7 +123,7 @@ fn keep<R: Wait + Clock>(
     ensures capacity { vec_capacity hand.new.calls ≡ vec_capacity hand.old.calls }
     ensures refused { OnErr result (IsRefusedAfter hand.new.who hand.new.calls.items) }
     ensures did { IfOk result (λ _.
-        HasKept number hand.old.calls.items hand.new.calls.items) }
+        HasStored number hand.old.calls.items hand.new.calls.items) }
 {
     let Some((value, quality)) = hand.does(rt, table, Operation::Read { place: 0 })? else {
         return Ok(());

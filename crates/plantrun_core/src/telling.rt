@@ -3,7 +3,7 @@
 ghost use Rattle.std.specs.Prelude.{◌≡◌, ◌+◌, ◌≤◌, ◌++◌, ℕ, List, length, OnOk, OnErr};
 ghost use Rattle.std.specs.List.{flat_map};
 ghost use Rattle.trace_text.specs.Streams.{Appends, AppendsPrefix};
-ghost use Rattle.plantrun_core.specs.Texts.{step_line, tag_text, operation_text, thread_text, figures_line, cycles_line};
+ghost use Rattle.plantrun_core.specs.PlantTexts.{step_line, tag_text, operation_text, thread_text, figures_line, cycles_line};
 
 use crate::calls::Step;
 use array_tables::tag_table::Operation;

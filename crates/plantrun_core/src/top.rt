@@ -4,12 +4,12 @@ ghost use Rattle.std.specs.Prelude.{ℕ, ◌≡◌, ◌≢◌, ◌≤◌, None, 
 ghost use Rattle.array_tables.specs.tag_table.Tables.{empty_table};
 ghost use Rattle.trace_text.specs.Streams.{Appends, AppendsPrefix};
 ghost use Rattle.plantrun_core.specs.declared.stops.Stop.TheVariants.{NoMemory};
-ghost use Rattle.plantrun_core.specs.Crews.{HasPlant, HaveWorked, IsStop};
+ghost use Rattle.plantrun_core.specs.PlantWorkers.{HasPlant, HaveWorked, IsStop};
 ghost use Rattle.plantrun_core.specs.Exits.{IsExit};
 ghost use Rattle.plantrun_core.specs.Logs.{IsOrder};
-ghost use Rattle.plantrun_core.specs.Orders.{AreAtHome, HasOrder, logs_of};
+ghost use Rattle.plantrun_core.specs.MergedLogs.{AreAtHome, HasOrder, logs_of};
 ghost use Rattle.plantrun_core.specs.Readings.{CountsRead};
-ghost use Rattle.plantrun_core.specs.Texts.{parts_text, plant_text, IsTold};
+ghost use Rattle.plantrun_core.specs.PlantTexts.{parts_text, plant_text, IsTold};
 
 use crate::calls::{Logs, Step};
 use crate::clock::{Ticks, nanoseconds};

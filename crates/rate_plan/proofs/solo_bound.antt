@@ -1,3 +1,4 @@
 pub mod Fresh
 pub mod Near
 pub mod Prices
+pub mod NearSmall

@@ -28,7 +28,7 @@ pub record Leads (c : Config) (traces : List (List Command)) (lines : List (List
       → AreTaken c traces [] lines h
   pub left : (n : ℕ) → FirstLeft c traces past rest n → FirstLeft c traces [] lines (read + n)
 
--- so many lines were taken, these are their commands, and this is where the follower stands
+-- so many lines were taken, these are their commands, and this is where the follower is
 abbrev pub HasTaken : Config → List (List Command) → List (List ℕ) → List (List ℕ) → ℕ
     → Follower → List Move → Type 0
 HasTaken c traces lines rest read f ms =

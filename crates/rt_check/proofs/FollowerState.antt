@@ -1,4 +1,4 @@
--- What stands after an item that was followed.
+-- What comes after an item that was followed.
 use Rattle.std.proofs.Common.{◌≡◌, ◌≢◌, ℕ, suc, ◌+◌, ◌^◌, ◌<◌, ◌≤◌, inl, inr, Bool, true, false, cond, List, [], ◌∷◌, ◌++◌, length, set, take, drop, drop-cons, get_or, sym, refl, ap, ◌∙◌, subst, append-nil, length-append, length-set, eq-eqb, ne_eqb, arith}
 use Rattle.std.specs.Str.{bytes_eq}
 use Rattle.std.proofs.Math.Seq.{take-append_seam}
@@ -13,10 +13,7 @@ use Rattle.never_heap.specs.Graphs.{Graph, start_graph, count_of}
 use Rattle.never_heap.specs.Histories.{HistoryItem, Started, Did, is_full, after, part, starts_in}
 use Rattle.never_heap.specs.LiveBlocks.{live_blocks}
 use Rattle.never_heap.specs.Steps.{step}
-use Rattle.never_heap.proofs.CycleGrowth.{graph_at_more, graph_at_next}
-use Rattle.never_heap.proofs.HistoryGrowth.{replay_more, part_append, starts_append, work_append}
-use Rattle.never_heap.proofs.StartGraph.{threads_of_start, count_of_start}
-use Rattle.never_heap.proofs.StepChanges.{change_of, count_of_other, step_count, step_threads}
+use Rattle.never_heap.proofs.Lemmas.{change_of, count_of_other, count_of_start, graph_at_more, graph_at_next, part_append, replay_more, starts_append, step_count, step_threads, threads_of_start, work_append}
 use Rattle.rt_check.specs.declared.follower.Follower.{Follower}
 use Rattle.rt_check.specs.Standing.{Stands}
 

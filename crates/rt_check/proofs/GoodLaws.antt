@@ -15,14 +15,12 @@ use Rattle.never_heap.specs.Cycles.{graph_at}
 use Rattle.never_heap.specs.Graphs.{WideGraph}
 use Rattle.never_heap.specs.Histories.{HistoryItem, Started, Did, after, replay, starts_in}
 use Rattle.never_heap.specs.LiveBlocks.{live_blocks}
-use Rattle.never_heap.specs.RightWork.{units_told, units_owed}
+use Rattle.never_heap.specs.RightWork.{requested_units, units_owed}
 use Rattle.never_heap.specs.Steps.{step, blocks_of}
-use Rattle.never_heap.proofs.StepAnswers.{step_not_full, blocks_make}
-use Rattle.never_heap.proofs.NoFullRuns.{needs_no_licence}
-use Rattle.never_heap.proofs.ItemsOfRuns.{thread_low}
+use Rattle.never_heap.proofs.Lemmas.{blocks_make, needs_no_licence, step_not_full, thread_low}
 use Rattle.trace_text.specs.Jobs.{Job, IsJobInBounds}
-use Rattle.trace_text.specs.Orders.{item_text, end_text}
-use Rattle.trace_text.specs.Texts.{entry_text}
+use Rattle.trace_text.specs.OrderTexts.{item_text, end_text}
+use Rattle.trace_text.specs.RunTexts.{entry_text}
 use Rattle.rt_check.specs.declared.follower.Follower.{Follower}
 use Rattle.rt_check.specs.Good.{IsGood, IsLast, IsBad}
 use Rattle.rt_check.specs.Standing.{Stands, HasNext, Begins, Counted, IsFullHere, entry_here, graph_here, rest_of}
@@ -298,7 +296,7 @@ module _ (job : Job) (rate : ℕ) (past : List HistoryItem) (f : Follower) (line
 
 -- the work of an entry, over a configuration that is the job's
 pub work_is : (k c : Config) (rate n blocks told : ℕ) (command : Command) → k ≡ c → n ≡ blocks
-    → blocks ≡ blocks_of k.width command → told ≡ units_told command
+    → blocks ≡ blocks_of k.width command → told ≡ requested_units command
     → rate * n + told ≡ units_owed c.width rate command
 work_is k c rate n blocks told command same is counted tells =
     ap (λ (x : ℕ). rate * x + told)

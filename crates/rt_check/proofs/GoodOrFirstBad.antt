@@ -9,10 +9,8 @@ use Rattle.never_heap.specs.Cycles.{graph_at}
 use Rattle.never_heap.specs.Histories.{HistoryItem, Started, Did, replay, starts_in}
 use Rattle.never_heap.specs.LiveBlocks.{live_blocks}
 use Rattle.never_heap.specs.Steps.{step, blocks_of}
-use Rattle.never_heap.proofs.StepAnswers.{step_not_full, blocks_make}
-use Rattle.never_heap.proofs.NoFullRuns.{needs_no_licence}
-use Rattle.never_heap.proofs.ItemsOfRuns.{no_thread, thread_low}
-use Rattle.trace_text.specs.Orders.{item_text, end_text}
+use Rattle.never_heap.proofs.Lemmas.{blocks_make, needs_no_licence, no_thread, step_not_full, thread_low}
+use Rattle.trace_text.specs.OrderTexts.{item_text, end_text}
 use Rattle.rt_check.specs.Good.{IsGood, IsLast, AreGood, FirstBad}
 use Rattle.rt_check.specs.Standing.{Begins}
 use Rattle.rt_check.proofs.ItemOfLine.{stepped, filled, Allows, full_cycle, entry_tells, candidate}

@@ -5,12 +5,11 @@ use Rattle.never_heap.specs.declared.Command.{Command}
 use Rattle.never_heap.specs.Coming.{left_of, AllMayCome}
 use Rattle.never_heap.specs.Histories.{HistoryItem, Started, Did, starts_in}
 use Rattle.never_heap.specs.Runs.{IsRun}
-use Rattle.never_heap.proofs.ItemsOfRuns.{all_come, begun, none_left, made}
-use Rattle.never_heap.proofs.HistoryGrowth.{starts_append}
-use Rattle.trace_text.specs.Orders.{item_text, end_text, lines_from, order_lines}
+use Rattle.never_heap.proofs.Lemmas.{all_come, begun, made, none_left, starts_append}
+use Rattle.trace_text.specs.OrderTexts.{item_text, end_text, lines_from, order_lines}
 use Rattle.rt_check.specs.Good.{AreGood}
 
--- the lines of an item and those behind it
+-- the lines of an item and those after it
 one_line : (s : ℕ) (i : HistoryItem) (h : List HistoryItem)
     → lines_from s (i ∷ h) ≡ item_text s i ∷ lines_from (s + starts_in (i ∷ [])) h
 one_line s Started h = refl

@@ -4,7 +4,7 @@ use Rattle.trace_text.specs.Lines.{lines_of}
 use Rattle.trace_text.specs.Reading.{parted}
 use Rattle.rt_check.specs.Inputs.{job_length}
 
--- the bytes that are left stand behind lines of which none is `end`
+-- the bytes that are left come after lines of which none is `end`
 pub record Passed (input rest : List ℕ) : Type 0 where
   pub bytes : ℕ
   pub left : rest ≡ drop bytes input

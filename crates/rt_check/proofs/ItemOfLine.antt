@@ -19,12 +19,11 @@ use Rattle.never_heap.specs.Licensed.{IsLicensedReply}
 use Rattle.never_heap.specs.LiveBlocks.{live_blocks}
 use Rattle.never_heap.specs.RightWork.{units_owed}
 use Rattle.never_heap.specs.Steps.{step, blocks_of}
-use Rattle.never_heap.proofs.StepAnswers.{makers_have_blocks, blocks_answer}
-use Rattle.never_heap.proofs.ItemsOfRuns.{thread_low}
+use Rattle.never_heap.proofs.Lemmas.{blocks_answer, makers_have_blocks, thread_low}
 use Rattle.trace_text.specs.Lines.{tokens_of, onto_first}
 use Rattle.trace_text.specs.Reading.{number_at, digits_on}
-use Rattle.trace_text.specs.Texts.{reply_text}
-use Rattle.trace_text.specs.Orders.{item_text, end_text}
+use Rattle.trace_text.specs.RunTexts.{reply_text}
+use Rattle.trace_text.specs.OrderTexts.{item_text, end_text}
 use Rattle.trace_text.proofs.NumberLaws.{number_complete}
 use Rattle.rt_check.specs.Good.{IsGood, IsLast, AreGood, FirstBad}
 use Rattle.rt_check.specs.Standing.{Begins}

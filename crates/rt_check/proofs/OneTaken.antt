@@ -13,9 +13,9 @@ use Rattle.never_heap.specs.Graphs.{Graph, next_name}
 use Rattle.never_heap.specs.Histories.{HistoryItem, Started, Did, part, replay}
 use Rattle.never_heap.specs.RightWork.{units_owed}
 use Rattle.never_heap.specs.Steps.{step, blocks_of}
-use Rattle.never_heap.proofs.StepAnswers.{blocks_answer, owes_told}
+use Rattle.never_heap.proofs.Lemmas.{blocks_answer, owes_told}
 use Rattle.trace_text.specs.Jobs.{Job, IsJobInBounds}
-use Rattle.trace_text.specs.Texts.{entry_text, name_text, reply_text, totals_text}
+use Rattle.trace_text.specs.RunTexts.{entry_text, name_text, reply_text, totals_text}
 use Rattle.rt_check.specs.Taken.{IsTaken, IsEnd, AreTaken, FirstLeft}
 use Rattle.rt_check.proofs.GoodLaws.{command_in_bounds, work_small}
 use Rattle.rt_check.proofs.TakenLaws.{totals_begin, no_one_full}

@@ -13,13 +13,12 @@ use Rattle.never_heap.specs.Histories.{HistoryItem, Started, Did, is_full, repla
 use Rattle.never_heap.specs.Jobs.{IsTraceInBounds}
 use Rattle.never_heap.specs.RightWork.{units_owed}
 use Rattle.never_heap.specs.Steps.{step, blocks_of}
-use Rattle.never_heap.proofs.StepAnswers.{step_not_full, blocks_answer, blocks_untold, owes_told}
-use Rattle.never_heap.proofs.ItemsOfRuns.{thread_low}
+use Rattle.never_heap.proofs.Lemmas.{blocks_answer, blocks_untold, owes_told, step_not_full, thread_low}
 use Rattle.trace_text.specs.Jobs.{Job, IsJobInBounds}
 use Rattle.trace_text.specs.Lines.{tokens_of}
-use Rattle.trace_text.specs.Orders.{item_text}
+use Rattle.trace_text.specs.OrderTexts.{item_text}
 use Rattle.trace_text.specs.Reading.{number_at, digits_on}
-use Rattle.trace_text.specs.Texts.{entry_text, totals_text, reply_text}
+use Rattle.trace_text.specs.RunTexts.{entry_text, totals_text, reply_text}
 use Rattle.trace_text.proofs.NumberLaws.{number_sound}
 use Rattle.rt_check.specs.declared.follower.Follower.{Follower}
 use Rattle.rt_check.specs.declared.moves.Move.{Move}
@@ -65,7 +64,7 @@ no_units line none tells =
 same_some : (m n : ℕ) → Some m ≡ Some n → m ≡ n
 same_some m n e = cc
 
--- the totals that a line tells are the numbers that stand in it
+-- the totals that a line tells are the numbers that are in it
 pub tells_these : (line : List ℕ) (cycles units : ℕ)
     → number_behind 2 (tokens_of line) ≡ Some cycles
     → number_behind 4 (tokens_of line) ≡ Some units
@@ -152,7 +151,7 @@ module _ (job : Job) (past : List HistoryItem) (f : Follower) (line : List ℕ) 
       let made = s.made t in
       omega arith
 
-  -- the units of an allocation stand in its line
+  -- the units of an allocation are in its line
   units_stand : (rate : ℕ) → rate ≤ 131070 → 0 < blocks_of job.config.width command
       → number_behind 4 (tokens_of (entry_text (stepped job.config rate job.traces past t command)))
       ≡ Some (rate * blocks_of job.config.width command)

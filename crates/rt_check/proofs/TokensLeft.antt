@@ -8,7 +8,7 @@ use Rattle.std.proofs.lemmas.Str.Parse.{digit_from_value}
 use Rattle.block_store.specs.declared.Name.{Name}
 use Rattle.trace_text.specs.Lines.{tokens_of, onto_first}
 use Rattle.trace_text.specs.Reading.{number_at}
-use Rattle.trace_text.specs.Texts.{name_text, reply_text, totals_text}
+use Rattle.trace_text.specs.RunTexts.{name_text, reply_text, totals_text}
 use Rattle.trace_text.proofs.NumberLaws.{number_complete}
 use Rattle.never_heap.specs.declared.Reply.TheVariants.{New}
 use Rattle.rt_check.specs.Taking.{first_number, number_behind}
@@ -39,7 +39,7 @@ module _ (tokens : List (List ℕ)) (passed : ℕ) (rest first : List ℕ) (othe
   passed_more = sym (ap (λ (n : ℕ). drop n tokens) (add-one passed)
       ∙ drop_suc passed tokens first others (sym left ∙ has))
 
-  -- behind the last token there is no number
+  -- after the last token there is no number
   pub passed_all : (before : ℕ) → passed < before → others ≡ [] → number_behind before tokens ≡ None
   passed_all before low none =
       ap first_number (drop_past (passed + 1) before tokens (sym passed_more ∙ none) (omega arith))

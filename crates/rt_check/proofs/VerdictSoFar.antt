@@ -17,7 +17,7 @@ pub record Leads (c : Config) (rate : ℕ) (traces : List (List Command)) (lines
   pub bad : (n : ℕ) → FirstBad c rate traces past rest n
       → FirstBad c rate traces [] lines (read + n)
 
--- so many lines were good, and this is where the follower stands
+-- so many lines were good, and this is where the follower is
 abbrev pub HasLed : Config → ℕ → List (List Command) → List (List ℕ) → List (List ℕ) → ℕ
     → Follower → Type 0
 HasLed c rate traces lines rest read f =

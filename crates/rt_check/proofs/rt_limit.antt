@@ -7,4 +7,3 @@ pub mod JobLaws
 pub mod AnswerLaws
 pub mod OneThread
 pub mod CarriedOut
-pub mod NearSmall

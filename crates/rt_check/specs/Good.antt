@@ -4,7 +4,7 @@ use Rattle.block_store.specs.declared.Config.{Config}
 use Rattle.never_heap.specs.declared.Command.{Command}
 use Rattle.never_heap.specs.Coming.{left_of, MayCome}
 use Rattle.never_heap.specs.Histories.{HistoryItem, starts_in}
-use Rattle.trace_text.specs.Orders.{item_text, end_text}
+use Rattle.trace_text.specs.OrderTexts.{item_text, end_text}
 
 -- after these items the line is good, as this item: the item may come, and the line is its text
 pub record IsGood
@@ -33,7 +33,7 @@ abbrev pub IsBad : Config → ℕ → List (List Command) → List HistoryItem �
 IsBad c rate traces past l =
     (IsLast traces past l → ⊥) × ((i : HistoryItem) → IsGood c rate traces past l i → ⊥)
 
--- After these items the n-th line, counted from 1, is the first that is not good. Behind the line
+-- After these items the n-th line, counted from 1, is the first that is not good. After the line
 -- of the totals none is. Where all are good and none is that line, n is one more than there are.
 abbrev pub FirstBad :
     Config → ℕ → List (List Command) → List HistoryItem → List (List ℕ) → ℕ → Type 0

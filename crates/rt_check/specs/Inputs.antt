@@ -1,4 +1,4 @@
--- The input of a check: a job's text and, behind its line `end`, the lines of an order.
+-- The input of a check: a job's text and, after its line `end`, the lines of an order.
 use Rattle.std.specs.Prelude.{ℕ, ◌+◌, ◌≤◌, ◌<◌, ◌≡◌, ◌⊎◌, if◌then◌else◌, List, [], ◌∷◌, length, take, drop, codes}
 use Rattle.std.specs.Str.{bytes_eq}
 use Rattle.never_heap.specs.Histories.{HistoryItem}
@@ -7,7 +7,7 @@ use Rattle.rate_plan.specs.Rates.{IsAdmitted, IsRate}
 use Rattle.trace_text.specs.declared.trace_faults.Why.{Why}
 use Rattle.trace_text.specs.Jobs.{Job, IsJob, input_limit}
 use Rattle.trace_text.specs.Lines.{lines_of}
-use Rattle.trace_text.specs.Orders.{order_lines}
+use Rattle.trace_text.specs.OrderTexts.{order_lines}
 use Rattle.trace_text.specs.Refusals.{IsFirstBadLine}
 use Rattle.rt_check.specs.Good.{FirstBad}
 

@@ -9,7 +9,7 @@ use Rattle.never_heap.specs.Histories.{HistoryItem, Started, part, replay, start
 use Rattle.never_heap.specs.LiveBlocks.{live_blocks}
 use Rattle.never_heap.specs.Steps.{step, blocks_of}
 use Rattle.trace_text.specs.Lines.{tokens_of}
-use Rattle.trace_text.specs.Orders.{item_text}
+use Rattle.trace_text.specs.OrderTexts.{item_text}
 use Rattle.trace_text.specs.Reading.{number_at}
 use Rattle.rt_check.specs.declared.follower.Follower.{Follower}
 use Rattle.rt_check.specs.declared.follower.Verdict.{Verdict}
@@ -32,7 +32,7 @@ pub record Stands (c : Config) (past : List HistoryItem) (f : Follower) : Type 0
   pub work : f.work ≡ work_in past
   pub small : f.work ≤ length past * 2 ^ 32
 
--- what is said of a line after these items, and where the follower then stands
+-- what is said of a line after these items, and where the follower then is
 abbrev pub Says :
     Config → ℕ → List (List Command) → List HistoryItem → List ℕ → Verdict → Follower → Type 0
 Says c rate traces past line Good f =
@@ -40,7 +40,7 @@ Says c rate traces past line Good f =
 Says c rate traces past line Last f = IsLast traces past line
 Says c rate traces past line Bad f = IsBad c rate traces past line
 
--- whether a line is the start of the next cycle, and where the follower then stands
+-- whether a line is the start of the next cycle, and where the follower then is
 abbrev pub StartsHere :
     Config → List HistoryItem → List ℕ → Bool → Follower → Type 0
 StartsHere c past line true f =
@@ -73,7 +73,7 @@ IsFullHere c f command =
     (0 < blocks_of c.width command)
     × (c.live < slice_index_or f.live.items (max 1 (length f.live.items - 1) - 1) 0)
 
--- an entry with the reply of the heap, and the graph behind it
+-- an entry with the reply of the heap, and the graph after it
 abbrev pub entry_here : Follower → Entry → Entry
 entry_here f e = record e { reply = (step f.graph.graph e.thread e.command).1 }
 

@@ -4,7 +4,7 @@ use Rattle.block_store.specs.declared.Config.{Config}
 use Rattle.never_heap.specs.declared.Command.{Command}
 use Rattle.never_heap.specs.Coming.{left_of, IsNoFull}
 use Rattle.never_heap.specs.Histories.{HistoryItem}
-use Rattle.trace_text.specs.Texts.{totals_text}
+use Rattle.trace_text.specs.RunTexts.{totals_text}
 use Rattle.rt_check.specs.declared.moves.Move.{Move}
 use Rattle.exit_statuses.specs.declared.refusal.Refusal.{Refusal}
 use Rattle.exit_statuses.specs.declared.refusal.Refusal.TheVariants as refusals
@@ -50,7 +50,7 @@ abbrev pub IsLeft : Config → List (List Command) → List HistoryItem → List
 IsLeft c traces past l =
     (IsEnd traces past l → ⊥) × ((i : HistoryItem) → IsTaken c traces past l i → ⊥)
 
--- After these items the n-th line, counted from 1, is the first that is not taken. Behind the line
+-- After these items the n-th line, counted from 1, is the first that is not taken. After the line
 -- of the totals none is. Where all are taken and none is that line, n is one more than there are.
 abbrev pub FirstLeft :
     Config → List (List Command) → List HistoryItem → List (List ℕ) → ℕ → Type 0

@@ -16,11 +16,11 @@ abbrev pub first_number : List (List ℕ) → Option ℕ
 first_number [] = None
 first_number (token ∷ tokens) = number_at token
 
--- the number that stands behind so many tokens
+-- the number that comes after so many tokens
 abbrev pub number_behind : ℕ → List (List ℕ) → Option ℕ
 number_behind before tokens = first_number (drop before tokens)
 
--- what is said of a line after these items, and where the follower then stands
+-- what is said of a line after these items, and where the follower then is
 abbrev pub SaysTaken :
     Config → List (List Command) → List HistoryItem → List ℕ → Line → Follower → Type 0
 SaysTaken c traces past line lines.Start f =

@@ -3,5 +3,5 @@ pub mod Figures
 pub mod Counting
 pub mod Blocks
 pub mod Prices
-pub mod Texts
+pub mod NeedTexts
 pub mod Answers

@@ -4,12 +4,12 @@ ghost use Rattle.std.specs.Prelude.{◌≡◌, ◌+◌, ◌-◌, ◌^◌, ◌<�
 ghost use Rattle.never_heap.specs.Histories.{HistoryItem};
 ghost use Rattle.never_heap.specs.Bounds.{IsCommandInRange};
 ghost use Rattle.never_heap.specs.Graphs.{count_of};
-ghost use Rattle.never_heap.specs.RightWork.{units_told, units_owed};
+ghost use Rattle.never_heap.specs.RightWork.{requested_units, units_owed};
 ghost use Rattle.never_heap.specs.Steps.{length_made, blocks_of};
 ghost use Rattle.never_heap.specs.declared.Reply.TheVariants.{Full};
 ghost use Rattle.trace_text.specs.Jobs.{IsJobInBounds};
 ghost use Rattle.trace_text.specs.Lines.{ended};
-ghost use Rattle.trace_text.specs.Texts.{entry_text};
+ghost use Rattle.trace_text.specs.RunTexts.{entry_text};
 ghost use Rattle.block_store.specs.declared.Config.{Config};
 ghost use Rattle.rt_check.specs.Standing.{Stands, Says, StartsHere, HasFollowed, HasNext, Begins, CanCount};
 ghost use Rattle.rt_check.specs.Standing.{Counted, IsFullHere, entry_here, graph_here, rest_of};
@@ -262,7 +262,7 @@ impl Follower {
     pub(crate) fn full_entry(&self, job: &Job, rate: u64, thread: u32, command: Command) -> Entry
         requires rate { rate ≤ 131070 }
         requires length { length_made command ≤ 65535 }
-        requires told { units_told command ≤ 131070 }
+        requires told { requested_units command ≤ 131070 }
         ensures thread { result.thread ≡ thread }
         ensures command { result.command ≡ command }
         ensures work { result.work ≡ units_owed job.now.config.width rate command }
@@ -272,7 +272,7 @@ impl Follower {
             thread,
             command,
             reply: Reply::Full(self.full_cycle()),
-            work: rate * u64::from(command.blocks(job.config.width)) + command.told(),
+            work: rate * u64::from(command.blocks(job.config.width)) + command.requested_units(),
         }
     }
 

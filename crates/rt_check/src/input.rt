@@ -14,7 +14,7 @@ pub fn parted(input: &[u8]) -> (&[u8], &[u8])
     input.split_at(input.len() - order.len())
 }
 
-/// The bytes behind the first line that is `end`.
+/// The bytes after the first line that is `end`.
 fn order_of(input: &[u8]) -> &[u8]
     ensures { result.now ≡ order_part input.now }
 {

@@ -5,7 +5,7 @@ ghost use Rattle.block_store.specs.declared.Config.{Config};
 ghost use Rattle.never_heap.specs.declared.Command.{Command};
 ghost use Rattle.never_heap.specs.Histories.{HistoryItem};
 ghost use Rattle.never_heap.specs.Runs.{IsRun};
-ghost use Rattle.trace_text.specs.Orders.{order_lines};
+ghost use Rattle.trace_text.specs.OrderTexts.{order_lines};
 ghost use Rattle.exit_statuses.specs.declared.refusal.Refusal.{Refusal};
 ghost use Rattle.rt_check.specs.Answers.{IsAnswerTo};
 ghost use Rattle.rt_check.specs.Good.{IsGood, AreGood, FirstBad};

@@ -38,8 +38,8 @@ pub(crate) fn first_bad(
     Ok(Some(read + 1))
 }
 
-/// The number of the line behind that of the totals, where there is one: no line is good there. So
-/// many lines stand before that of the totals.
+/// The number of the line after that of the totals, where there is one: no line is good there. So
+/// many lines come before that of the totals.
 fn behind_last(after: &[u8], read: u64) -> Option<u64>
     requires { read < 2 ^ 32 }
     ensures { MatchOption result (lines_of after.now ≡ [])

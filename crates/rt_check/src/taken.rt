@@ -27,7 +27,7 @@ pub(crate) enum Line {
     Start,
     /// A command, with its reply.
     Entry(Move),
-    /// The totals, behind all commands.
+    /// The totals, after all commands.
     Last,
     /// None of these.
     Left,
@@ -64,7 +64,7 @@ pub fn moves_of(alloc: Global, job: &Job, order: &[u8]) -> Result<Vec<Move>, Ref
     Err(Refusal::BadOrder { line: read + 1 })
 }
 
-/// The commands, where no line stands behind that of the totals. So many lines stand before it.
+/// The commands, where no line comes after that of the totals. So many lines come before it.
 fn ended(moves: Vec<Move>, after: &[u8], read: u64) -> Result<Vec<Move>, Refusal>
     requires { read < 2 ^ 32 }
     ensures { MatchResult result (λ v. (v.items ≡ moves.items) × (lines_of after.now ≡ []))
@@ -191,7 +191,7 @@ fn tells_totals(line: &[u8], buffer: &mut LineBuffer) -> bool
     is_line(buffer, line)
 }
 
-// The number behind so many tokens of a line.
+// The number after so many tokens of a line.
 fn number_in(line: &[u8], before: usize) -> Option<u64>
     ensures { result ≡ number_behind before (tokens_of line.now) }
 {

@@ -28,7 +28,7 @@ pub struct CheckExit {
     pub due: u8,
 }
 
-/// Checks an order against a heap that never frees. The source gives a job's text and, behind its
+/// Checks an order against a heap that never frees. The source gives a job's text and, after its
 /// line `end`, the lines of the order; one line is written that says whether the order is that of a
 /// run of the job, or which of its lines is the first that is not good. Words are refused with the
 /// line `rt_check: usage`.

@@ -1,5 +1,5 @@
 -- What a script of handles holds: as many threads as its header says, and operations that can
--- stand.
+-- are.
 use Rattle.std.proofs.Common.{ℕ, zero, suc, ◌<◌, List, [], ◌∷◌, ◌++◌, slice_index_or, arith}
 use Rattle.std.specs.List.{AllByRecursion}
 use Rattle.array_scripts.specs.declared.header.Header.{Header}

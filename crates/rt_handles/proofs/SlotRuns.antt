@@ -9,11 +9,10 @@ use Rattle.array_tables.specs.operations.Linearizations.{traces_of}
 use Rattle.array_tables.specs.declared.handle_table.operation.Operation.{Operation}
 use Rattle.array_tables.specs.declared.handle_table.told.Outcome.{Outcome}
 use Rattle.array_tables.specs.handle_table.Handles.{rows_of, command_at, all_deeds}
+use Rattle.array_tables.proofs.Lemmas.{fates_are_told, makes_are_shown, slots_are_kept}
 use Rattle.array_tables.proofs.handle_table.Jobs.{jobs_fit}
-use Rattle.array_tables.proofs.handle_table.MakeBeforeUse.{fates_are_told, makes_are_shown}
-use Rattle.array_tables.proofs.handle_table.SlotApplication.{slots_are_kept}
 use Rattle.atom_board.specs.threaded_runs.EndedRuns.{job_of}
-use Rattle.atom_board.proofs.threaded_runs.OfJob.{run_of, parts_of}
+use Rattle.atom_board.proofs.threaded_runs.HistoryOfJob.{run_of, parts_of}
 use Rattle.trace_text.specs.Reading.{tokenized}
 use Rattle.array_scripts.specs.Answers.{each_from}
 use Rattle.array_scripts.specs.Runnable.{IsRunnable}
@@ -21,7 +20,7 @@ use Rattle.array_scripts.specs.Tellings.{lines_from}
 use Rattle.array_scripts.proofs.AnswersInOrder.{in_order}
 use Rattle.array_scripts.proofs.ScriptSizes.{count}
 use Rattle.array_scripts.specs.script_runs.Runs.{IsAnswered}
-use Rattle.rt_handles.specs.Calls.{Headline}
+use Rattle.rt_handles.specs.HandleCalls.{Headline}
 use Rattle.rt_handles.specs.Lines.{handle_kind}
 use Rattle.rt_handles.specs.Scripts.{commands, job_of_script}
 use Rattle.rt_handles.specs.Tellings.{outcome_text, told, outcome_in}

@@ -1,11 +1,11 @@
--- The slots of the last makes, behind one operation more.
+-- The slots of the last makes, after one operation more.
 use Rattle.std.proofs.Common.{◌≡◌, ℕ, ◌<◌, ◌≤◌, ◌==◌, cond, Option, Some, None, List, [], ◌∷◌, ◌++◌, length, ne_eqb, refl, sym, ap, ◌∙◌, arith}
 use Rattle.std.specs.Prelude.{slice_set}
-use Rattle.never_heap.proofs.GraphMoves.{get_or_set}
+use Rattle.never_heap.proofs.Lemmas.{get_or_set}
 use Rattle.array_tables.specs.declared.handle_table.operation.Operation.{Operation}
 use Rattle.array_tables.specs.declared.handle_table.operation.Operation.TheVariants.{Make}
 use Rattle.array_tables.specs.handle_table.Handles.{slot_of, slot_by}
-use Rattle.array_tables.proofs.handle_table.NumberedDeeds.{slot_more}
+use Rattle.array_tables.proofs.Lemmas.{slot_more}
 use Rattle.rt_handles.specs.Slots.{AreSlotsOf, make_in}
 
 -- what an operation does to the slot of h

@@ -2,4 +2,4 @@ pub mod Slots
 pub mod Lines
 pub mod Scripts
 pub mod Tellings
-pub mod Calls
+pub mod HandleCalls

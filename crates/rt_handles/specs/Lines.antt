@@ -58,7 +58,7 @@ evict_at slots tokens = do
   i ← below slots token
   Some (Evict i)
 
--- the operation of a line, by its first token, behind a thread's other operations
+-- the operation of a line, by its first token, after a thread's other operations
 unfoldable pub op_at : ℕ → List Operation → Tokens → Option Operation
 op_at slots before [] = None
 op_at slots before (first ∷ tokens) =
@@ -68,7 +68,7 @@ op_at slots before (first ∷ tokens) =
     if bytes_eq first (codes "take") then take_at slots tokens else
     if bytes_eq first (codes "evict") then evict_at slots tokens else None
 
--- scripts of handles, each operation of which stands behind a thread's others
+-- scripts of handles, each operation of which comes after a thread's others
 abbrev pub handle_kind : Kind Operation
 handle_kind = record {
   name = codes "handles";

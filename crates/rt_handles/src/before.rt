@@ -12,7 +12,7 @@ use std::marker::Model;
 /// How many handles a thread keeps.
 const HANDLES: usize = 8;
 
-/// Operations of a thread, one behind the other, with the slot of the last make of each handle.
+/// Operations of a thread, one after the other, with the slot of the last make of each handle.
 #[derive(Drop)]
 pub struct Before {
     ops: Vec<Operation>,
@@ -60,7 +60,7 @@ impl Before {
         }
     }
 
-    /// Adds one behind them.
+    /// Adds one after them.
     pub fn push(&mut self, op: Operation) -> Result<(), AllocFailed<Operation>>
         ensures { OnOk result (self.new ≡ self.old ++ op ∷ []) }
     {

@@ -21,7 +21,7 @@ pub use exit::HandleExit;
 pub use script::script_of;
 pub use top::handles;
 
-/// Lines are a script of handles, or one of them is the first that cannot stand at its place, and
+/// Lines are a script of handles, or one of them is the first that may not come at its place, and
 /// never both; and they are one script at most.
 pub fn lines_are_told_apart()
     ensures either { (lines : List Tokens)

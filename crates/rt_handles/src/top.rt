@@ -2,7 +2,7 @@
 
 ghost use Rattle.std.specs.Prelude.{map, string_bytes};
 ghost use Rattle.exit_statuses.specs.Sides.{sides};
-ghost use Rattle.rt_handles.specs.Calls.{IsCarriedOut};
+ghost use Rattle.rt_handles.specs.HandleCalls.{IsCarriedOut};
 
 use crate::exit::HandleExit;
 use crate::kind::Handles;

@@ -18,7 +18,7 @@ use Rattle.trace_text.specs.Wholes.{IsLineFault}
 use Rattle.trace_text.proofs.OneJob.{one_job}
 use Rattle.trace_text.proofs.WholeLaws.{apart}
 use Rattle.rt_mail.specs.Says.{IsWithin}
-use Rattle.rt_mail.specs.Texts.{IsRefusedJob, Causes, IsFine, IsReadAs, IsCause}
+use Rattle.rt_mail.specs.RefusedTexts.{IsRefusedJob, Causes, IsFine, IsReadAs, IsCause}
 
 -- a job is refused by the limits of a post, or it is within them and has no rate
 abbrev Verdict : Job → Refusal → Type 0

@@ -11,10 +11,10 @@ use Rattle.rt_mail.specs.mail_post.PostStates.{TakenState}
 use Rattle.trace_text.specs.Jobs.{input_limit}
 use Rattle.trace_text.specs.Streams.{Appends, AppendsPrefix}
 use Rattle.rt_mail.specs.declared.exit.MailExit.{MailExit}
-use Rattle.rt_mail.specs.Calls.{HasMail, Headline, IsCarriedOut, exit_of}
+use Rattle.rt_mail.specs.MailCalls.{HasMail, Headline, IsCarriedOut, exit_of}
 use Rattle.rt_mail.specs.Recalled.{recalled_in}
 use Rattle.rt_mail.specs.Tellings.{lines_from}
-use Rattle.rt_mail.specs.Texts.{Causes, IsFine, IsCause}
+use Rattle.rt_mail.specs.RefusedTexts.{Causes, IsFine, IsCause}
 use Rattle.rt_mail.proofs.Apart.{are_apart, fine_read}
 
 -- what holds of all three that are there

@@ -8,17 +8,17 @@ use Rattle.exit_statuses.specs.Sides.{Sides}
 use Rattle.never_heap.specs.declared.Entry.{Entry}
 use Rattle.never_heap.specs.Histories.{parts}
 use Rattle.array_tables.specs.number_rings.Rings.{IsKeepable, last_numbers}
-use Rattle.never_heap.proofs.PartLogs.{logged}
+use Rattle.never_heap.proofs.Lemmas.{logged}
 use Rattle.rate_plan.specs.Rates.{IsAdmitted}
 use Rattle.rt_mail.specs.said_numbers.Said.{numbers_said, says_in, AreNumbers}
 use Rattle.rt_mail.proofs.said_numbers.NumbersPerThread.{few_said}
 use Rattle.rt_mail.proofs.said_numbers.NumberBounds.{said_numbers_small}
 use Rattle.atom_board.specs.threaded_runs.EndedRuns.{HasHistory, commands_of, job_of}
 use Rattle.trace_text.specs.Jobs.{Job, IsJobInBounds}
-use Rattle.rt_mail.specs.Calls.{HasFirst, HasMail}
+use Rattle.rt_mail.specs.MailCalls.{HasFirst, HasMail}
 use Rattle.rt_mail.specs.Recalled.{HasRings, recalled_in}
 use Rattle.rt_mail.specs.Says.{says_of, IsWithin}
-use Rattle.rt_mail.specs.Texts.{IsReadAs}
+use Rattle.rt_mail.specs.RefusedTexts.{IsReadAs}
 use Rattle.rt_mail.proofs.RingJob.{last_recalled}
 
 -- what is said of each log holds of all

@@ -11,14 +11,12 @@ use Rattle.never_heap.specs.declared.Entry.{Entry}
 use Rattle.never_heap.specs.Histories.{parts}
 use Rattle.never_heap.specs.Runs.{IsRun}
 use Rattle.array_tables.specs.operations.Linearizations.{traces_of}
-use Rattle.never_heap.proofs.PartLogs.{logged}
+use Rattle.never_heap.proofs.Lemmas.{logged}
 use Rattle.array_tables.specs.number_rings.Rings.{Operation, rows_of, command_at, script_of, scripts_from, ring_config, ring_traces, recalled, last_numbers, IsKeepable}
-use Rattle.array_tables.proofs.number_rings.Chunks.{rows_long}
-use Rattle.array_tables.proofs.number_rings.Jobs.{rings_fit, rings_admitted}
-use Rattle.array_tables.proofs.number_rings.RingRuns.{rings_show, own_script, scripts_long}
+use Rattle.array_tables.proofs.Lemmas.{own_script, rings_admitted, rings_fit, rings_show, rows_long, scripts_long}
 use Rattle.rate_plan.specs.Rates.{IsAdmitted}
 use Rattle.atom_board.specs.threaded_runs.EndedRuns.{HasHistory, commands_of, job_of}
-use Rattle.atom_board.proofs.threaded_runs.OfJob.{run_of, parts_of}
+use Rattle.atom_board.proofs.threaded_runs.HistoryOfJob.{run_of, parts_of}
 use Rattle.trace_text.specs.Jobs.{Job}
 use Rattle.trace_text.specs.Jobs as jobs
 use Rattle.rt_mail.specs.Recalled.{ring_job, HasRings, replies_of, recalled_in}

@@ -1,8 +1,8 @@
 pub mod Says
-pub mod Texts
+pub mod RefusedTexts
 pub mod Recalled
 pub mod Tellings
-pub mod Calls
+pub mod MailCalls
 pub mod mail_post
 pub mod said_numbers
 pub mod mail_runs

@@ -22,7 +22,7 @@ pub record HasRings (lists : List (List ℕ)) (run : ClosedState) : Type 0 where
 abbrev pub replies_of : List Entry → List Reply
 replies_of log = map (λ (e : Entry). e.reply) log
 
--- the numbers that each thread recalled behind its keeps, read from its log
+-- the numbers that each thread recalled after its keeps, read from its log
 abbrev pub recalled_in : List (List ℕ) → List (List Entry) → List (List ℕ)
 recalled_in [] logs = []
 recalled_in (vs ∷ lists) [] = recalled (length vs) [] ∷ recalled_in lists []

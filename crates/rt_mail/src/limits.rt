@@ -2,7 +2,7 @@
 
 ghost use Rattle.std.specs.Prelude.{◌≡◌, length, MatchResult};
 ghost use Rattle.rt_mail.specs.Says.{IsWithin};
-ghost use Rattle.rt_mail.specs.Texts.{IsRefusedJob};
+ghost use Rattle.rt_mail.specs.RefusedTexts.{IsRefusedJob};
 
 use crate::said_numbers::says_of;
 use exit_statuses::Refusal;

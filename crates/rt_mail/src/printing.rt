@@ -65,7 +65,7 @@ fn write_last<K: Sink>(got: u64, last: &[u64], sink: &mut K) -> Result<(), Faile
     write_numbers(last, sink)
 }
 
-/// Writes numbers, each behind a space.
+/// Writes numbers, each after a space.
 fn write_numbers<K: Sink>(numbers: &[u64], sink: &mut K) -> Result<(), Failed>
     ensures written { OnOk result (Appends (K.held sink.old) (K.held sink.new)
         (flat_map number_text numbers.now)) }

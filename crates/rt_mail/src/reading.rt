@@ -5,7 +5,7 @@ ghost use Rattle.exit_statuses.specs.Sides.{sides};
 ghost use Rattle.rate_plan.specs.Rates.{IsAdmitted};
 ghost use Rattle.trace_text.specs.Jobs.{IsJobInBounds};
 ghost use Rattle.rt_mail.specs.Says.{IsWithin};
-ghost use Rattle.rt_mail.specs.Texts.{IsRefusedJob, IsReadAs, IsCause};
+ghost use Rattle.rt_mail.specs.RefusedTexts.{IsRefusedJob, IsReadAs, IsCause};
 
 use crate::limits::within_limits;
 use exit_statuses::{Refusal, text_of};

@@ -2,9 +2,9 @@
 
 ghost use Rattle.std.specs.Prelude.{◌≡◌, map, [], IfOk, IfErr, OnOk};
 ghost use Rattle.exit_statuses.specs.Sides.{sides};
-ghost use Rattle.rt_mail.specs.Calls.{HasMail};
+ghost use Rattle.rt_mail.specs.MailCalls.{HasMail};
 ghost use Rattle.rt_mail.specs.Recalled.{recalled_in};
-ghost use Rattle.rt_mail.specs.Texts.{IsCause};
+ghost use Rattle.rt_mail.specs.RefusedTexts.{IsCause};
 
 use crate::keeping::kept;
 use crate::mail_post::Taken;

@@ -4,10 +4,10 @@ ghost use Rattle.std.specs.Prelude.{◌≡◌, ◌≢◌, ◌≤◌, ◌⊎◌, 
 ghost use Rattle.exit_statuses.specs.Exits.{IsWritten};
 ghost use Rattle.exit_statuses.specs.Sides.{sides};
 ghost use Rattle.trace_text.specs.Faults.{Rose};
-ghost use Rattle.rt_mail.specs.Calls.{IsCarriedOut, HasMail};
+ghost use Rattle.rt_mail.specs.MailCalls.{IsCarriedOut, HasMail};
 ghost use Rattle.rt_mail.specs.Recalled.{recalled_in};
 ghost use Rattle.rt_mail.specs.Tellings.{lines_from};
-ghost use Rattle.rt_mail.specs.Texts.{IsCause};
+ghost use Rattle.rt_mail.specs.RefusedTexts.{IsCause};
 
 use crate::exit::MailExit;
 use crate::printing::write_lines;

@@ -8,10 +8,10 @@ use Rattle.never_heap.specs.Jobs.{IsJobInBounds}
 use Rattle.array_tables.specs.operations.Linearizations.{Call, traces_of}
 use Rattle.array_tables.specs.declared.tag_table.operation.Operation.{Operation}
 use Rattle.array_tables.specs.tag_table.Tables.{Tag, rows_of, command_at}
+use Rattle.array_tables.proofs.Lemmas.{tables_are_kept}
 use Rattle.array_tables.proofs.tag_table.Jobs.{jobs_fit}
-use Rattle.array_tables.proofs.tag_table.TableApplication.{tables_are_kept}
 use Rattle.atom_board.specs.threaded_runs.EndedRuns.{job_of}
-use Rattle.atom_board.proofs.threaded_runs.OfJob.{run_of, parts_of}
+use Rattle.atom_board.proofs.threaded_runs.HistoryOfJob.{run_of, parts_of}
 use Rattle.trace_text.specs.Reading.{tokenized}
 use Rattle.array_scripts.specs.Answers.{each_from}
 use Rattle.array_scripts.specs.Runnable.{IsRunnable}
@@ -19,7 +19,7 @@ use Rattle.array_scripts.specs.Tellings.{lines_from}
 use Rattle.array_scripts.proofs.AnswersInOrder.{in_order}
 use Rattle.array_scripts.proofs.ScriptSizes.{count}
 use Rattle.array_scripts.specs.script_runs.Runs.{IsAnswered}
-use Rattle.rt_tags.specs.Calls.{Headline}
+use Rattle.rt_tags.specs.TagCalls.{Headline}
 use Rattle.rt_tags.specs.Lines.{tag_kind}
 use Rattle.rt_tags.specs.Scripts.{commands, job_of_script}
 use Rattle.rt_tags.specs.Tellings.{tag_text, told}

@@ -41,7 +41,7 @@ op_at tags (first ∷ tokens) =
     if bytes_eq first (codes "clear") then clear_at tags tokens else
     if bytes_eq first (codes "read") then read_at tags tokens else None
 
--- scripts of tags, each operation of which may stand behind any others
+-- scripts of tags, each operation of which may come after any others
 abbrev pub tag_kind : Kind Operation
 tag_kind = record {
   name = codes "tags";

@@ -20,7 +20,7 @@ pub use exit::TagExit;
 pub use script::script_of;
 pub use top::tags;
 
-/// Lines are a script of tags, or one of them is the first that cannot stand at its place, and
+/// Lines are a script of tags, or one of them is the first that may not come at its place, and
 /// never both; and they are one script at most.
 pub fn lines_are_told_apart()
     ensures either { (lines : List Tokens)

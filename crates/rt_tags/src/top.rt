@@ -2,7 +2,7 @@
 
 ghost use Rattle.std.specs.Prelude.{map, string_bytes};
 ghost use Rattle.exit_statuses.specs.Sides.{sides};
-ghost use Rattle.rt_tags.specs.Calls.{IsCarriedOut};
+ghost use Rattle.rt_tags.specs.TagCalls.{IsCarriedOut};
 
 use crate::exit::TagExit;
 use crate::kind::Tags;

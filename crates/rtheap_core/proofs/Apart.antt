@@ -7,7 +7,7 @@ use Rattle.exit_statuses.specs.Refusals.{status_of}
 use Rattle.exit_statuses.proofs.ExitStatuses.{AreApart}
 use Rattle.heap_system.specs.Locals.{is_done}
 use Rattle.heap_system.specs.Machines as machines
-use Rattle.heap_system.proofs.Rooms.{done_agree}
+use Rattle.heap_system.proofs.Lemmas.{done_agree}
 use Rattle.rate_plan.specs.declared.PlanFault.{PlanFault}
 use Rattle.rate_plan.specs.declared.PlanFault.TheVariants as plans
 use Rattle.rate_plan.specs.Rates.{IsAdmitted, IsRefusal}
@@ -19,7 +19,7 @@ use Rattle.trace_text.proofs.OneJob.{one_job}
 use Rattle.trace_text.proofs.WholeLaws.{apart}
 use Rattle.rtheap_core.specs.declared.task.Task.{Task}
 use Rattle.rtheap_core.specs.declared.task.Task.TheVariants.{Replay}
-use Rattle.rtheap_core.specs.Calls.{IsDoneBy, IsFine}
+use Rattle.rtheap_core.specs.TopCalls.{IsDoneBy, IsFine}
 use Rattle.rtheap_core.specs.EndedRuns.{EndsIn}
 use Rattle.rtheap_core.specs.Refusals.{LeavesUndone, UsesTurns, Causes}
 use Rattle.rtheap_core.specs.Tasks.{Ask, AskForJob}

@@ -11,14 +11,14 @@ use Rattle.heap_system.specs.Systems.{units_of as units_in}
 use Rattle.rtheap_core.specs.declared.schedules.Schedule.{Schedule}
 use Rattle.trace_text.specs.Jobs.{input_limit}
 use Rattle.trace_text.specs.JobTexts.{job_text}
-use Rattle.trace_text.specs.Orders.{text_in_order}
+use Rattle.trace_text.specs.OrderTexts.{text_in_order}
 use Rattle.trace_text.specs.Streams.{Appends, AppendsPrefix}
-use Rattle.trace_text.specs.Texts.{run_text}
+use Rattle.trace_text.specs.RunTexts.{run_text}
 use Rattle.rtheap_core.specs.declared.exit.RunEnd.{RunEnd}
 use Rattle.rtheap_core.specs.declared.exit.RunEnd.TheVariants.{Replayed, Ran}
 use Rattle.rtheap_core.specs.declared.task.Task.{Task}
 use Rattle.rtheap_core.specs.declared.task.Task.TheVariants.{Run, Replay, Plan, Make, Trial}
-use Rattle.rtheap_core.specs.Calls.{Call, IsFine, IsCarriedOut, exit_of}
+use Rattle.rtheap_core.specs.TopCalls.{Call, IsFine, IsCarriedOut, exit_of}
 use Rattle.rtheap_core.specs.EndedRuns.{job_of}
 use Rattle.rtheap_core.specs.Exits.{Headline, IsReplay, IsOfThreads, Planned, Tried, rate_text}
 use Rattle.rtheap_core.specs.Generated.{generated_job}

@@ -4,7 +4,7 @@ use Rattle.exit_statuses.specs.Exits.{IsWritten}
 use Rattle.exit_statuses.specs.Sides.{Sides, IsUntouched}
 use Rattle.never_heap.specs.Histories.{starts_in}
 use Rattle.trace_text.specs.Streams.{TookAtMost}
-use Rattle.trace_text.specs.Texts.{totals_line}
+use Rattle.trace_text.specs.RunTexts.{totals_line}
 use Rattle.exit_statuses.specs.declared.refusal.Refusal.TheVariants.{OutOfMemory}
 use Rattle.rtheap_core.specs.declared.task.Task.{Task}
 use Rattle.rtheap_core.specs.declared.trial.Totals.{Totals}

@@ -4,11 +4,11 @@ use Rattle.exit_statuses.specs.Exits.{IsWritten}
 use Rattle.exit_statuses.specs.Sides.{Sides}
 use Rattle.never_heap.specs.Histories.{parts, starts_in}
 use Rattle.atom_board.specs.Mutators.{ClosedState}
-use Rattle.trace_text.specs.Texts.{run_text, text_by_threads}
+use Rattle.trace_text.specs.RunTexts.{run_text, text_by_threads}
 use Rattle.heap_system.specs.Systems.{Finish}
 use Rattle.heap_system.specs.Systems.{units_of as units_in}
 use Rattle.rtheap_core.specs.declared.schedules.Schedule.{Schedule}
-use Rattle.trace_text.specs.Orders.{text_in_order}
+use Rattle.trace_text.specs.OrderTexts.{text_in_order}
 use Rattle.rtheap_core.specs.declared.exit.RunEnd.TheVariants.{Replayed, Ran}
 use Rattle.rtheap_core.specs.EndedRuns.{HasHistory}
 use Rattle.rtheap_core.specs.Exits.{Headline, IsReplay, IsOfThreads}

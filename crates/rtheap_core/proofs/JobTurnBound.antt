@@ -7,7 +7,7 @@ use Rattle.block_store.specs.Counts.{total}
 use Rattle.never_heap.specs.declared.Command.{Command}
 use Rattle.never_heap.specs.Bounds.{IsCommandInBounds}
 use Rattle.never_heap.specs.Jobs.{IsTraceInBounds, IsJobInBounds}
-use Rattle.never_heap.specs.RightWork.{units_told}
+use Rattle.never_heap.specs.RightWork.{requested_units}
 use Rattle.never_heap.specs.Steps.{blocks_of}
 use Rattle.rate_plan.specs.solo_bound.Prices.{allocation_bound, idle_bound, other_bound}
 use Rattle.heap_system.specs.Alone.{command_bound}
@@ -44,7 +44,7 @@ module _ (c : Config) (rate : ℕ) (threads : c.threads ≤ 16) (object : c.obje
 
   command : (k : Command) → IsCommandInBounds c k → command_bound c rate k ≤ most
   command k b =
-      choice _ _ _ _ _ (allocation (blocks_of c.width k) b.blocks) (idle (units_told k) b.units) other
+      choice _ _ _ _ _ (allocation (blocks_of c.width k) b.blocks) (idle (requested_units k) b.units) other
 
   commands : (ks : List Command) → AllByRecursion (IsCommandInBounds c) ks
       → trace_bound c rate ks ≤ length ks * most

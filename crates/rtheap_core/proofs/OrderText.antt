@@ -3,10 +3,10 @@ use Rattle.std.proofs.Common.{ℕ, ◌≡◌, List, Some, map, sym, ap, ◌∙�
 use Rattle.never_heap.specs.declared.Entry.{Entry}
 use Rattle.never_heap.specs.declared.Item.{Item}
 use Rattle.never_heap.specs.Histories.{HistoryItem, starts_in, work_in}
-use Rattle.never_heap.specs.Orders.{item_of, IsHistoryOf}
+use Rattle.never_heap.specs.HistoryOfOrder.{item_of, IsHistoryOf}
 use Rattle.heap_system.specs.Systems.{Finish, units_of}
 use Rattle.rtheap_core.specs.declared.schedules.Schedule.{Schedule}
-use Rattle.trace_text.specs.Orders.{IsOrderOf, order_text, text_in_order}
+use Rattle.trace_text.specs.OrderTexts.{IsOrderOf, order_text, text_in_order}
 use Rattle.exit_statuses.specs.Exits.{IsWritten}
 use Rattle.rtheap_core.specs.Outcomes.{IsReplayShown, HasOrder}
 use Rattle.exit_statuses.specs.Sides.{Sides}

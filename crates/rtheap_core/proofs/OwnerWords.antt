@@ -16,18 +16,13 @@ use Rattle.never_heap.specs.Graphs.{Graph, count_of, has_name, start_graph}
 use Rattle.never_heap.specs.Histories.{HistoryItem, Started, Did, is_full, after, replay, replay_from, part}
 use Rattle.never_heap.specs.Jobs.{IsTraceInBounds}
 use Rattle.never_heap.specs.Steps.{step, makes_object}
-use Rattle.never_heap.proofs.GraphMoves.{name_of_thread}
-use Rattle.never_heap.proofs.StartGraph.{count_of_start, threads_of_start}
-use Rattle.never_heap.proofs.StepChanges.{change_of, count_of_other, step_count, step_threads}
+use Rattle.never_heap.proofs.Lemmas.{change_of, count_of_other, count_of_start, name_of_thread, step_count, step_threads, threads_of_start}
 use Rattle.heap_machine.specs.declared.pass.Pass.{Pass}
 use Rattle.heap_system.specs.Locals.{LocalState, PartFits, command_of, entries_of}
 use Rattle.heap_system.specs.Machines.{Run, IsRunOf, IsJob, IsAfterTurns, local_in}
-use Rattle.heap_system.specs.Parts.{Part, Rest, Enter, Serve, Mark, Sweep, Build, Retry, ToChange, PhaseChange, Leave}
+use Rattle.heap_system.specs.Parts.{Part, Rest, Enter, Access, Mark, Sweep, Build, Retry, LeaveToChangePhase, PhaseChange, Leave}
 use Rattle.heap_system.specs.Pictures.{waiting, entries_waiting}
-use Rattle.heap_system.proofs.Always.{run_kept}
-use Rattle.heap_system.proofs.Kept.{Kept}
-use Rattle.heap_system.proofs.LawsOf.{laws_of}
-use Rattle.heap_system.proofs.TextLives.{job_of_text}
+use Rattle.heap_system.proofs.Lemmas.{Kept, job_of_text, laws_of, run_kept}
 use Rattle.trace_text.specs.Jobs.{Job, IsJobInBounds}
 
 -- ---- as many objects as entries at most
@@ -115,7 +110,7 @@ waiting_fits : (g : Graph) (c : Config) (done all t work : ℕ) (pass : Pass) (k
     → done + length (entries_of t k work (waiting g p)) ≤ all
 waiting_fits g c done all t work pass k Rest low fits = omega arith
 waiting_fits g c done all t work pass k (Enter x) low fits = omega arith
-waiting_fits g c done all t work pass k (Serve f) low fits = one (waiting g (Serve f))
+waiting_fits g c done all t work pass k (Access f) low fits = one (waiting g (Access f))
   where
     one : (o : Option Reply) → done + length (entries_of t k work o) ≤ all
     one None = omega arith
@@ -124,7 +119,7 @@ waiting_fits g c done all t work pass k (Mark x) low fits = omega arith
 waiting_fits g c done all t work pass k (Sweep x) low fits = omega arith
 waiting_fits g c done all t work pass k (Build x) low fits = omega arith
 waiting_fits g c done all t work pass k Retry low fits = omega arith
-waiting_fits g c done all t work pass k ToChange low fits = omega arith
+waiting_fits g c done all t work pass k LeaveToChangePhase low fits = omega arith
 waiting_fits g c done all t work pass k (PhaseChange x) low fits = omega arith
 waiting_fits g c done all t work pass k Leave low fits = omega arith
 

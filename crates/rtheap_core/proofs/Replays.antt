@@ -8,13 +8,12 @@ use Rattle.never_heap.specs.declared.Entry.{Entry}
 use Rattle.never_heap.specs.declared.Item.{Item}
 use Rattle.never_heap.specs.declared.Item.TheVariants as items
 use Rattle.never_heap.specs.Histories.{part, starts_in, work_in}
-use Rattle.never_heap.specs.Orders.{item_of, IsHistoryOf}
+use Rattle.never_heap.specs.HistoryOfOrder.{item_of, IsHistoryOf}
 use Rattle.heap_system.specs.Machines.{State, Run, next, after_turns, opened, heap_in, IsJob, IsOpening}
 use Rattle.heap_system.specs.Serials.{job_bound}
 use Rattle.heap_system.specs.Systems.{Finish, Whole, Ordered, AllDone, IsLeastUndone, IsReached, IsFinished, traces_of, logs_of, units_of, opening_order, ordered_after, items_kept}
-use Rattle.heap_system.proofs.FinishedRun.{all_done, done_run, done_turns, logged_all}
-use Rattle.heap_system.proofs.TurnFacts.{turned_traces}
-use Rattle.heap_system.proofs.SystemStart.{opened_traces}
+use Rattle.heap_system.proofs.Lemmas.{done_run, done_turns, logged_all, opened_traces, turned_traces}
+use Rattle.heap_system.proofs.history.FinishedRun.{all_done}
 use Rattle.rate_plan.specs.Rates.{IsRate}
 use Rattle.rtheap_core.specs.declared.schedules.Schedule.{Schedule}
 use Rattle.rtheap_core.specs.declared.schedules.Schedule.TheVariants.{Serial}

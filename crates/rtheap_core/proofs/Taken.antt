@@ -14,7 +14,7 @@ use Rattle.trace_text.specs.Jobs.{Job, IsJob, input_limit}
 use Rattle.trace_text.specs.Refusals.{IsFirstBadLine}
 use Rattle.trace_text.specs.Wholes.{IsLineFault}
 use Rattle.rtheap_core.specs.declared.task.Task.{Task}
-use Rattle.rtheap_core.specs.Calls.{IsDoneBy, IsFine}
+use Rattle.rtheap_core.specs.TopCalls.{IsDoneBy, IsFine}
 use Rattle.rtheap_core.specs.Exits.{IsReadAs}
 use Rattle.rtheap_core.specs.Refusals.{Causes, IsCause}
 use Rattle.rtheap_core.specs.Tasks.{AsksFor, Ask, AskForJob}
@@ -49,7 +49,7 @@ module _ (source : Sides) (text : List ℕ) (whole : IsReadWhole input_limit sou
 -- ---- a job that was read
 
 module _ (source : Sides) (job : Job) (read : IsReadAs source job) (still : IsUnfailed source) where
-  -- want of memory behind it has its cause
+  -- want of memory after it has its cause
   pub without_memory : (words : List (List ℕ)) → Ask words → IsCause words source OutOfMemory
   without_memory words a = (a, (few_taken input_limit source read.text read.whole, still))
 

@@ -15,7 +15,7 @@ use Rattle.rate_plan.specs.Rates.{IsAdmitted, IsRate, IsRefusal}
 use Rattle.heap_system.specs.Machines as machines
 use Rattle.heap_system.specs.Serials.{job_bound}
 use Rattle.heap_system.specs.Systems.{AllDone}
-use Rattle.heap_system.proofs.TextLives.{job_of_text}
+use Rattle.heap_system.proofs.Lemmas.{job_of_text}
 use Rattle.rtheap_core.specs.declared.schedules.Schedule.{Schedule}
 use Rattle.rtheap_core.specs.declared.schedules.Schedule.TheVariants.{Serial}
 use Rattle.rtheap_core.specs.schedules.Replays.{IsReplayed}
@@ -24,7 +24,7 @@ use Rattle.trace_text.proofs.OneJob.{one_job}
 use Rattle.trace_text.proofs.WholeLaws.{apart}
 use Rattle.rtheap_core.specs.declared.task.Task.{Task}
 use Rattle.rtheap_core.specs.declared.task.Task.TheVariants.{Run, Replay, Plan}
-use Rattle.rtheap_core.specs.Calls.{Call, IsCarriedOut, IsComplete, IsDoneBy, exit_of}
+use Rattle.rtheap_core.specs.TopCalls.{Call, IsCarriedOut, IsComplete, IsDoneBy, exit_of}
 use Rattle.rtheap_core.specs.Refusals.{IsCause, LeavesUndone}
 use Rattle.rtheap_core.specs.Tasks.{AsksFor, Ask, AskForJob, Reads}
 use Rattle.rtheap_core.proofs.Apart.{not_jobs}

@@ -3,7 +3,7 @@ use Rattle.std.specs.Prelude.{ℕ, ◌≡◌, Some, List, map}
 use Rattle.atom_board.specs.Mutators.{ClosedState}
 use Rattle.never_heap.specs.declared.Entry.{Entry}
 use Rattle.never_heap.specs.Histories.{HistoryItem}
-use Rattle.never_heap.specs.Orders.{item_of}
+use Rattle.never_heap.specs.HistoryOfOrder.{item_of}
 use Rattle.heap_system.specs.Machines as machines
 use Rattle.heap_system.specs.Systems.{Finish, AllDone}
 use Rattle.heap_system.specs.Systems as systems
@@ -12,8 +12,8 @@ use Rattle.rtheap_core.specs.schedules.Replays.{IsReplayed}
 use Rattle.rtheap_core.specs.schedules.Schedules.{turns_of}
 use Rattle.atom_board.specs.threaded_runs.EndedRuns as runs
 use Rattle.trace_text.specs.Jobs.{Job}
-use Rattle.trace_text.specs.Orders.{text_in_order}
-use Rattle.trace_text.specs.Texts.{text_by_threads}
+use Rattle.trace_text.specs.OrderTexts.{text_in_order}
+use Rattle.trace_text.specs.RunTexts.{text_by_threads}
 use Rattle.rtheap_core.specs.declared.exit.RunEnd.{RunEnd}
 use Rattle.rtheap_core.specs.declared.exit.RunEnd.TheVariants.{Replayed, Ran}
 

@@ -14,7 +14,7 @@ use Rattle.rtheap_core.specs.declared.schedules.Schedule.TheVariants.{Serial}
 use Rattle.atom_board.specs.threaded_runs.EndedRuns.{HasOwnTurns}
 use Rattle.trace_text.specs.Jobs.{Job, IsJob, input_limit}
 use Rattle.trace_text.specs.Lines.{line_feed}
-use Rattle.trace_text.specs.Texts.{totals_line}
+use Rattle.trace_text.specs.RunTexts.{totals_line}
 use Rattle.rtheap_core.specs.declared.exit.RunEnd.{RunEnd}
 use Rattle.rtheap_core.specs.declared.exit.RunEnd.TheVariants.{Replayed, Ran}
 use Rattle.rtheap_core.specs.EndedRuns.{HasHistory, EndsIn, IsReplayOf, run_of, job_of, logs_of, text_of}

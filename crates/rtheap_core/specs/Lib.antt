@@ -5,7 +5,7 @@ pub mod Exits
 pub mod Owners
 pub mod Refusals
 pub mod Outcomes
-pub mod Calls
+pub mod TopCalls
 pub mod LateFulls
 pub mod OneHistory
 pub mod schedules

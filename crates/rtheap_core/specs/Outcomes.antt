@@ -3,7 +3,7 @@ use Rattle.std.specs.Prelude.{ℕ, ◌≡◌, ◌≤◌, Some, List, map}
 use Rattle.exit_statuses.specs.Sides.{Sides}
 use Rattle.never_heap.specs.declared.Item.{Item}
 use Rattle.never_heap.specs.Histories.{starts_in, work_in}
-use Rattle.never_heap.specs.Orders.{item_of, IsHistoryOf}
+use Rattle.never_heap.specs.HistoryOfOrder.{item_of, IsHistoryOf}
 use Rattle.heap_system.specs.Machines as machines
 use Rattle.heap_system.specs.Serials.{job_bound}
 use Rattle.heap_system.specs.Systems.{Finish}
@@ -12,7 +12,7 @@ use Rattle.rtheap_core.specs.declared.schedules.Schedule.{Schedule}
 use Rattle.rtheap_core.specs.declared.schedules.Schedule.TheVariants.{Serial}
 use Rattle.atom_board.specs.threaded_runs.EndedRuns.{HasOwnTurns}
 use Rattle.trace_text.specs.Jobs.{Job}
-use Rattle.trace_text.specs.Orders.{IsOrderOf}
+use Rattle.trace_text.specs.OrderTexts.{IsOrderOf}
 use Rattle.rtheap_core.specs.declared.exit.RunEnd.{RunEnd}
 use Rattle.rtheap_core.specs.declared.exit.RunEnd.TheVariants.{Replayed}
 use Rattle.exit_statuses.specs.declared.refusal.Refusal.{Refusal}

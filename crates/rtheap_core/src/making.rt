@@ -4,9 +4,9 @@ ghost use Rattle.std.specs.Prelude.{◌≡◌, ◌≢◌, ◌⊎◌, ◌≤◌, 
 ghost use Rattle.trace_text.specs.Faults.{Rose};
 ghost use Rattle.trace_text.specs.Jobs.{IsJobInBounds};
 ghost use Rattle.trace_text.specs.JobTexts.{job_text};
-ghost use Rattle.trace_text.specs.Texts.{totals_line};
+ghost use Rattle.trace_text.specs.RunTexts.{totals_line};
 ghost use Rattle.rtheap_core.specs.declared.task.Task.TheVariants.{Make, Trial};
-ghost use Rattle.rtheap_core.specs.Calls.{IsCarriedOut};
+ghost use Rattle.rtheap_core.specs.TopCalls.{IsCarriedOut};
 ghost use Rattle.exit_statuses.specs.Exits.{IsWritten};
 ghost use Rattle.rtheap_core.specs.Generated.{generated_job};
 ghost use Rattle.rtheap_core.specs.Outcomes.{HasTotals};
@@ -23,7 +23,7 @@ use std::alloc::Global;
 use trace_text::{Job, LineBuffer, Sink, WRITE_FAULT, fill_totals, write_job};
 
 /// Writes a generated job.
-pub fn make_told<K: Sink>(alloc: Global, sink: &mut K, key: u64, lines: u32) -> Exit
+pub fn make_and_report<K: Sink>(alloc: Global, sink: &mut K, key: u64, lines: u32) -> Exit
     requires { lines ≤ most_lines }
     ensures { (words : List (List ℕ)) (source : Sides) → IsUntouched source
         → AsksFor words (Make key lines) → IsCarriedOut (record {
@@ -40,7 +40,7 @@ pub fn make_told<K: Sink>(alloc: Global, sink: &mut K, key: u64, lines: u32) -> 
 }
 
 /// Runs a generated job by serial turns, and writes its totals.
-pub fn trial_told<K: Sink>(alloc: Global, sink: &mut K, key: u64, lines: u32) -> Exit
+pub fn trial_and_report<K: Sink>(alloc: Global, sink: &mut K, key: u64, lines: u32) -> Exit
     requires { lines ≤ most_lines }
     ensures { (words : List (List ℕ)) (source : Sides) → IsUntouched source
         → AsksFor words (Trial key lines) → IsCarriedOut (record {

@@ -3,7 +3,7 @@
 ghost use Rattle.std.specs.Prelude.{◌≡◌, ◌≢◌, ◌⊎◌, List, ℕ, None, IfOk, IfErr, OnOk};
 ghost use Rattle.trace_text.specs.Faults.{Rose};
 ghost use Rattle.rtheap_core.specs.declared.task.Task.TheVariants.{Plan};
-ghost use Rattle.rtheap_core.specs.Calls.{IsCarriedOut};
+ghost use Rattle.rtheap_core.specs.TopCalls.{IsCarriedOut};
 ghost use Rattle.exit_statuses.specs.Exits.{IsWritten};
 ghost use Rattle.rtheap_core.specs.Exits.{rate_text};
 ghost use Rattle.rtheap_core.specs.Outcomes.{HasRate};
@@ -19,7 +19,7 @@ use std::alloc::Global;
 use trace_text::{LineBuffer, Sink, Source};
 
 /// Reads a job and writes its rate.
-pub fn plan_told<S: Source, K: Sink>(alloc: Global, source: &mut S, sink: &mut K) -> Exit
+pub fn plan_and_report<S: Source, K: Sink>(alloc: Global, source: &mut S, sink: &mut K) -> Exit
     ensures { (words : List (List ℕ)) → AsksFor words Plan → IsCarriedOut (record {
       words = words;
       source = sides S.left S.faults source.old source.new;

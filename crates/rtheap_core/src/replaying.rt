@@ -4,10 +4,10 @@ ghost use Rattle.std.specs.Prelude.{◌≡◌, ◌≢◌, ◌⊎◌, ◌≤◌, 
 ghost use Rattle.heap_system.specs.Systems.{units_of as units_in};
 ghost use Rattle.never_heap.specs.declared.Item.{Item};
 ghost use Rattle.trace_text.specs.Faults.{Rose};
-ghost use Rattle.trace_text.specs.Orders.{order_text};
+ghost use Rattle.trace_text.specs.OrderTexts.{order_text};
 ghost use Rattle.rtheap_core.specs.declared.exit.RunEnd.TheVariants as ends;
 ghost use Rattle.rtheap_core.specs.declared.task.Task.TheVariants.{Replay};
-ghost use Rattle.rtheap_core.specs.Calls.{IsCarriedOut};
+ghost use Rattle.rtheap_core.specs.TopCalls.{IsCarriedOut};
 ghost use Rattle.exit_statuses.specs.Exits.{IsWritten};
 ghost use Rattle.rtheap_core.specs.Outcomes.{HasReplay, HasOrder};
 ghost use Rattle.exit_statuses.specs.Sides.{sides};
@@ -25,7 +25,7 @@ use std::alloc::Global;
 use trace_text::{Sink, Source, WRITE_FAULT, orders_tell_histories, write_order};
 
 /// Reads a job, makes the turns of a schedule, at most so many, and writes the run in order.
-pub fn replay_told<S: Source, K: Sink>(
+pub fn replay_and_report<S: Source, K: Sink>(
     alloc: Global,
     source: &mut S,
     sink: &mut K,

@@ -3,10 +3,10 @@
 ghost use Rattle.std.specs.Prelude.{◌≡◌, ◌≢◌, ◌⊎◌, List, ℕ, Some, IfOk, IfErr, OnOk};
 ghost use Rattle.heap_system.specs.Systems.{units_of as units_in};
 ghost use Rattle.trace_text.specs.Faults.{Rose};
-ghost use Rattle.trace_text.specs.Texts.{run_text};
+ghost use Rattle.trace_text.specs.RunTexts.{run_text};
 ghost use Rattle.rtheap_core.specs.declared.exit.RunEnd.TheVariants as ends;
 ghost use Rattle.rtheap_core.specs.declared.task.Task.TheVariants.{Run};
-ghost use Rattle.rtheap_core.specs.Calls.{IsCarriedOut};
+ghost use Rattle.rtheap_core.specs.TopCalls.{IsCarriedOut};
 ghost use Rattle.exit_statuses.specs.Exits.{IsWritten};
 ghost use Rattle.rtheap_core.specs.Outcomes.{HasRun};
 ghost use Rattle.exit_statuses.specs.Sides.{sides};
@@ -25,7 +25,7 @@ use std::thread::Threads;
 use trace_text::{Sink, Source, WRITE_FAULT, write_run};
 
 /// Reads a job, runs its threads beside each other, and writes the run by threads.
-pub fn run_told<R: Threads + Wait + Sync, S: Source, K: Sink, Q: Pace>(
+pub fn run_and_report<R: Threads + Wait + Sync, S: Source, K: Sink, Q: Pace>(
     rt: &R,
     alloc: Global,
     source: &mut S,

@@ -2,7 +2,7 @@
 
 ghost use Rattle.std.specs.Prelude.{◌≡◌, map, string_bytes, IfSome};
 ghost use Rattle.rtheap_core.specs.declared.exit.RunEnd.{RunEnd};
-ghost use Rattle.rtheap_core.specs.Calls.{IsCarriedOut, IsComplete};
+ghost use Rattle.rtheap_core.specs.TopCalls.{IsCarriedOut, IsComplete};
 ghost use Rattle.rtheap_core.specs.EndedRuns.{logs_of, cycles_of, units_of};
 ghost use Rattle.rtheap_core.specs.Exits.{NeverFull};
 ghost use Rattle.rtheap_core.specs.OneHistory.{HasOneHistory};
@@ -11,10 +11,10 @@ ghost use Rattle.exit_statuses.specs.Sides.{sides};
 
 use crate::exit::{Exit, RunEnd};
 use crate::laws::{early_cycles_have_no_full, texts_are_lives};
-use crate::making::{make_told, trial_told};
-use crate::planning::plan_told;
-use crate::replaying::replay_told;
-use crate::running::run_told;
+use crate::making::{make_and_report, trial_and_report};
+use crate::planning::plan_and_report;
+use crate::replaying::replay_and_report;
+use crate::running::run_and_report;
 use crate::schedules::replays_end;
 use crate::task::Task;
 use crate::telling::refused;
@@ -108,12 +108,12 @@ fn carried_out<R: Threads + Wait + Sync, S: Source, K: Sink, Q: Pace>(
 {
     match Task::of(words) {
         None => refused(Refusal::Usage, sink),
-        Some(Task::Run) => run_told(rt, alloc, source, sink, pace),
+        Some(Task::Run) => run_and_report(rt, alloc, source, sink, pace),
         Some(Task::Replay { schedule, turns }) => {
-            replay_told(alloc, source, sink, schedule, turns)
+            replay_and_report(alloc, source, sink, schedule, turns)
         }
-        Some(Task::Plan) => plan_told(alloc, source, sink),
-        Some(Task::Make { key, lines }) => make_told(alloc, sink, key, lines),
-        Some(Task::Trial { key, lines }) => trial_told(alloc, sink, key, lines),
+        Some(Task::Plan) => plan_and_report(alloc, source, sink),
+        Some(Task::Make { key, lines }) => make_and_report(alloc, sink, key, lines),
+        Some(Task::Trial { key, lines }) => trial_and_report(alloc, sink, key, lines),
     }
 }

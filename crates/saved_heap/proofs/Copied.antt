@@ -15,8 +15,8 @@ use Rattle.saved_heap.specs.heap_pictures.UpToNames.{AreOneUpToNames}
 use Rattle.saved_heap.proofs.heap_pictures.Building.{after_append}
 use Rattle.control_heap.specs.Controls.{Control, HasAnswered, Stands}
 use Rattle.control_heap.specs.WayBack.{AllDone, NoneFull}
-use Rattle.control_heap.specs.graph_view.Asked.{HasDone, HasDoneAll}
-use Rattle.control_heap.specs.graph_view.Shown.{Goes, Leaves}
+use Rattle.control_heap.specs.graph_view.RunsOfCommands.{HasDone, HasDoneAll}
+use Rattle.control_heap.specs.graph_view.ShownGraph.{Goes, Leaves}
 use Rattle.saved_heap.specs.declared.faults.CopyFault.{CopyFault}
 use Rattle.saved_heap.specs.declared.faults.CopyFault.TheVariants as copy_faults
 use Rattle.saved_heap.specs.Faults.{IsCopyFault, StopsAt}

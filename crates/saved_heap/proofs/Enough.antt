@@ -21,7 +21,7 @@ use Rattle.never_heap.specs.Licensed.{Licensed}
 use Rattle.never_heap.specs.LiveBlocks.{live_blocks, object_blocks}
 use Rattle.never_heap.specs.RightWork.{RightWork, units_owed}
 use Rattle.never_heap.specs.Steps.{blocks_of, makes_object, step}
-use Rattle.never_heap.proofs.StepAnswers.{step_not_full}
+use Rattle.never_heap.proofs.Lemmas.{step_not_full}
 use Rattle.heap_system.specs.Lives.{objects_of, sum_after, most_commands, most_objects, most_units}
 use Rattle.heap_system.specs.Machines.{Run}
 use Rattle.saved_heap.specs.heap_pictures.Needs.{Meets, needs_of, table_blocks}
@@ -31,8 +31,8 @@ use Rattle.control_heap.specs.declared.control.OpenFault.TheVariants as opening
 use Rattle.control_heap.specs.declared.control.Refused.{Refused}
 use Rattle.control_heap.specs.Controls.{CanOpen, Control, HasAnswered, HasLeft, Stands, asked, units}
 use Rattle.control_heap.specs.Refusals.{IsOpenFault, IsRefused}
-use Rattle.control_heap.specs.graph_view.Asked.{HasDone, HasDoneAll, HasRoomFor, RefusesOne}
-use Rattle.control_heap.specs.graph_view.Shown.{AllAreSmall, HasMetNoFull, IsSmall, StaySmall}
+use Rattle.control_heap.specs.graph_view.RunsOfCommands.{HasDone, HasDoneAll, HasRoomFor, RefusesOne}
+use Rattle.control_heap.specs.graph_view.ShownGraph.{AllAreSmall, HasMetNoFull, IsSmall, StaySmall}
 use Rattle.control_heap.proofs.graph_view.GraphAnswers.{never_ok}
 use Rattle.saved_heap.specs.declared.faults.CopyFault.{CopyFault}
 use Rattle.saved_heap.specs.declared.faults.CopyFault.TheVariants as copy_faults

@@ -19,7 +19,7 @@ use Rattle.saved_heap.specs.heap_pictures.UpToNames.{AreOneUpToNames}
 use Rattle.saved_heap.proofs.heap_pictures.Building.{after_append}
 use Rattle.control_heap.specs.Controls.{Control, Stands}
 use Rattle.control_heap.specs.WayBack.{AllDone}
-use Rattle.control_heap.specs.graph_view.Shown.{Goes, Leaves, graph_at_last, graph_told}
+use Rattle.control_heap.specs.graph_view.ShownGraph.{Goes, Leaves, graph_at_last, graph_told}
 use Rattle.control_heap.proofs.graph_view.GraphAnswers.{goes_ok}
 use Rattle.saved_heap.specs.Follows.{HasFollowed, HasReplied, IsFollowed, all_noted, noted}
 use Rattle.saved_heap.proofs.Copied.{answered_on}

@@ -9,12 +9,12 @@ use Rattle.saved_heap.specs.heap_pictures.Plans.{plan_of}
 use Rattle.saved_heap.specs.heap_pictures.Reading.{picture_at}
 use Rattle.saved_heap.specs.heap_pictures.Spelling.{saved}
 use Rattle.saved_heap.specs.heap_pictures.UpToNames.{AreOneUpToNames}
-use Rattle.saved_heap.proofs.heap_pictures.Again.{saved_again}
+use Rattle.saved_heap.proofs.heap_pictures.ReadAgain.{saved_again}
 use Rattle.control_heap.specs.Controls.{Control}
 use Rattle.saved_heap.specs.declared.faults.RenewFault.{RenewFault}
 use Rattle.saved_heap.specs.declared.faults.RenewFault.TheVariants as renew_faults
 use Rattle.saved_heap.specs.Faults.{CannotBuild, CannotRenew}
-use Rattle.saved_heap.specs.Orders.{IsInOrder}
+use Rattle.saved_heap.specs.SearchOrder.{IsInOrder}
 use Rattle.saved_heap.specs.Renewals.{IsBuilt, IsBuiltFrom, IsPictureOf, ShowOneGraph, ShowsUpToNames}
 
 abbrev done : Content → Result Content SaveFault

@@ -19,7 +19,7 @@ use Rattle.control_heap.specs.Images.{HasRun, Image, image_of}
 use Rattle.control_heap.specs.Seen.{HasSeen, IsSeen, IsSeenAt, value_seen}
 use Rattle.control_heap.specs.declared.control.seen.Seen.{Seen}
 use Rattle.control_heap.proofs.SeenRead.{exists_in, one_name, sixteen_in}
-use Rattle.saved_heap.specs.Orders.{AreInTurn, AreSearched, IsInOrder, named_after}
+use Rattle.saved_heap.specs.SearchOrder.{AreInTurn, AreSearched, IsInOrder, named_after}
 use Rattle.saved_heap.specs.Walks.{AreFieldsOf, AreLow, AreRegisters, Grows, HasNumber, HasNumberAt, HasRead, IsEmpty, IsFound, IsItem, IsReading, IsWalk, Reads, ReadsItem, State, Walks, block_seen, is_whole, number_at, numbered, numbered_at}
 use Rattle.saved_heap.specs.Renewals.{IsPictureOf}
 use Rattle.saved_heap.proofs.Walking.{Each, each_at, each_push, grows_on, push_low, some_on, values_on}

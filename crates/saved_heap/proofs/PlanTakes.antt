@@ -13,7 +13,7 @@ use Rattle.never_heap.specs.declared.Command.TheVariants as commands
 use Rattle.never_heap.specs.Bounds.{IsCommandInBounds}
 use Rattle.never_heap.specs.Graphs.{Object, ObjectKind, Record, Array}
 use Rattle.never_heap.specs.LiveBlocks.{blocks_of_kind, object_blocks}
-use Rattle.never_heap.specs.RightWork.{units_owed, units_told}
+use Rattle.never_heap.specs.RightWork.{units_owed, requested_units}
 use Rattle.never_heap.specs.Steps.{blocks_of}
 use Rattle.heap_system.specs.Lives.{objects_of, sum_after}
 use Rattle.saved_heap.specs.heap_pictures.Needs.{largest, table_blocks}
@@ -32,7 +32,7 @@ module _ (c : Config) (rate : ℕ) where
   none : (l : ℕ) → Takes [] 0 l
   none l = record { bounds = tt; blocks = refl; units = omega arith; few = omega arith }
 
-  more : (k : Command) (ks : List Command) (b l : ℕ) → IsCommandInBounds c k → units_told k ≡ 0 → Takes ks b l
+  more : (k : Command) (ks : List Command) (b l : ℕ) → IsCommandInBounds c k → requested_units k ≡ 0 → Takes ks b l
       → Takes (k ∷ ks) (blocks_of c.width k + b) (suc l)
   more k ks b l can told rest = record {
     bounds = (can, rest.bounds);
@@ -44,7 +44,7 @@ module _ (c : Config) (rate : ℕ) where
   }
 
   -- a command that makes no object
-  plain : (k : Command) (ks : List Command) (b l : ℕ) → IsCommandInBounds c k → units_told k ≡ 0 → blocks_of c.width k ≡ 0 → Takes ks b l
+  plain : (k : Command) (ks : List Command) (b l : ℕ) → IsCommandInBounds c k → requested_units k ≡ 0 → blocks_of c.width k ≡ 0 → Takes ks b l
       → Takes (k ∷ ks) b (suc l)
   plain k ks b l can told nothing rest =
       subst (λ x. Takes (k ∷ ks) x (suc l)) (ap (λ x. x + b) nothing ∙ (let e : 0 + b ≡ b = omega arith in e)) (more k ks b l can told rest)
@@ -88,7 +88,7 @@ module _ (c : Config) (rate : ℕ) where
   can_load n d (Ref a) low few within =
       let parts = named_parts n a within in can_get d 1 a.serial low (omega arith) (omega (arith, parts.2, few))
 
-  told_load : (d : ℕ) (v : Value) → units_told (load d v) ≡ 0
+  told_load : (d : ℕ) (v : Value) → requested_units (load d v) ≡ 0
   told_load d Nil = refl
   told_load d (Int x) = refl
   told_load d (Ref a) = refl
@@ -106,7 +106,7 @@ module _ (c : Config) (rate : ℕ) where
       made_of Array n = refl
 
   can_make : (k : ObjectKind) (n : ℕ) → n ≤ 65535 → blocks_of_kind c.width k n ≤ c.object
-      → IsCommandInBounds c (make_of k n) × (units_told (make_of k n) ≡ 0)
+      → IsCommandInBounds c (make_of k n) × (requested_units (make_of k n) ≡ 0)
   can_make Record n short low = (record { range = (omega arith, short); blocks = low; units = omega arith; version = tt }, refl)
   can_make Array n short low = (record { range = (omega arith, short); blocks = low; units = omega arith; version = tt }, refl)
 

@@ -11,7 +11,7 @@ use Rattle.heap_system.specs.Machines.{Run}
 use Rattle.saved_heap.proofs.heap_pictures.Lists.{at_front, length_front}
 use Rattle.control_heap.specs.Seen.{IsSeen, IsSeenAt}
 use Rattle.control_heap.specs.declared.control.seen.Seen.{Seen}
-use Rattle.saved_heap.specs.Orders.{AreInTurn, named_after, serial_in}
+use Rattle.saved_heap.specs.SearchOrder.{AreInTurn, named_after, serial_in}
 use Rattle.saved_heap.specs.Walks.{AreLow, Grows, HasNamed, HasNoted, HasNumber, HasNumberAt, IsFound, IsWalk, Reads, ReadsOne, State, block_seen, number_at, numbered, numbered_at}
 
 -- ---- lists

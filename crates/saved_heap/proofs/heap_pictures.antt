@@ -1,7 +1,7 @@
 pub mod Lists
 pub mod Building
 pub mod OneUpToNames
-pub mod Again
+pub mod ReadAgain
 pub mod Loop
 pub mod LoopsOf
 pub mod PlanLists

@@ -14,8 +14,8 @@ use Rattle.saved_heap.specs.heap_pictures.Reading.{picture_at}
 use Rattle.control_heap.specs.Calls.{refused_text}
 use Rattle.control_heap.specs.Controls.{Control, HasAnswered}
 use Rattle.control_heap.specs.Refusals.{IsOpenFault, IsRefused, open_fault_text}
-use Rattle.control_heap.specs.graph_view.Asked.{HasDone}
-use Rattle.control_heap.specs.graph_view.Shown.{Leaves}
+use Rattle.control_heap.specs.graph_view.RunsOfCommands.{HasDone}
+use Rattle.control_heap.specs.graph_view.ShownGraph.{Leaves}
 use Rattle.saved_heap.specs.declared.faults.CopyFault.{CopyFault}
 use Rattle.saved_heap.specs.declared.faults.CopyFault.TheVariants as copy_faults
 use Rattle.saved_heap.specs.declared.faults.LoadFault.{LoadFault}
@@ -27,7 +27,7 @@ use Rattle.saved_heap.specs.declared.faults.OnFault.TheVariants as on_faults
 use Rattle.saved_heap.specs.declared.faults.RenewFault.{RenewFault}
 use Rattle.saved_heap.specs.declared.faults.RenewFault.TheVariants as renew_faults
 use Rattle.saved_heap.specs.Enough.{SomeIsEnough}
-use Rattle.saved_heap.specs.Orders.{IsInOrder}
+use Rattle.saved_heap.specs.SearchOrder.{IsInOrder}
 use Rattle.saved_heap.specs.Renewals.{HasBuilt, IsOpened, IsPictureOf}
 
 -- A command was answered `Full`, and the heap has the graph from before; or it was refused, and the

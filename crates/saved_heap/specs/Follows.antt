@@ -9,7 +9,7 @@ use Rattle.saved_heap.specs.heap_pictures.Pictures.{Content}
 use Rattle.saved_heap.specs.heap_pictures.Plans.{plan_of}
 use Rattle.control_heap.specs.Controls.{Control, HasAnswered, HasLeft}
 use Rattle.control_heap.specs.WayBack.{AllDone}
-use Rattle.control_heap.specs.graph_view.Shown.{Leaves, graph_at_last}
+use Rattle.control_heap.specs.graph_view.ShownGraph.{Leaves, graph_at_last}
 use Rattle.saved_heap.specs.Renewals.{IsPictureOf, ShowsUpToNames}
 
 -- a command with this reply, where it has to be done on the copy: not where it was answered `Full`,

@@ -1,4 +1,4 @@
-pub mod Orders
+pub mod SearchOrder
 pub mod Walks
 pub mod Renewals
 pub mod Follows

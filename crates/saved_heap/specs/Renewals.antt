@@ -11,9 +11,9 @@ use Rattle.saved_heap.specs.heap_pictures.UpToNames.{AreOneUpToNames}
 use Rattle.heap_system.specs.Machines.{Run}
 use Rattle.control_heap.specs.Controls.{Control, Stands, asked, units}
 use Rattle.control_heap.specs.WayBack.{AllDone, NoneFull}
-use Rattle.control_heap.specs.graph_view.Asked.{HasDoneAll}
-use Rattle.control_heap.specs.graph_view.Shown.{Leaves}
-use Rattle.saved_heap.specs.Orders.{IsInOrder}
+use Rattle.control_heap.specs.graph_view.RunsOfCommands.{HasDoneAll}
+use Rattle.control_heap.specs.graph_view.ShownGraph.{Leaves}
+use Rattle.saved_heap.specs.SearchOrder.{IsInOrder}
 
 -- the new heap, the commands that build it, how many of them are done, and for how many more there
 -- is room

@@ -10,7 +10,7 @@ use Rattle.heap_system.specs.Machines.{Run}
 use Rattle.control_heap.specs.Images.{HasRun, Image}
 use Rattle.control_heap.specs.Seen.{HasSeen, IsSeen, IsSeenAt, value_seen}
 use Rattle.control_heap.specs.declared.control.seen.Seen.{Seen}
-use Rattle.saved_heap.specs.Orders.{AreInTurn, AreSearched, named_after}
+use Rattle.saved_heap.specs.SearchOrder.{AreInTurn, AreSearched, named_after}
 use Rattle.saved_heap.specs.declared.walk.Found.{Found}
 
 -- the references that were found, in their order; and of each block the number of its object,

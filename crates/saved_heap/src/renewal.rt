@@ -9,7 +9,7 @@ ghost use Rattle.saved_heap.specs.heap_pictures.Plans.{graph_after, plan_of};
 ghost use Rattle.block_store.specs.declared.Config.{Config};
 ghost use Rattle.control_heap.specs.Controls.{CanOpen, Control, asked};
 ghost use Rattle.control_heap.specs.Unused.{IsUnused};
-ghost use Rattle.control_heap.specs.graph_view.Shown.{Leaves};
+ghost use Rattle.control_heap.specs.graph_view.ShownGraph.{Leaves};
 ghost use Rattle.saved_heap.specs.Follows.{HasFollowed, IsFollowed};
 ghost use Rattle.saved_heap.specs.Renewals.{HasBuilt, IsBuilt, IsBuiltFrom, IsOpened, ShowOneGraph, ShowsPicture, ShowsUpToNames, rest_of};
 ghost use Rattle.saved_heap.specs.declared.faults.OnFault.TheVariants.{NotAllowed, Used};

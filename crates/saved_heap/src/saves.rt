@@ -8,7 +8,7 @@ ghost use Rattle.saved_heap.specs.heap_pictures.Reading.{picture_at};
 ghost use Rattle.control_heap.specs.Controls.{Control};
 ghost use Rattle.saved_heap.specs.Enough.{SomeIsEnough, IsEnough, IsLoadOutOfMemory};
 ghost use Rattle.saved_heap.specs.Faults.{IsLoadFault, IsNotSaved};
-ghost use Rattle.saved_heap.specs.Orders.{IsInOrder};
+ghost use Rattle.saved_heap.specs.SearchOrder.{IsInOrder};
 ghost use Rattle.saved_heap.specs.Renewals.{IsBuilt, IsPictureOf, ShowOneGraph, ShowsUpToNames};
 
 use crate::heap_pictures::{Picture, ReadError, decode, encode, names_follow_one_another};

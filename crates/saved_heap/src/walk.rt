@@ -3,7 +3,7 @@
 ghost use Rattle.std.specs.Prelude.{◌≡◌, ◌^◌, ◌<◌, ◌++◌, ◌∷◌, [], ℕ, suc, true, length, slice_index, slice_set, IfOk, OnOk};
 ghost use Rattle.saved_heap.specs.heap_pictures.Pictures.{content_of, is_sound, kind_of, view};
 ghost use Rattle.control_heap.specs.Seen.{kind_seen};
-ghost use Rattle.saved_heap.specs.Orders.{IsInOrder};
+ghost use Rattle.saved_heap.specs.SearchOrder.{IsInOrder};
 ghost use Rattle.saved_heap.specs.Renewals.{IsPictureOf};
 ghost use Rattle.saved_heap.specs.Walks.{AreRegisters, HasNoted, IsEmpty, Reads, ReadsItem, ReadsOne, state_of};
 

@@ -7,34 +7,32 @@ use Rattle.never_heap.specs.declared.Command.{Command}
 use Rattle.never_heap.specs.declared.Entry.{Entry}
 use Rattle.never_heap.specs.declared.Reply.{Reply}
 use Rattle.never_heap.specs.Histories.{part}
-use Rattle.never_heap.proofs.HistoryGrowth.{part_append}
+use Rattle.never_heap.proofs.Lemmas.{part_append}
 use Rattle.heap_system.specs.Lives.{sum_after, objects_of}
 use Rattle.heap_system.specs.Locals.{LocalState, is_done, works}
-use Rattle.heap_system.proofs.OwedAndPaid.{works_append}
-use Rattle.heap_system.proofs.TraceSums.{sum_more}
-use Rattle.heap_system.proofs.TurnFacts.{as_long}
-use Rattle.control_heap.proofs.Behind.{behind_done, history_of as history_of_thread}
+use Rattle.heap_system.proofs.Lemmas.{as_long, sum_more, works_append}
+use Rattle.control_heap.proofs.DroppedHistory.{behind_done, history_of as history_of_thread}
 use Rattle.shared_heap.specs.declared.port.Port.{Port}
-use Rattle.shared_heap.specs.declared.rules.Held.{Held}
+use Rattle.shared_heap.specs.declared.rules.ThreadView.{ThreadView}
 use Rattle.shared_heap.specs.declared.rules.Moment.{Moment}
 use Rattle.shared_heap.specs.declared.rules.Moment.TheVariants as moments
-use Rattle.shared_heap.specs.declared.rules.Past.{Past}
+use Rattle.shared_heap.specs.declared.rules.SeenHistory.{SeenHistory}
 use Rattle.shared_heap.specs.declared.rules.View.{View}
 use Rattle.shared_heap.specs.Shared.{IsOfRun, behind, held, held_of, history_of, later_past}
 use Rattle.shared_heap.specs.Ports.{HasThread, HasGoneOn, HasSeenMore}
 use Rattle.shared_heap.specs.Spans.{IsInTime}
 use Rattle.shared_heap.specs.Turns.{GoesFar}
 use Rattle.shared_heap.specs.Pending.{Awaits, IsPending, IsStillPending, MadeMore, PendingState, pending_of, start_pending}
-use Rattle.shared_heap.specs.Workers.{HasAnswered, HasMade, IsKept, IsSame, Keeps, WorkerState, worker_of}
+use Rattle.shared_heap.specs.Workers.{HasAnswered, HasMade, IsMirrored, IsSame, Mirrors, WorkerState, worker_of}
 use Rattle.shared_heap.proofs.Asking.{held_is, is_kept, is_pending, notes_are, sound_of}
-use Rattle.shared_heap.proofs.Rests.{its_part, its_said}
-use Rattle.shared_heap.proofs.Runs.{far_behind}
+use Rattle.shared_heap.proofs.ThreadFacts.{its_part, its_said}
+use Rattle.shared_heap.proofs.ThreadAfterEvents.{far_behind}
 use Rattle.shared_heap.proofs.Timelines.{history_append, history_start}
 use Rattle.shared_heap.proofs.Views.{starts_on}
 
 -- a pending command: what its seat knows, and what is in memory
 module _ (me : table.Me Command View) (id : TableId) (l : LocalState) (n o : ℕ) (is : IsPending me id l n o) where
-  abbrev past : Past
+  abbrev past : SeenHistory
   past = (held_of l me.0.threads).past
 
   abbrev ks : List Command
@@ -44,7 +42,7 @@ module _ (me : table.Me Command View) (id : TableId) (l : LocalState) (n o : ℕ
   es = past.call.local.log
 
   -- its thread
-  abbrev here : Held
+  abbrev here : ThreadView
   here = held (behind ks es l) past
 
   here_is : held_of l me.0.threads ≡ here
@@ -69,20 +67,20 @@ module _ (me : table.Me Command View) (id : TableId) (l : LocalState) (n o : ℕ
     abbrev seen_more : HasSeenMore ks es past l ws after z
     seen_more = on.front ks es past is.long is.knows
 
-    abbrev then_past : Past
+    abbrev then_past : SeenHistory
     then_past = later_past seen_more.now seen_more.turns (past.span.own + length ws) past
 
-    abbrev then_held : Held
+    abbrev then_held : ThreadView
     then_held = held (behind ks es z) then_past
 
     same_held : held (behind has.commands has.entries z) has.past ≡ then_held
     same_held = sym (held_is after z (held (behind has.commands has.entries z) has.past) [] has.knows) ∙ held_is after z then_held [] seen_more.knows
 
     told_then : IsOfRun z.config then_past (behind ks es z)
-    told_then = subst (λ (x : Held). IsOfRun z.config x.past x.local) same_held has.told
+    told_then = subst (λ (x : ThreadView). IsOfRun z.config x.past x.local) same_held has.told
 
     few_then : IsInTime z.config then_past.call.command then_past.span
-    few_then = subst (λ (x : Held). IsInTime z.config x.past.call.command x.past.span) same_held has.few
+    few_then = subst (λ (x : ThreadView). IsInTime z.config x.past.call.command x.past.span) same_held has.few
 
     awaits_then : Awaits then_past after own_after z n o
     awaits_then = record {
@@ -173,7 +171,7 @@ module _ (me : table.Me Command View) (id : TableId) (l : LocalState) (n o : ℕ
         single (x ∷ []) e = refl
         single (x ∷ y ∷ es) e = absurd (omega arith)
 
-    keeps_then : Keeps here [] me id l n o
+    keeps_then : Mirrors here [] me id l n o
     keeps_then = record {
       knows = is.knows;
       history = history_of_thread whole l ks es refl;
@@ -187,7 +185,7 @@ module _ (me : table.Me Command View) (id : TableId) (l : LocalState) (n o : ℕ
       words = is.words;
     }
 
-    kept_then : IsKept me id l n o
+    kept_then : IsMirrored me id l n o
     kept_then = is_kept me id l here [] n o keeps_then
 
     command_is : (d : Entry) → (answer d).command ≡ past.call.command
@@ -198,7 +196,7 @@ module _ (me : table.Me Command View) (id : TableId) (l : LocalState) (n o : ℕ
         ap (λ xs. xs ++ (answer d).command ∷ []) (sym is.said) ∙ sym (map-append (λ (e : Entry). e.command) es (answer d ∷ [])) ∙ ap (λ xs. map (λ (e : Entry). e.command) (es ++ xs)) (sym (log_is d)) ∙ said ∙ ap (λ cs. ks ++ cs) is.trace in
         ap (λ (xs : List Command). get_or xs 0 k) (append_cancel_left ks ((answer d).command ∷ []) (k ∷ []) all)
 
-    -- what the timeline has behind the command's invocation
+    -- what the timeline has after the command's invocation
     abbrev later : List Moment
     later = is.more.0
 
@@ -324,7 +322,7 @@ module _ {port : Port} {l : LocalState} {n o : ℕ} {after : Port} {z : LocalSta
     pub entry_now : length z.log ≡ 1
     entry_now = one_entry after.seat.me after.seat.table_id z n o pending_now done
 
-    pub kept_now : IsKept after.seat.me after.seat.table_id z n o
+    pub kept_now : IsMirrored after.seat.me after.seat.table_id z n o
     kept_now = kept_then after.seat.me after.seat.table_id z n o pending_now done
 
     pub ended : (old : PendingState)

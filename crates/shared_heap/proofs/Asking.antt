@@ -14,41 +14,40 @@ use Rattle.never_heap.specs.Histories.{part}
 use Rattle.never_heap.specs.RightWork.{units_owed}
 use Rattle.heap_system.specs.Lives.{objects_of, most_commands, most_units, most_objects}
 use Rattle.heap_system.specs.Locals.{LocalState, IsLocal, begun, is_done, is_rest, works}
-use Rattle.heap_system.proofs.TraceSums.{sum_last}
-use Rattle.heap_system.proofs.TurnFacts.{at_rest, as_long}
+use Rattle.heap_system.proofs.Lemmas.{as_long, at_rest, sum_last}
 use Rattle.control_heap.specs.Growth.{given}
-use Rattle.control_heap.proofs.Behind.{given_behind}
+use Rattle.control_heap.proofs.DroppedHistory.{given_behind}
 use Rattle.control_heap.proofs.GrownJobs.{HasRoomFor}
-use Rattle.shared_heap.specs.declared.rules.Held.{Held}
+use Rattle.shared_heap.specs.declared.rules.ThreadView.{ThreadView}
 use Rattle.shared_heap.specs.declared.rules.Moment.{Moment}
 use Rattle.shared_heap.specs.declared.rules.Moment.TheVariants as moments
-use Rattle.shared_heap.specs.declared.rules.Past.{Past}
+use Rattle.shared_heap.specs.declared.rules.SeenHistory.{SeenHistory}
 use Rattle.shared_heap.specs.declared.rules.View.{View}
 use Rattle.shared_heap.specs.Shared.{AllOfRuns, AllSeenIn, Gives, IsOfRun, IsStartOf, behind, first_held, given_of, given_past, gives_on, held, held_of, history_of, one_view}
 use Rattle.shared_heap.specs.Pending.{Awaits, HasAnnounced, IsPending, MayAnnounce, PendingState, pending_of, start_pending}
-use Rattle.shared_heap.specs.Workers.{AllStart, HasLeft, HasRoom, HasSeenIts, IsDealt, IsKept, Keeps, WorkerState, worker_of}
-use Rattle.shared_heap.proofs.Rests.{its_fits, its_legal, its_licensed, its_part, its_rate, its_right, its_said, its_spent, part_begun, room_for}
+use Rattle.shared_heap.specs.Workers.{AllStart, HasLeft, HasRoom, HasSeenIts, IsDealt, IsMirrored, Mirrors, WorkerState, worker_of}
+use Rattle.shared_heap.proofs.ThreadFacts.{its_fits, its_legal, its_licensed, its_part, its_rate, its_right, its_said, its_spent, part_begun, room_for}
 use Rattle.shared_heap.proofs.Timelines.{invoked_history, noted_start}
 use Rattle.shared_heap.proofs.Views.{starts_itself}
 
 -- what the seat knows is one thread with these notes
-pub held_is : (me : table.Me Command View) (l : LocalState) (h : Held) (ns : List (List Moment)) → me ≡ (one_view h ns, []) → held_of l me.0.threads ≡ h
+pub held_is : (me : table.Me Command View) (l : LocalState) (h : ThreadView) (ns : List (List Moment)) → me ≡ (one_view h ns, []) → held_of l me.0.threads ≡ h
 held_is me l h ns knows = ap (λ (m : table.Me Command View). held_of l m.0.threads) knows
 
-pub notes_are : (me : table.Me Command View) (h : Held) (ns : List (List Moment)) → me ≡ (one_view h ns, []) → me.0.notes ≡ ns
+pub notes_are : (me : table.Me Command View) (h : ThreadView) (ns : List (List Moment)) → me ≡ (one_view h ns, []) → me.0.notes ≡ ns
 notes_are me h ns knows = ap (λ (m : table.Me Command View). m.0.notes) knows
 
-pub is_kept : (me : table.Me Command View) (id : TableId) (l : LocalState) (h : Held) (ns : List (List Moment)) (n o : ℕ) → Keeps h ns me id l n o → IsKept me id l n o
+pub is_kept : (me : table.Me Command View) (id : TableId) (l : LocalState) (h : ThreadView) (ns : List (List Moment)) (n o : ℕ) → Mirrors h ns me id l n o → IsMirrored me id l n o
 is_kept me id l h ns n o k =
-    subst (λ y. Keeps (held_of l me.0.threads) y me id l n o) (sym (notes_are me h ns k.knows))
-    (subst (λ y. Keeps y ns me id l n o) (sym (held_is me l h ns k.knows)) k)
+    subst (λ y. Mirrors (held_of l me.0.threads) y me id l n o) (sym (notes_are me h ns k.knows))
+    (subst (λ y. Mirrors y ns me id l n o) (sym (held_is me l h ns k.knows)) k)
 
-pub is_pending : (p : Past) (me : table.Me Command View) (id : TableId) (l : LocalState) (n o : ℕ) → Awaits p me id l n o → IsPending me id l n o
+pub is_pending : (p : SeenHistory) (me : table.Me Command View) (id : TableId) (l : LocalState) (n o : ℕ) → Awaits p me id l n o → IsPending me id l n o
 is_pending p me id l n o a =
-    subst (λ x. Awaits x me id l n o) (sym (ap (λ (h : Held). h.past) (held_is me l (held (behind p.call.local.trace p.call.local.log l) p) [] a.knows))) a
+    subst (λ x. Awaits x me id l n o) (sym (ap (λ (h : ThreadView). h.past) (held_is me l (held (behind p.call.local.trace p.call.local.log l) p) [] a.knows))) a
 
 -- a worker at its start
-pub dealt_kept : (me : table.Me Command View) (id : TableId) (l : LocalState) → me ≡ (one_view (first_held l) [], []) → id.slots ≡ 0 → IsDealt id.words l → IsKept me id l 0 0
+pub dealt_kept : (me : table.Me Command View) (id : TableId) (l : LocalState) → me ≡ (one_view (first_held l) [], []) → id.slots ≡ 0 → IsDealt id.words l → IsMirrored me id l 0 0
 dealt_kept me id l knows slots is = is_kept me id l (first_held l) [] 0 0 (record {
   knows = knows;
   history = refl;
@@ -63,7 +62,7 @@ dealt_kept me id l knows slots is = is_kept me id l (first_held l) [] 0 0 (recor
 })
 
 -- what a worker has seen, and its part of it
-pub sound_of : (id : TableId) (h : Held) (ns : List (List Moment)) → IsOfRun h.local.config h.past h.local → is_done h.local ≡ true → HasSeenIts (worker_of id h ns)
+pub sound_of : (id : TableId) (h : ThreadView) (ns : List (List Moment)) → IsOfRun h.local.config h.past h.local → is_done h.local ≡ true → HasSeenIts (worker_of id h ns)
 sound_of id h ns told done = record {
   legal = its_legal h.local.config h.past h.local told;
   licensed = its_licensed h.local.config h.past h.local told;
@@ -76,8 +75,8 @@ sound_of id h ns told done = record {
 }
 
 -- a worker: what its seat knows, and what it has in memory
-module _ (me : table.Me Command View) (id : TableId) (l : LocalState) (n o : ℕ) (kept : IsKept me id l n o) where
-  abbrev pub one : Held
+module _ (me : table.Me Command View) (id : TableId) (l : LocalState) (n o : ℕ) (kept : IsMirrored me id l n o) where
+  abbrev pub one : ThreadView
   one = held_of l me.0.threads
 
   abbrev pub whole : LocalState
@@ -130,7 +129,7 @@ module _ (me : table.Me Command View) (id : TableId) (l : LocalState) (n o : ℕ
       abbrev pub gift : Gives k phase me given_me
       gift = gives k refl
 
-      abbrev pub past : Past
+      abbrev pub past : SeenHistory
       past = given_past k phase gift.now gift.turns me.0.notes one
 
       abbrev begun_now : LocalState
@@ -218,7 +217,7 @@ announced me id l k may given_me phase gives own same = record {
 -- a worker that is between two commands may announce one that is in bounds, and that its life has
 -- room for
 pub may_announce : (me : table.Me Command View) (id : TableId) (l : LocalState) (n o : ℕ)
-    → IsKept me id l n o → (old : WorkerState) (k : Command)
+    → IsMirrored me id l n o → (old : WorkerState) (k : Command)
     → worker_of id (held_of l me.0.threads) me.0.notes ≡ old
     → IsCommandInBounds old.thread.config k → HasLeft old k → MayAnnounce me id l k
 may_announce me id l n o kept old k is bounds left = record {

@@ -11,15 +11,15 @@ use Rattle.never_heap.specs.declared.Command.{Command}
 use Rattle.heap_system.specs.Locals.{LocalState, is_done}
 use Rattle.heap_system.specs.Machines.{Run, local_in}
 use Rattle.heap_system.specs.Systems.{Whole}
-use Rattle.heap_system.proofs.RunLaws.{kept_of}
-use Rattle.shared_heap.specs.declared.rules.Held.{Held}
+use Rattle.heap_system.proofs.Lemmas.{kept_of}
+use Rattle.shared_heap.specs.declared.rules.ThreadView.{ThreadView}
 use Rattle.shared_heap.specs.declared.rules.Moment.{Moment}
 use Rattle.shared_heap.specs.declared.rules.Moment.TheVariants as moments
-use Rattle.shared_heap.specs.declared.rules.Past.{Past}
+use Rattle.shared_heap.specs.declared.rules.SeenHistory.{SeenHistory}
 use Rattle.shared_heap.specs.declared.rules.View.{View}
 use Rattle.shared_heap.specs.Shared.{Fits, AllFit, AllNotedIn, AllSeenIn, AllTimed, IsCountUnlessWrapped, Draws, SharedKept, IsOfRun, IsStartOf, IsTimelineOf, held, later_past, one_view, stamps_in}
 use Rattle.shared_heap.specs.Spans.{IsTimed}
-use Rattle.shared_heap.proofs.Grown.{here}
+use Rattle.control_heap.proofs.RunGrowth.{here}
 use Rattle.shared_heap.proofs.Timelines.{stamps_append, timeline_stamped}
 use Rattle.shared_heap.proofs.Views.{noted_more, seats_set, seen_more, starts_itself}
 use Rattle.shared_heap.proofs.Words.{get_last, set_last}
@@ -32,7 +32,7 @@ counts_on n tl (inl is) = elim (cases_lt (n + 1) (2 ^ 64)) [
   | inr high ↦ inr (omega (arith, is, high, stamps_append tl (moments.Stamped ∷ [])))
 ]
 
-module _ (k : Whole) (s : table.State Command View) (kept : SharedKept k s) (id : ℕ) (h : Held) (ns : List (List Moment)) (at : get_elem? s.views id ≡ some (one_view h ns)) (done : is_done h.local ≡ true) (place : ℕ) (last : place ≡ words_count (extent k.config)) where
+module _ (k : Whole) (s : table.State Command View) (kept : SharedKept k s) (id : ℕ) (h : ThreadView) (ns : List (List Moment)) (at : get_elem? s.views id ≡ some (one_view h ns)) (done : is_done h.local ≡ true) (place : ℕ) (last : place ≡ words_count (extent k.config)) where
   abbrev c : Config
   c = k.config
 
@@ -60,7 +60,7 @@ module _ (k : Whole) (s : table.State Command View) (kept : SharedKept k s) (id 
   lined : IsTimelineOf c r line
   lined = timeline_stamped c l.thread f.0 r kept.by.after kept.timeline kept.timeline_of
 
-  abbrev past : Past
+  abbrev past : SeenHistory
   past = later_past line (length kept.by.after.turns) h.past.span.own h.past
 
   abbrev pub then_view : View
@@ -119,7 +119,7 @@ module _ (k : Whole) (s : table.State Command View) (kept : SharedKept k s) (id 
     counts = subst (λ n. IsCountUnlessWrapped n (stamps_in kept.timeline)) (sym found_is) kept.counts;
   }
 
-draw_allowed : (k : Whole) (id : ℕ) (h : Held) (ns : List (List Moment)) (place : ℕ) → is_done h.local ≡ true → place ≡ words_count (extent k.config) → table.Allows (SharedKept k) 0 id (one_view h ns, []) place (λ n. (n + 1) % 2 ^ 64) (λ found. Draws found (one_view h ns, []))
+draw_allowed : (k : Whole) (id : ℕ) (h : ThreadView) (ns : List (List Moment)) (place : ℕ) → is_done h.local ≡ true → place ≡ words_count (extent k.config) → table.Allows (SharedKept k) 0 id (one_view h ns, []) place (λ n. (n + 1) % 2 ^ 64) (λ found. Draws found (one_view h ns, []))
 draw_allowed k id h ns place done last s kept homes at low = (
   then_view k s kept id h ns at done place last,
   table.keeps,
@@ -129,7 +129,7 @@ draw_allowed k id h ns place done last s kept homes at low = (
 )
 
 -- the same, whatever the seat is called
-pub draw_here : (k : Whole) (slots id : ℕ) (h : Held) (ns : List (List Moment)) (me : table.Me Command View) (place : ℕ) → slots ≡ 0 → me ≡ (one_view h ns, []) → is_done h.local ≡ true → place ≡ words_count (extent k.config) → table.Allows (SharedKept k) slots id me place (λ n. (n + 1) % 2 ^ 64) (λ found. Draws found me)
+pub draw_here : (k : Whole) (slots id : ℕ) (h : ThreadView) (ns : List (List Moment)) (me : table.Me Command View) (place : ℕ) → slots ≡ 0 → me ≡ (one_view h ns, []) → is_done h.local ≡ true → place ≡ words_count (extent k.config) → table.Allows (SharedKept k) slots id me place (λ n. (n + 1) % 2 ^ 64) (λ found. Draws found me)
 draw_here k slots id h ns me place none knows done last =
     subst (λ x. table.Allows (SharedKept k) x id me place (λ n. (n + 1) % 2 ^ 64) (λ found. Draws found me)) (sym none)
     (subst (λ x. table.Allows (SharedKept k) 0 id x place (λ n. (n + 1) % 2 ^ 64) (λ found. Draws found x)) (sym knows) (draw_allowed k id h ns place done last))

@@ -8,7 +8,7 @@ use Rattle.heap_system.specs.declared.Turn.TheVariants.{Went, Waited, Done}
 use Rattle.heap_system.specs.Locals.{HasGot, LocalState, is_done, local_got, op_wanted, part_step, turn_of}
 use Rattle.shared_heap.specs.Turns.{HasDrivenIn, LastWaited}
 
--- one event of a memory that stands for the thread
+-- one event of a memory that represents the thread
 module _ {M S : Type 0} {may : M → S → Op → Type 0} {acts : Acts M S} (stands : M → S → LocalState → Type 0)
     (m : M) (s : S) (l : LocalState) (n : M) (k : LocalState) {turn : Turn} (leads : MakesTheNextEvent may acts stands m s l)
   where

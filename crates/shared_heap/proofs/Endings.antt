@@ -12,31 +12,27 @@ use Rattle.heap_system.specs.Locals.{LocalState, is_done}
 use Rattle.heap_system.specs.Costs.{units_so_far}
 use Rattle.heap_system.specs.Machines.{Run, IsAfterTurns, local_in}
 use Rattle.heap_system.specs.Systems.{AllDone, Whole}
-use Rattle.heap_system.proofs.Kept.{Kept}
-use Rattle.heap_system.proofs.LawsOf.{laws_of}
-use Rattle.heap_system.proofs.RunBounds.{all_done, least, licensed, most, never_full}
-use Rattle.heap_system.proofs.TalliesOf.{tallies_of}
-use Rattle.heap_system.proofs.TurnFacts.{right_work, at_rest}
-use Rattle.heap_system.proofs.RunLaws.{kept_of}
+use Rattle.heap_system.proofs.Lemmas.{Kept, at_rest, kept_of, laws_of, least, licensed, most, never_full, right_work, tallies_of}
+use Rattle.heap_system.proofs.accounting.RunBounds.{all_done}
 use Rattle.atom_board.proofs.Endings.{first_word}
-use Rattle.shared_heap.specs.declared.rules.Held.{Held}
+use Rattle.shared_heap.specs.declared.rules.ThreadView.{ThreadView}
 use Rattle.shared_heap.specs.declared.rules.View.{View}
 use Rattle.shared_heap.specs.declared.rules.Moment.{Moment}
 use Rattle.shared_heap.specs.Shared.{Fits, AllFit, AllSeenIn, SharedKept, IsStartOf, first_past, held, history_of}
 use Rattle.shared_heap.specs.Workers.{HeapState, WorkerState, AreInOrder, AreOfWorkers, AreSome, IsOfWorker, KnowsAll, HasPart, HaveOneHistory, IsOfMachine, WasClosedWith}
-use Rattle.shared_heap.proofs.Crews.{of_at, of_long}
-use Rattle.shared_heap.proofs.Gifts.{phase_is}
-use Rattle.shared_heap.proofs.Grown.{here}
-use Rattle.shared_heap.proofs.Orders.{nobody}
-use Rattle.shared_heap.proofs.Rests.{said_when_done, told_at_rest}
+use Rattle.shared_heap.proofs.AllWorkers.{of_at, of_long}
+use Rattle.shared_heap.proofs.AnnouncedCommands.{phase_is}
+use Rattle.control_heap.proofs.RunGrowth.{here}
+use Rattle.shared_heap.proofs.WorkersInOrder.{nobody}
+use Rattle.shared_heap.proofs.ThreadFacts.{said_when_done, told_at_rest}
 use Rattle.shared_heap.proofs.Timelines.{history_start, keeps_real_time}
 
-pub fit_at : (c : Config) (r : Run) (hs : List Held) (i : ℕ) (d : Held) → AllFit c r hs → i < length hs → Fits c r (get_or hs i d)
+pub fit_at : (c : Config) (r : Run) (hs : List ThreadView) (i : ℕ) (d : ThreadView) → AllFit c r hs → i < length hs → Fits c r (get_or hs i d)
 fit_at c r [] i d fit low = absurd (omega arith)
 fit_at c r (h ∷ hs) zero d fit low = fit.0
 fit_at c r (h ∷ hs) (suc i) d fit low = fit_at c r hs i d fit.1 (omega arith)
 
-pub seen_at : (timeline : List Moment) (hs : List Held) (i : ℕ) (d : Held) → AllSeenIn timeline hs → i < length hs → IsStartOf (get_or hs i d).past.seen timeline
+pub seen_at : (timeline : List Moment) (hs : List ThreadView) (i : ℕ) (d : ThreadView) → AllSeenIn timeline hs → i < length hs → IsStartOf (get_or hs i d).past.seen timeline
 seen_at timeline [] i d seen low = absurd (omega arith)
 seen_at timeline (h ∷ hs) zero d seen low = seen.0
 seen_at timeline (h ∷ hs) (suc i) d seen low = seen_at timeline hs i d seen.1 (omega arith)
@@ -65,10 +61,10 @@ module _ (k : Whole) (s : table.State Command View) (kept : SharedKept k s) (id 
     w = get_or ws t d
 
     -- a default
-    abbrev e : Held
+    abbrev e : ThreadView
     e = held d.thread (first_past d.thread)
 
-    abbrev own : Held
+    abbrev own : ThreadView
     own = get_or v.threads t e
 
     its : IsOfWorker w own

@@ -14,10 +14,10 @@ use Rattle.heap_system.specs.Lives.{IsLife}
 use Rattle.heap_system.specs.Locals.{LocalState, at_start}
 use Rattle.heap_system.specs.Machines.{Run, State, starts_from, opened, IsJob, IsOpening, local_in}
 use Rattle.heap_system.specs.Systems.{Whole}
-use Rattle.heap_system.proofs.Always.{here, start_count, start_at}
+use Rattle.heap_system.proofs.Lemmas.{here, start_at, start_count}
 use Rattle.control_heap.specs.Controls.{IsByEvents}
 use Rattle.atom_board.proofs.InitialHeaps.{at_length}
-use Rattle.shared_heap.specs.declared.rules.Held.{Held}
+use Rattle.shared_heap.specs.declared.rules.ThreadView.{ThreadView}
 use Rattle.shared_heap.specs.declared.rules.Moment.TheVariants as moments
 use Rattle.shared_heap.specs.declared.rules.View.{View}
 use Rattle.shared_heap.specs.Shared.{AllFit, AllNotedIn, AllSeenIn, AllTimed, SharedKept, IsOfRun, IsTimelineOf, threads_of, first_held, first_past, first_view, held, no_span, unasked}
@@ -62,7 +62,7 @@ unasked_starts c rate space t [] = refl
 unasked_starts c rate space t (x ∷ xs) = ap (λ ls. at_start c rate (space t) t [] ∷ ls) (unasked_starts c rate space (t + 1) xs)
 
 -- a thread that has seen the start of cycle 1
-abbrev opening_held : LocalState → Held
+abbrev opening_held : LocalState → ThreadView
 opening_held l = held l (first_past l)
 
 firsts_are : (ls : List LocalState) → map first_held ls ≡ map opening_held (map unasked ls)

@@ -17,19 +17,12 @@ use Rattle.heap_system.specs.Locals.{LocalState, command_of, entries_of, is_done
 use Rattle.heap_system.specs.Machines.{Run, local_in}
 use Rattle.heap_system.specs.Pictures.{entries_waiting, waiting}
 use Rattle.heap_system.specs.Systems.{Whole}
-use Rattle.heap_system.proofs.Kept.{Kept}
-use Rattle.heap_system.proofs.LawsOf.{laws_of}
-use Rattle.heap_system.proofs.RunBounds.{licensed}
-use Rattle.heap_system.proofs.TalliesOf.{tallies_of}
-use Rattle.heap_system.proofs.TurnFacts.{rest_is, right_work, at_rest, as_long}
-use Rattle.heap_system.proofs.alone.Near.{near_ends}
-use Rattle.heap_system.proofs.alone.Runs.{lone_ends}
-use Rattle.heap_system.proofs.RunLaws.{kept_of}
+use Rattle.heap_system.proofs.Lemmas.{Kept, as_long, at_rest, kept_of, laws_of, licensed, lone_ends, near_ends, rest_is, right_work, tallies_of}
 use Rattle.control_heap.specs.Controls.{IsByEvents}
 use Rattle.control_heap.specs.Growth.{given, run_grown}
 use Rattle.control_heap.proofs.GrownJobs.{HasRoomFor}
-use Rattle.shared_heap.specs.declared.rules.Held.{Held}
-use Rattle.shared_heap.specs.declared.rules.Past.{Past}
+use Rattle.shared_heap.specs.declared.rules.ThreadView.{ThreadView}
+use Rattle.shared_heap.specs.declared.rules.SeenHistory.{SeenHistory}
 use Rattle.shared_heap.specs.declared.rules.Moment.{Moment}
 use Rattle.shared_heap.specs.declared.rules.View.{View}
 use Rattle.shared_heap.specs.Shared.{Fits, AllFit, SharedKept, IsOfRun, later_past, one_view, seats_of, threads_of}
@@ -37,8 +30,8 @@ use Rattle.shared_heap.specs.Workers.{HasRoom}
 use Rattle.shared_heap.specs.Prefixes.{AllDone, HasPartOf, AllHaveParts, FitsOneHistory, AllAreDone, EndsInTime}
 use Rattle.shared_heap.proofs.Quiet.{all_done_quiet}
 use Rattle.shared_heap.proofs.Timelines.{keeps_real_time}
-use Rattle.shared_heap.proofs.Grown.{events_grown, given_here, here}
-use Rattle.shared_heap.proofs.Rests.{room_for}
+use Rattle.control_heap.proofs.RunGrowth.{events_grown, given_here, here}
+use Rattle.shared_heap.proofs.ThreadFacts.{room_for}
 
 one_at_most : (t : ℕ) (k : Command) (work : ℕ) (a : Option Reply) → length (entries_of t k work a) ≤ 1
 one_at_most t k work None = omega arith
@@ -58,7 +51,7 @@ module _ (k : Whole) (s : table.State Command View) (kept : SharedKept k s) wher
   all : Kept c kept.by.after.traces r
   all = kept_of c r kept.by.after
 
-  part_of : (h : Held) → Fits c r h → HasPartOf kept.timeline r.order h.local
+  part_of : (h : ThreadView) → Fits c r h → HasPartOf kept.timeline r.order h.local
   part_of h f =
       let l : LocalState = h.local in
       let is : l ≡ local_in c r l.thread = here c l.thread f.0 r kept.by.after l f.1 in
@@ -74,7 +67,7 @@ module _ (k : Whole) (s : table.State Command View) (kept : SharedKept k s) wher
         invoked = kept.timeline_of.invoked l.thread f.0 ∙ sym (ap (λ (x : LocalState). x.trace) is);
       }
 
-  parts_of : (hs : List Held) → AllFit c r hs → AllHaveParts kept.timeline r.order hs
+  parts_of : (hs : List ThreadView) → AllFit c r hs → AllHaveParts kept.timeline r.order hs
   parts_of [] fit = tt
   parts_of (h ∷ hs) fit = (part_of h fit.0, parts_of hs fit.1)
 
@@ -103,7 +96,7 @@ module _ (k : Whole) (s : table.State Command View) (kept : SharedKept k s) wher
   fits_timeline = refl
 
   -- each thread is in some view
-  in_view : (t : ℕ) → t < c.threads → (hs : List Held) → 0 < threads_of t hs → AllFit c r hs → AllDone hs → is_done (local_in c r t) ≡ true
+  in_view : (t : ℕ) → t < c.threads → (hs : List ThreadView) → 0 < threads_of t hs → AllFit c r hs → AllDone hs → is_done (local_in c r t) ≡ true
   in_view t tl [] more fit done = absurd (omega (arith, more))
   in_view t tl (h ∷ hs) more fit done = elim (cases_Bool (eqb t h.local.thread)) [
     | inl e ↦
@@ -127,7 +120,7 @@ module _ (k : Whole) (s : table.State Command View) (kept : SharedKept k s) wher
     quiet : IsQuiet c r
     quiet = all_done_quiet c kept.by.after.traces r all done_at
 
-    module _ (id : ℕ) (h : Held) (ns : List (List Moment)) (m : Command) (at : get_elem? s.views id ≡ some (one_view h ns)) (bounds : IsCommandInBounds h.local.config m) (room : HasRoom h.local m) where
+    module _ (id : ℕ) (h : ThreadView) (ns : List (List Moment)) (m : Command) (at : get_elem? s.views id ≡ some (one_view h ns)) (bounds : IsCommandInBounds h.local.config m) (room : HasRoom h.local m) where
       abbrev l : LocalState
       l = h.local
 
@@ -147,7 +140,7 @@ module _ (k : Whole) (s : table.State Command View) (kept : SharedKept k s) wher
       config = ap (λ (x : LocalState). x.config) is ∙ (all.locals t fit.0).config
 
       -- a seat that knows the run
-      abbrev past : Past
+      abbrev past : SeenHistory
       past = later_past kept.timeline (length kept.by.after.turns) 0 h.past
 
       of_run : IsOfRun c past l

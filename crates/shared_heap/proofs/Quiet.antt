@@ -3,7 +3,7 @@ use Rattle.std.proofs.Common.{◌≡◌, ℕ, ◌<◌, Bool, true, false, List, 
 use Rattle.block_store.specs.declared.Config.{Config}
 use Rattle.block_store.specs.Phases.{bit, is_closed}
 use Rattle.block_store.specs.Places.{Phase}
-use Rattle.block_store.proofs.Functions.{total_none}
+use Rattle.block_store.proofs.Lemmas.{total_none}
 use Rattle.never_heap.specs.declared.Command.{Command}
 use Rattle.heap_machine.specs.Gating.{is_inside, is_closing}
 use Rattle.heap_system.specs.Alone.{IsQuiet}
@@ -11,8 +11,7 @@ use Rattle.heap_system.specs.Parts.{Rest}
 use Rattle.heap_system.specs.Locals.{is_done}
 use Rattle.heap_system.specs.Machines.{Run, heap_in, local_in}
 use Rattle.heap_system.specs.Pictures.{gating}
-use Rattle.heap_system.proofs.Kept.{Kept}
-use Rattle.heap_system.proofs.TurnFacts.{rest_is, at_rest}
+use Rattle.heap_system.proofs.Lemmas.{Kept, at_rest, rest_is}
 
 module _ (c : Config) (traces : List (List Command)) (r : Run) (all : Kept c traces r) (done_at : (t : ℕ) → t < c.threads → is_done (local_in c r t) ≡ true) where
   rest_at : (t : ℕ) → t < c.threads → (local_in c r t).part ≡ Rest

@@ -9,16 +9,16 @@ use Rattle.never_heap.specs.Histories.{HistoryItem, part}
 use Rattle.heap_system.specs.Locals.{LocalState}
 use Rattle.heap_system.specs.Machines.{local_in}
 use Rattle.heap_system.specs.Systems.{Whole}
-use Rattle.shared_heap.specs.declared.rules.Held.{Held}
+use Rattle.shared_heap.specs.declared.rules.ThreadView.{ThreadView}
 use Rattle.shared_heap.specs.declared.rules.Moment.{Moment}
 use Rattle.shared_heap.specs.declared.rules.Moment.TheVariants as moments
 use Rattle.shared_heap.specs.declared.rules.View.{View}
-use Rattle.shared_heap.specs.Behind.{StandsBehind}
+use Rattle.shared_heap.specs.EntryPlaces.{StandsBehind}
 use Rattle.shared_heap.specs.RealTime.{PrecedesLaterCommands, IsSeatOf, HadSeen}
 use Rattle.shared_heap.specs.Shared.{Fits, IsStartOf, SharedKept, history_of, invoked_in}
 use Rattle.shared_heap.specs.Workers.{HasAnswered, HasSeenIts, WorkerState}
-use Rattle.shared_heap.proofs.Behind.{part_before, stands_after, stands_still, still_thread}
-use Rattle.shared_heap.proofs.Grown.{here}
+use Rattle.shared_heap.proofs.EntryAfterSeen.{part_before, stands_after, stands_still, still_thread}
+use Rattle.control_heap.proofs.RunGrowth.{here}
 use Rattle.shared_heap.proofs.Timelines.{before_or_after, history_start, invoked_append, invoked_start, keeps_real_time}
 use Rattle.shared_heap.proofs.Views.{starts_on}
 
@@ -29,13 +29,13 @@ line_of k s kept p was =
     starts_on p was.worker.past.seen kept.timeline was.seen (kept.each seat.0 _ seat.2).3.0
 
 -- a thread's commands are those that the timeline has invocations of
-pub has_invoked : (k : Whole) (s : table.State Command View) (kept : SharedKept k s) (h : Held) → IsSeatOf s h → invoked_in h.local.thread kept.timeline ≡ h.local.trace
+pub has_invoked : (k : Whole) (s : table.State Command View) (kept : SharedKept k s) (h : ThreadView) → IsSeatOf s h → invoked_in h.local.thread kept.timeline ≡ h.local.trace
 has_invoked k s kept h seat =
     let f : Fits k.config kept.run h = (kept.each seat.0 _ seat.2).0.0 in
     let is : h.local ≡ local_in k.config kept.run h.local.thread = here k.config h.local.thread f.0 kept.run kept.by.after h.local f.1 in
     kept.timeline_of.invoked h.local.thread f.0 ∙ sym (ap (λ (l : LocalState). l.trace) is)
 
-pub comes_before : (k : Whole) (s later : table.State Command View) (now : SharedKept k s) (then : SharedKept k later) (p : List Moment) → HadSeen s p → HadSeen later p → (h : Held) → IsSeatOf s h → PrecedesLaterCommands p h then.run.order
+pub comes_before : (k : Whole) (s later : table.State Command View) (now : SharedKept k s) (then : SharedKept k later) (p : List Moment) → HadSeen s p → HadSeen later p → (h : ThreadView) → IsSeatOf s h → PrecedesLaterCommands p h then.run.order
 comes_before k s later now then p was still h seat t n many =
     keeps_real_time then.timeline then.run.order then.timeline_of.ordered then.timeline_of.formed p (line_of k later then p still) t n h.local.thread (length h.local.trace) many
     (omega (arith, invoked_start h.local.thread p now.timeline (line_of k s now p was), ap length (has_invoked k s now h seat)))

@@ -11,33 +11,27 @@ use Rattle.never_heap.specs.Histories.{part, replay, starts_in}
 use Rattle.heap_system.specs.Locals.{LocalState, is_done}
 use Rattle.heap_system.specs.Machines.{Run, IsAfterTurns, local_in}
 use Rattle.heap_system.specs.Systems.{Whole}
-use Rattle.heap_system.proofs.Kept.{Kept}
-use Rattle.heap_system.proofs.LawsOf.{laws_of}
-use Rattle.heap_system.proofs.RunBounds.{licensed, never_full}
-use Rattle.heap_system.proofs.TalliesOf.{tallies_of}
-use Rattle.heap_system.proofs.TurnFacts.{right_work, at_rest}
-use Rattle.heap_system.proofs.RunLaws.{kept_of}
-use Rattle.shared_heap.specs.declared.rules.Held.{Held}
+use Rattle.heap_system.proofs.Lemmas.{Kept, at_rest, first_commands, kept_of, laws_of, licensed, never_full, right_work, tallies_of}
+use Rattle.shared_heap.specs.declared.rules.ThreadView.{ThreadView}
 use Rattle.shared_heap.specs.declared.rules.View.{View}
 use Rattle.shared_heap.specs.Shared.{Fits, IsStartOf, SharedKept, first_past, held, history_of, invoked_in, threads_of}
 use Rattle.shared_heap.specs.Workers.{WorkerState, AreOfWorkers, HasFirstCommands, HasPart, HaveHistoryOfSome, IsOfWorker, WasClosedWith}
-use Rattle.shared_heap.proofs.Crews.{of_at, of_long}
+use Rattle.shared_heap.proofs.AllWorkers.{of_at, of_long}
 use Rattle.shared_heap.proofs.Endings.{fit_at, seen_at}
-use Rattle.shared_heap.proofs.FirstCommands.{first_commands}
-use Rattle.shared_heap.proofs.Gifts.{phase_is}
-use Rattle.shared_heap.proofs.Grown.{here}
-use Rattle.shared_heap.proofs.Rests.{said_when_done, told_at_rest}
+use Rattle.shared_heap.proofs.AnnouncedCommands.{phase_is}
+use Rattle.control_heap.proofs.RunGrowth.{here}
+use Rattle.shared_heap.proofs.ThreadFacts.{said_when_done, told_at_rest}
 use Rattle.shared_heap.proofs.Timelines.{history_start, keeps_real_time}
 use Rattle.shared_heap.proofs.Views.{seat_part}
 
 -- a thread that is one of these
-one_there : (t : ℕ) (hs : List Held) (j : ℕ) (e : Held) → j < length hs → (get_or hs j e).local.thread ≡ t → 1 ≤ threads_of t hs
+one_there : (t : ℕ) (hs : List ThreadView) (j : ℕ) (e : ThreadView) → j < length hs → (get_or hs j e).local.thread ≡ t → 1 ≤ threads_of t hs
 one_there t [] j e low is = absurd (omega arith)
 one_there t (h ∷ hs) zero e low is = let b : bit (eqb t h.local.thread) ≡ 1 = rw (eq-eqb t h.local.thread (sym is)) refl in omega (arith, b)
 one_there t (h ∷ hs) (suc j) e low is = omega (arith, one_there t hs j e (omega arith) is)
 
 -- and one that is there twice
-two_there : (t : ℕ) (hs : List Held) (i j : ℕ) (e f : Held) → i < j → j < length hs → (get_or hs i e).local.thread ≡ t → (get_or hs j f).local.thread ≡ t → 2 ≤ threads_of t hs
+two_there : (t : ℕ) (hs : List ThreadView) (i j : ℕ) (e f : ThreadView) → i < j → j < length hs → (get_or hs i e).local.thread ≡ t → (get_or hs j f).local.thread ≡ t → 2 ≤ threads_of t hs
 two_there t [] i j e f less low is again = absurd (omega arith)
 two_there t (h ∷ hs) zero zero e f less low is again = absurd (omega arith)
 two_there t (h ∷ hs) zero (suc j) e f less low is again =
@@ -70,13 +64,13 @@ module _ (k : Whole) (s : table.State Command View) (kept : SharedKept k s) (id 
     w = get_or ws j d
 
     -- a default
-    abbrev e : Held
+    abbrev e : ThreadView
     e = held d.thread (first_past d.thread)
 
     there : j < length v.threads
     there = omega (arith, low, of_long ws v.threads mine)
 
-    abbrev own : Held
+    abbrev own : ThreadView
     own = get_or v.threads j e
 
     its : IsOfWorker w own

@@ -15,15 +15,11 @@ use Rattle.never_heap.specs.declared.Command.{Command}
 use Rattle.heap_system.specs.Locals.{LocalState, LocalReads, is_done, local_got, op_wanted, part_want}
 use Rattle.heap_system.specs.Machines.{State, Run, decided, event_done, has_event, local_in, next, no_local, turned, word_read}
 use Rattle.heap_system.specs.Systems.{Whole}
-use Rattle.heap_system.proofs.ThreadAccounts.{local_reads}
-use Rattle.heap_system.proofs.Kept.{Kept}
-use Rattle.heap_system.proofs.KeptByTurns.{sums}
-use Rattle.heap_system.proofs.LawsOf.{laws_of}
-use Rattle.heap_system.proofs.RunLaws.{kept_of}
+use Rattle.heap_system.proofs.Lemmas.{Kept, kept_of, laws_of, local_reads, sums}
 use Rattle.control_heap.specs.Controls.{IsByEvents}
-use Rattle.shared_heap.specs.declared.rules.Held.{Held}
+use Rattle.shared_heap.specs.declared.rules.ThreadView.{ThreadView}
 use Rattle.shared_heap.specs.declared.rules.Moment.{Moment}
-use Rattle.shared_heap.specs.declared.rules.Past.{Past}
+use Rattle.shared_heap.specs.declared.rules.SeenHistory.{SeenHistory}
 use Rattle.shared_heap.specs.declared.rules.View.{View}
 use Rattle.shared_heap.specs.Shared.{Fits, AllFit, AllNotedIn, AllSeenIn, AllTimed, SharedKept, StepsOn, IsOfRun, IsStartOf, IsTimelineOf, threads_of, held, no_view, one_view, first_of, rest_of, joined, noted_of, same_view, found_by, stepped_past}
 use Rattle.shared_heap.specs.Spans.{IsTimed}
@@ -31,7 +27,7 @@ use Rattle.shared_heap.proofs.Timed.{in_time, timed_append, timed_next, timed_ot
 use Rattle.shared_heap.proofs.Views.{first_timed, rest_timed, seat_parts, seats_set, seats_append, threads_append, cut_sum, fit_append, first_fit, rest_fit, others_fit, moments_of, none_stamped, noted_append, noted_more, first_seen, rest_seen, seen_append, seen_more, seen_noted, starts_itself, starts_more}
 use Rattle.shared_heap.proofs.Timelines.{counts_same, timeline_next}
 use Rattle.shared_heap.proofs.Words.{get_front, set_front}
-use Rattle.shared_heap.proofs.Grown.{events_more, events_more_long, events_more_traces, goes, here}
+use Rattle.control_heap.proofs.RunGrowth.{events_more, events_more_long, events_more_traces, goes, here}
 
 -- what one event of thread t is, of this run
 module _ (c : Config) (t : ℕ) (tl : t < c.threads) (r : Run) (by : IsByEvents c r) (l : LocalState) (at : l ≡ local_in c r t) (going : is_done l ≡ false) where
@@ -79,7 +75,7 @@ module _ (c : Config) (t : ℕ) (tl : t < c.threads) (r : Run) (by : IsByEvents 
   moved = sym (get_or-set_same r.state.locals t (local_got l w) (no_local c) long) ∙ ap (λ ls. get_or ls t (no_local c)) (sym locals_are)
 
 -- an event of a seat's thread
-module _ (k : Whole) (s : table.State Command View) (kept : SharedKept k s) (id : ℕ) (h : Held) (ns : List (List Moment)) (at : get_elem? s.views id ≡ some (one_view h ns)) (going : is_done h.local ≡ false) (within : op_place (op_wanted h.local) < words_count (extent h.local.config)) (low : found_by h.local s < 2 ^ 64) where
+module _ (k : Whole) (s : table.State Command View) (kept : SharedKept k s) (id : ℕ) (h : ThreadView) (ns : List (List Moment)) (at : get_elem? s.views id ≡ some (one_view h ns)) (going : is_done h.local ≡ false) (within : op_place (op_wanted h.local) < words_count (extent h.local.config)) (low : found_by h.local s < 2 ^ 64) where
   abbrev c : Config
   c = k.config
 
@@ -153,7 +149,7 @@ module _ (k : Whole) (s : table.State Command View) (kept : SharedKept k s) (id 
   lined = timeline_next c t f.0 r kept.by.after kept.timeline kept.timeline_of of_events.after (events_more_traces c t f.0 r kept.by (goes c t f.0 r l is going))
 
   -- what the seat knows then
-  abbrev pub past : Past
+  abbrev pub past : SeenHistory
   past = stepped_past now (length of_events.after.turns) h.past
 
   fit : Fits c later (held new past)
@@ -207,7 +203,7 @@ module _ (k : Whole) (s : table.State Command View) (kept : SharedKept k s) (id 
   }
 
 -- in every state of the table a seat with one thread makes its event
-pub allowed : (k : Whole) (id : ℕ) (h : Held) (ns : List (List Moment)) → is_done h.local ≡ false → op_place (op_wanted h.local) < words_count (extent h.local.config) → table.Allows (SharedKept k) 0 id (one_view h ns, []) (op_place (op_wanted h.local)) (written (op_wanted h.local)) (StepsOn (one_view h ns, []))
+pub allowed : (k : Whole) (id : ℕ) (h : ThreadView) (ns : List (List Moment)) → is_done h.local ≡ false → op_place (op_wanted h.local) < words_count (extent h.local.config) → table.Allows (SharedKept k) 0 id (one_view h ns, []) (op_place (op_wanted h.local)) (written (op_wanted h.local)) (StepsOn (one_view h ns, []))
 allowed k id h ns going within s kept homes at low = (
   then_view k s kept id h ns at going within low,
   table.keeps,
@@ -217,7 +213,7 @@ allowed k id h ns going within s kept homes at low = (
 )
 
 -- the same, for the operation that the thread wants
-pub op_allowed : (k : Whole) (slots id : ℕ) (h : Held) (ns : List (List Moment)) (me : table.Me Command View) (op : Op) → is_done h.local ≡ false → slots ≡ 0 → me ≡ (one_view h ns, []) → op ≡ op_wanted h.local → op_place op < words_count (extent h.local.config) → table.Allows (SharedKept k) slots id me (op_place op) (written op) (StepsOn me)
+pub op_allowed : (k : Whole) (slots id : ℕ) (h : ThreadView) (ns : List (List Moment)) (me : table.Me Command View) (op : Op) → is_done h.local ≡ false → slots ≡ 0 → me ≡ (one_view h ns, []) → op ≡ op_wanted h.local → op_place op < words_count (extent h.local.config) → table.Allows (SharedKept k) slots id me (op_place op) (written op) (StepsOn me)
 op_allowed k slots id h ns me op going none knows wants within =
     subst (λ x. table.Allows (SharedKept k) x id me (op_place op) (written op) (StepsOn me)) (sym none)
     (subst (λ x. table.Allows (SharedKept k) 0 id x (op_place op) (written op) (StepsOn x)) (sym knows)

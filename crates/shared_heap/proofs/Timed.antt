@@ -8,21 +8,15 @@ use Rattle.never_heap.specs.declared.Command.TheVariants as commands
 use Rattle.heap_system.specs.Alone.{EndsWithin, HasCommand, IsQuiet, after_alone, command_bound, command_near}
 use Rattle.heap_system.specs.Locals.{LocalState, command_of, is_done, is_rest, local_got}
 use Rattle.heap_system.specs.Machines.{IsAfterTurns, IsJob, Run, local_in, next}
-use Rattle.heap_system.proofs.Always.{turn_kept}
-use Rattle.heap_system.proofs.Kept.{Kept}
-use Rattle.heap_system.proofs.LawsOf.{laws_of}
-use Rattle.heap_system.proofs.alone.Near.{near_ends}
-use Rattle.heap_system.proofs.alone.Runs.{lone_ends}
-use Rattle.heap_system.proofs.RunLaws.{kept_of}
-use Rattle.heap_system.proofs.TurnFacts.{at_rest, as_long}
+use Rattle.heap_system.proofs.Lemmas.{Kept, as_long, at_rest, kept_of, laws_of, lone_ends, near_ends, turn_kept}
 use Rattle.control_heap.specs.Controls.{IsByEvents}
 use Rattle.control_heap.specs.Growth.{given, run_grown}
 use Rattle.control_heap.proofs.GrownRuns.{local_grown, next_grown}
-use Rattle.shared_heap.specs.declared.rules.Held.{Held}
+use Rattle.shared_heap.specs.declared.rules.ThreadView.{ThreadView}
 use Rattle.shared_heap.specs.declared.rules.Moment.{Moment}
 use Rattle.shared_heap.specs.Shared.{AllFit, AllTimed, given_past, held, stepped_past, threads_of}
 use Rattle.shared_heap.specs.Spans.{EndsBy, HasNoRival, IsAlone, IsBound, IsInTime, IsTimed}
-use Rattle.shared_heap.proofs.Grown.{given_here, here}
+use Rattle.control_heap.proofs.RunGrowth.{given_here, here}
 use Rattle.shared_heap.proofs.Quiet.{all_done_quiet}
 use Rattle.shared_heap.proofs.Views.{apart_of}
 
@@ -34,7 +28,7 @@ ends_next c t own b r going e = by e.turns e.few e.done
     by zero few done = (let z : true ≡ false = sym done ∙ going in cc)
     by (suc n) few done = record { turns = n; few = omega (arith, few); done = done }
 
-module _ (c : Config) (r : Run) (n m : ℕ) (h : Held) (w : ℕ) (now : List Moment) (timed : IsTimed c r n h) (at : h.local ≡ local_in c r h.local.thread) (going : is_done h.local ≡ false) (more : m ≡ n + 1) where
+module _ (c : Config) (r : Run) (n m : ℕ) (h : ThreadView) (w : ℕ) (now : List Moment) (timed : IsTimed c r n h) (at : h.local ≡ local_in c r h.local.thread) (going : is_done h.local ≡ false) (more : m ≡ n + 1) where
   pub timed_next : IsTimed c (next c h.local.thread r) m (held (local_got h.local w) (stepped_past now m h.past))
   timed_next = record {
     own = omega (arith, timed.own, timed.last, more);
@@ -63,7 +57,7 @@ module _ (c : Config) (r : Run) (n m : ℕ) (h : Held) (w : ℕ) (now : List Mom
   })
 
 -- a turn of another thread
-pub timed_others : (c : Config) (t : ℕ) (r z : Run) (n m : ℕ) (hs : List Held) → t < c.threads → n < m → AllFit c r hs → threads_of t hs ≡ 0 → AllTimed c r n hs → AllTimed c z m hs
+pub timed_others : (c : Config) (t : ℕ) (r z : Run) (n m : ℕ) (hs : List ThreadView) → t < c.threads → n < m → AllFit c r hs → threads_of t hs ≡ 0 → AllTimed c r n hs → AllTimed c z m hs
 timed_others c t r z n m [] tl low fit none all = tt
 timed_others c t r z n m (h ∷ hs) tl low fit none all =
     let a = all.0 in (
@@ -104,7 +98,7 @@ module _ (c : Config) (t : ℕ) (k : Command) (tl : t < c.threads) (traces : Lis
               }
         ]
 
-  pub timed_grown : (r : Run) (is : IsAfterTurns c r) → Kept c traces r → (n : ℕ) (hs : List Held) → AllFit c r hs → threads_of t hs ≡ 0 → AllTimed c r n hs → AllTimed c (run_grown t k r) n hs
+  pub timed_grown : (r : Run) (is : IsAfterTurns c r) → Kept c traces r → (n : ℕ) (hs : List ThreadView) → AllFit c r hs → threads_of t hs ≡ 0 → AllTimed c r n hs → AllTimed c (run_grown t k r) n hs
   timed_grown r is kept n [] fit none all = tt
   timed_grown r is kept n (h ∷ hs) fit none all =
       let a = all.0 in
@@ -183,7 +177,7 @@ module _ (c : Config) (t : ℕ) (tl : t < c.threads) (r : Run) (by : IsAfterTurn
       subst (λ v. is_done (local_in c r v) ≡ true) same (sym (ap is_done at) ∙ done))
 
   -- where the step that announced it found this phase word
-  pub timed_given : (h : Held) → h.local ≡ l → (phase : ℕ) → phase ≡ get_or r.state.words 0 0 → (now : List Moment) (n : ℕ) (ns : List (List Moment)) → IsTimed c later n (held (given k l) (given_past k phase now n ns h))
+  pub timed_given : (h : ThreadView) → h.local ≡ l → (phase : ℕ) → phase ≡ get_or r.state.words 0 0 → (now : List Moment) (n : ℕ) (ns : List (List Moment)) → IsTimed c later n (held (given k l) (given_past k phase now n ns h))
   timed_given h is phase read now n ns = record {
     own = omega arith;
     last = omega arith;
@@ -197,6 +191,6 @@ module _ (c : Config) (t : ℕ) (tl : t < c.threads) (r : Run) (by : IsAfterTurn
   }
 
 -- views that are cut in two or joined
-pub timed_append : (c : Config) (r : Run) (n : ℕ) (hs gs : List Held) → AllTimed c r n hs → AllTimed c r n gs → AllTimed c r n (hs ++ gs)
+pub timed_append : (c : Config) (r : Run) (n : ℕ) (hs gs : List ThreadView) → AllTimed c r n hs → AllTimed c r n gs → AllTimed c r n (hs ++ gs)
 timed_append c r n [] gs f g = g
 timed_append c r n (h ∷ hs) gs f g = (f.0, timed_append c r n hs gs f.1 g)

@@ -6,12 +6,10 @@ use Rattle.block_store.specs.declared.Config.{Config}
 use Rattle.never_heap.specs.declared.Command.{Command}
 use Rattle.never_heap.specs.declared.Entry.{Entry}
 use Rattle.never_heap.specs.Histories.{HistoryItem, Started, Did, part}
-use Rattle.never_heap.proofs.HistoryGrowth.{part_append}
+use Rattle.never_heap.proofs.Lemmas.{part_append}
 use Rattle.heap_system.specs.Locals.{LocalState, is_done}
 use Rattle.heap_system.specs.Machines.{Run, IsAfterTurns, decided, local_in, next, no_local}
-use Rattle.heap_system.proofs.Kept.{Kept}
-use Rattle.heap_system.proofs.RunLaws.{kept_of}
-use Rattle.heap_system.proofs.TurnFacts.{as_long, at_rest}
+use Rattle.heap_system.proofs.Lemmas.{Kept, as_long, as_many_commands, at_rest, kept_of}
 use Rattle.control_heap.specs.Growth.{given, grown, run_grown}
 use Rattle.control_heap.proofs.GrownRuns.{local_grown}
 use Rattle.shared_heap.specs.declared.rules.Moment.{Moment}
@@ -19,8 +17,7 @@ use Rattle.shared_heap.specs.declared.rules.Moment.TheVariants as moments
 use Rattle.shared_heap.specs.RealTime.{KeepsRealTime}
 use Rattle.shared_heap.specs.Workers.{AllStart}
 use Rattle.shared_heap.specs.Shared.{AllNotedIn, IsCountUnlessWrapped, IsWellFormed, IsStartOf, IsTimelineOf, history_of, invoked_in, stamps_in}
-use Rattle.shared_heap.proofs.FirstCommands.{as_many_commands}
-use Rattle.shared_heap.proofs.Rests.{told_at_rest}
+use Rattle.shared_heap.proofs.ThreadFacts.{told_at_rest}
 use Rattle.shared_heap.proofs.Views.{history_is, moments_of, none_invoked, starts_itself}
 
 -- ---- two parts of a timeline

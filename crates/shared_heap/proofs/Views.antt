@@ -11,7 +11,7 @@ use Rattle.never_heap.specs.Histories.{HistoryItem, Started, Did}
 use Rattle.heap_system.specs.Locals.{LocalState}
 use Rattle.heap_system.specs.Machines.{Run}
 use Rattle.control_heap.specs.Growth.{given, grown, run_grown}
-use Rattle.shared_heap.specs.declared.rules.Held.{Held}
+use Rattle.shared_heap.specs.declared.rules.ThreadView.{ThreadView}
 use Rattle.shared_heap.specs.declared.rules.Moment.{Moment}
 use Rattle.shared_heap.specs.declared.rules.Moment.TheVariants as moments
 use Rattle.shared_heap.specs.declared.rules.View.{View}
@@ -41,31 +41,31 @@ pub seats_append : (t : ℕ) (views : List View) (w : View) → seats_of t (view
 seats_append t [] w = omega arith
 seats_append t (v ∷ views) w = omega (arith, seats_append t views w)
 
-pub threads_append : (t : ℕ) (hs gs : List Held) → threads_of t (hs ++ gs) ≡ threads_of t hs + threads_of t gs
+pub threads_append : (t : ℕ) (hs gs : List ThreadView) → threads_of t (hs ++ gs) ≡ threads_of t hs + threads_of t gs
 threads_append t [] gs = omega arith
 threads_append t (h ∷ hs) gs = omega (arith, threads_append t hs gs)
 
-pub cut_sum : (t : ℕ) (hs : List Held) → threads_of t (rest_in hs) + threads_of t (first_in hs) ≡ threads_of t hs
+pub cut_sum : (t : ℕ) (hs : List ThreadView) → threads_of t (rest_in hs) + threads_of t (first_in hs) ≡ threads_of t hs
 cut_sum t [] = omega arith
 cut_sum t (h ∷ hs) = omega arith
 
-pub fit_append : (c : Config) (r : Run) (hs gs : List Held) → AllFit c r hs → AllFit c r gs → AllFit c r (hs ++ gs)
+pub fit_append : (c : Config) (r : Run) (hs gs : List ThreadView) → AllFit c r hs → AllFit c r gs → AllFit c r (hs ++ gs)
 fit_append c r [] gs f g = g
 fit_append c r (h ∷ hs) gs f g = (f.0, fit_append c r hs gs f.1 g)
 
-pub first_fit : (c : Config) (r : Run) (hs : List Held) → AllFit c r hs → AllFit c r (first_in hs)
+pub first_fit : (c : Config) (r : Run) (hs : List ThreadView) → AllFit c r hs → AllFit c r (first_in hs)
 first_fit c r [] f = tt
 first_fit c r (h ∷ hs) f = (f.0, tt)
 
-pub first_timed : (c : Config) (r : Run) (n : ℕ) (hs : List Held) → AllTimed c r n hs → AllTimed c r n (first_in hs)
+pub first_timed : (c : Config) (r : Run) (n : ℕ) (hs : List ThreadView) → AllTimed c r n hs → AllTimed c r n (first_in hs)
 first_timed c r n [] f = tt
 first_timed c r n (h ∷ hs) f = (f.0, tt)
 
-pub rest_timed : (c : Config) (r : Run) (n : ℕ) (hs : List Held) → AllTimed c r n hs → AllTimed c r n (rest_in hs)
+pub rest_timed : (c : Config) (r : Run) (n : ℕ) (hs : List ThreadView) → AllTimed c r n hs → AllTimed c r n (rest_in hs)
 rest_timed c r n [] f = tt
 rest_timed c r n (h ∷ hs) f = f.1
 
-pub rest_fit : (c : Config) (r : Run) (hs : List Held) → AllFit c r hs → AllFit c r (rest_in hs)
+pub rest_fit : (c : Config) (r : Run) (hs : List ThreadView) → AllFit c r hs → AllFit c r (rest_in hs)
 rest_fit c r [] f = tt
 rest_fit c r (h ∷ hs) f = f.1
 
@@ -113,36 +113,36 @@ pub noted_append : (timeline : List Moment) (ns ms : List (List Moment)) → All
 noted_append timeline [] ms all more = more
 noted_append timeline (n ∷ ns) ms all more = (all.0, noted_append timeline ns ms all.1 more)
 
-pub seen_more : (timeline items : List Moment) (hs : List Held) → AllSeenIn timeline hs → AllSeenIn (timeline ++ items) hs
+pub seen_more : (timeline items : List Moment) (hs : List ThreadView) → AllSeenIn timeline hs → AllSeenIn (timeline ++ items) hs
 seen_more timeline items [] all = tt
 seen_more timeline items (h ∷ hs) all = (starts_more h.past.seen timeline items all.0, seen_more timeline items hs all.1)
 
-pub seen_append : (timeline : List Moment) (hs gs : List Held) → AllSeenIn timeline hs → AllSeenIn timeline gs → AllSeenIn timeline (hs ++ gs)
+pub seen_append : (timeline : List Moment) (hs gs : List ThreadView) → AllSeenIn timeline hs → AllSeenIn timeline gs → AllSeenIn timeline (hs ++ gs)
 seen_append timeline [] gs f g = g
 seen_append timeline (h ∷ hs) gs f g = (f.0, seen_append timeline hs gs f.1 g)
 
-pub first_seen : (timeline : List Moment) (hs : List Held) → AllSeenIn timeline hs → AllSeenIn timeline (first_in hs)
+pub first_seen : (timeline : List Moment) (hs : List ThreadView) → AllSeenIn timeline hs → AllSeenIn timeline (first_in hs)
 first_seen timeline [] f = tt
 first_seen timeline (h ∷ hs) f = (f.0, tt)
 
-pub rest_seen : (timeline : List Moment) (hs : List Held) → AllSeenIn timeline hs → AllSeenIn timeline (rest_in hs)
+pub rest_seen : (timeline : List Moment) (hs : List ThreadView) → AllSeenIn timeline hs → AllSeenIn timeline (rest_in hs)
 rest_seen timeline [] f = tt
 rest_seen timeline (h ∷ hs) f = f.1
 
-pub seen_noted : (timeline : List Moment) (hs : List Held) → AllSeenIn timeline hs → AllNotedIn timeline (map seen_by hs)
+pub seen_noted : (timeline : List Moment) (hs : List ThreadView) → AllSeenIn timeline hs → AllNotedIn timeline (map seen_by hs)
 seen_noted timeline [] all = tt
 seen_noted timeline (h ∷ hs) all = (all.0, seen_noted timeline hs all.1)
 
 -- ---- what a step of another thread leaves unchanged
 
 -- the thread h is not t
-pub apart_of : (t : ℕ) (h : Held) (hs : List Held) → threads_of t (h ∷ hs) ≡ 0 → h.local.thread ≡ t → ⊥
+pub apart_of : (t : ℕ) (h : ThreadView) (hs : List ThreadView) → threads_of t (h ∷ hs) ≡ 0 → h.local.thread ≡ t → ⊥
 apart_of t h hs none e =
     let apart : eqb t h.local.thread ≡ false = elim (cases_Bool (eqb t h.local.thread)) [ inl is ↦ absurd (let b : bit (eqb t h.local.thread) ≡ 1 = ap bit is in omega (arith, none)) | inr is ↦ is ] in
     let b : true ≡ false = sym (eq-eqb t h.local.thread (sym e)) ∙ apart in cc
 
 -- a turn of t leaves the other threads as they are
-pub others_fit : (c : Config) (r z : Run) (t : ℕ) (l : LocalState) → z.state.locals ≡ set r.state.locals t l → (hs : List Held) → threads_of t hs ≡ 0 → AllFit c r hs → AllFit c z hs
+pub others_fit : (c : Config) (r z : Run) (t : ℕ) (l : LocalState) → z.state.locals ≡ set r.state.locals t l → (hs : List ThreadView) → threads_of t hs ≡ 0 → AllFit c r hs → AllFit c z hs
 others_fit c r z t l locals [] none fit = tt
 others_fit c r z t l locals (h ∷ hs) none fit =
     let f = fit.0 in (
@@ -158,7 +158,7 @@ module _ (t : ℕ) (k : Command) where
   pub grown_at : (ls : List LocalState) (u : ℕ) (l m : LocalState) → m ≡ grown t k l → l ≡ get_or ls u l → m ≡ get_or (map (grown t k) ls) u m
   grown_at ls u l m is here = is ∙ ap (grown t k) here ∙ sym (get_or-map (grown t k) ls u l) ∙ ap (get_or (map (grown t k) ls) u) (sym is)
 
-  pub others_same : (c : Config) (r : Run) (hs : List Held) → threads_of t hs ≡ 0 → AllFit c r hs → AllFit c (run_grown t k r) hs
+  pub others_same : (c : Config) (r : Run) (hs : List ThreadView) → threads_of t hs ≡ 0 → AllFit c r hs → AllFit c (run_grown t k r) hs
   others_same c r [] none fit = tt
   others_same c r (h ∷ hs) none fit =
       let f = fit.0 in

@@ -23,6 +23,6 @@ abbrev pub WasRefused : WorkerState → Command → WorkerState → Refused → 
 WasRefused old k new r = IsRefused old k r × (new ≡ old)
 
 -- The result of a call: the command was executed, and its reply carries this value; or a fault.
-abbrev pub HasTold : {T : Type 0} → (T → Reply) → WorkerState → Command → WorkerState
+abbrev pub HasReturned : {T : Type 0} → (T → Reply) → WorkerState → Command → WorkerState
     → Result T Fault → Type 0
-HasTold says old k new = IsOutcome says (λ a. HasAsked old k a new) (WasRefused old k new) k
+HasReturned says old k new = IsOutcome says (λ a. HasAsked old k a new) (WasRefused old k new) k

@@ -8,6 +8,6 @@ pub mod Workers
 pub mod Pending
 pub mod Refusals
 pub mod Prefixes
-pub mod Behind
+pub mod EntryPlaces
 pub mod Stamps
 pub mod Calls

@@ -10,14 +10,14 @@ use Rattle.never_heap.specs.Histories.{part}
 use Rattle.heap_system.specs.Lives.{sum_after, objects_of}
 use Rattle.heap_system.specs.Locals.{LocalState, is_done, works}
 use Rattle.control_heap.specs.Growth.{given}
-use Rattle.shared_heap.specs.declared.rules.Held.{Held}
+use Rattle.shared_heap.specs.declared.rules.ThreadView.{ThreadView}
 use Rattle.shared_heap.specs.declared.rules.Moment.TheVariants as moments
-use Rattle.shared_heap.specs.declared.rules.Past.{Past}
+use Rattle.shared_heap.specs.declared.rules.SeenHistory.{SeenHistory}
 use Rattle.shared_heap.specs.declared.rules.View.{View}
 use Rattle.shared_heap.specs.Shared.{IsOfRun, IsStartOf, behind, held, held_of, history_of, one_view}
 use Rattle.shared_heap.specs.Spans.{IsInTime}
 use Rattle.shared_heap.specs.Turns.{GoesFar, MadeTurns}
-use Rattle.shared_heap.specs.Workers.{AllStart, HasRoom, IsKept, WorkerState, worker_of}
+use Rattle.shared_heap.specs.Workers.{AllStart, HasRoom, IsMirrored, WorkerState, worker_of}
 
 -- The heap; the worker as it was before the command; the command; the thread as it is now, with all
 -- of the worker's commands, this one the last; and how many events the command has had.
@@ -61,7 +61,7 @@ pub record IsStillPending (old : PendingState) (most : ℕ) (new : PendingState)
 
 -- What a seat knows of a command that its thread executes. In memory is that thread with only this
 -- command, and two counts, which include the command.
-pub record Awaits (p : Past) (me : table.Me Command View) (id : TableId) (l : LocalState)
+pub record Awaits (p : SeenHistory) (me : table.Me Command View) (id : TableId) (l : LocalState)
     (n o : ℕ) : Type 0 where
   pub knows : me ≡ (one_view (held (behind p.call.local.trace p.call.local.log l) p) [], [])
   pub long : length p.call.local.trace ≡ length p.call.local.log
@@ -86,7 +86,7 @@ abbrev pub IsPending : table.Me Command View → TableId → LocalState → ℕ 
 IsPending me id l n o = Awaits (held_of l me.0.threads).past me id l n o
 
 -- the value of a pending command in contracts
-abbrev pub pending_of : TableId → Held → PendingState
+abbrev pub pending_of : TableId → ThreadView → PendingState
 pending_of id h = record {
   heap = id;
   worker = record {
@@ -107,7 +107,7 @@ pub record MayAnnounce (me : table.Me Command View) (id : TableId) (l : LocalSta
     Type 0 where
   pub count : ℕ
   pub objects : ℕ
-  pub kept : IsKept me id l count objects
+  pub kept : IsMirrored me id l count objects
   pub bounds : IsCommandInBounds (held_of l me.0.threads).local.config k
   pub left : HasRoom (held_of l me.0.threads).local k
 
@@ -116,6 +116,6 @@ pub record HasAnnounced (me : table.Me Command View) (id : TableId) (l : LocalSt
     (after : table.Me Command View) (own : TableId) (z : LocalState) : Type 0 where
   pub table : own ≡ id
   pub config : z.config ≡ l.config
-  pub pending : (n o : ℕ) → IsKept me id l n o → IsPending after own z (n + 1) (o + objects_of k)
+  pub pending : (n o : ℕ) → IsMirrored me id l n o → IsPending after own z (n + 1) (o + objects_of k)
   pub value : pending_of own (held_of z after.0.threads)
       ≡ start_pending (worker_of id (held_of l me.0.threads) me.0.notes) k

@@ -8,9 +8,9 @@ use Rattle.heap_machine.specs.Operations.{op_place}
 use Rattle.never_heap.specs.declared.Command.{Command}
 use Rattle.never_heap.specs.declared.Entry.{Entry}
 use Rattle.heap_system.specs.Locals.{LocalState, is_done, op_wanted}
-use Rattle.shared_heap.specs.declared.rules.Held.{Held}
+use Rattle.shared_heap.specs.declared.rules.ThreadView.{ThreadView}
 use Rattle.shared_heap.specs.declared.rules.Moment.{Moment}
-use Rattle.shared_heap.specs.declared.rules.Past.{Past}
+use Rattle.shared_heap.specs.declared.rules.SeenHistory.{SeenHistory}
 use Rattle.shared_heap.specs.declared.rules.View.{View}
 use Rattle.shared_heap.specs.Shared.{IsOfRun, IsStartOf, StepsOn, behind, held, later_past, one_view}
 use Rattle.shared_heap.specs.Spans.{IsInTime}
@@ -19,7 +19,7 @@ use Rattle.shared_heap.specs.Turns.{MadeTurns}
 -- The seat is of this table and has one thread, which is not done, and the operation is the one
 -- that the thread wants, on a word of the heap.
 pub record MayTurn (me : table.Me Command View) (own shared : TableId) (op : Op) : Type 0 where
-  pub one : Held
+  pub one : ThreadView
   pub notes : List (List Moment)
   pub knows : me ≡ (one_view one notes, [])
   pub going : is_done one.local ≡ false
@@ -41,7 +41,7 @@ pub record HasThread (me : table.Me Command View) (own shared : TableId) (l : Lo
   where
     pub commands : List Command
     pub entries : List Entry
-    pub past : Past
+    pub past : SeenHistory
     pub long : length commands ≡ length entries
     pub knows : me ≡ (one_view (held (behind commands entries l) past) [], [])
     pub told : IsOfRun l.config past (behind commands entries l)
@@ -52,7 +52,7 @@ pub record HasThread (me : table.Me Command View) (own shared : TableId) (l : Lo
 
 -- The seat has this thread, after these commands and entries, has seen at least as much as before,
 -- and has counted an event for each of these words.
-pub record HasSeenMore (ks : List Command) (es : List Entry) (p : Past) (l : LocalState)
+pub record HasSeenMore (ks : List Command) (es : List Entry) (p : SeenHistory) (l : LocalState)
     (ws : List ℕ) (after : table.Me Command View) (k : LocalState) : Type 0 where
   pub now : List Moment
   pub turns : ℕ
@@ -65,7 +65,7 @@ pub record HasSeenMore (ks : List Command) (es : List Entry) (p : Past) (l : Loc
 -- seat's thread are unchanged.
 pub record HasGoneOn (me : table.Me Command View) (l : LocalState) (ws : List ℕ)
     (after : table.Me Command View) (k : LocalState) : Type 0 where
-  pub front : (ks : List Command) (es : List Entry) (p : Past) → length ks ≡ length es
+  pub front : (ks : List Command) (es : List Entry) (p : SeenHistory) → length ks ≡ length es
       → me ≡ (one_view (held (behind ks es l) p) [], []) → HasSeenMore ks es p l ws after k
   pub trace : k.trace ≡ l.trace
   pub config : k.config ≡ l.config

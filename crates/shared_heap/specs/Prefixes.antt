@@ -14,7 +14,7 @@ use Rattle.heap_system.specs.Alone.{EndsWithin, command_bound, command_near}
 use Rattle.heap_system.specs.Locals.{LocalState, command_of, is_done}
 use Rattle.heap_system.specs.Machines.{Run}
 use Rattle.control_heap.specs.Growth.{run_grown}
-use Rattle.shared_heap.specs.declared.rules.Held.{Held}
+use Rattle.shared_heap.specs.declared.rules.ThreadView.{ThreadView}
 use Rattle.shared_heap.specs.declared.rules.Moment.{Moment}
 use Rattle.shared_heap.specs.declared.rules.View.{View}
 use Rattle.shared_heap.specs.RealTime.{KeepsRealTime}
@@ -34,7 +34,7 @@ pub record HasPartOf (timeline : List Moment) (order : List HistoryItem) (l : Lo
     pub hand : map (λ (e : Entry). e.command) more ≡ take (length more) (command_of l ∷ [])
     pub invoked : invoked_in l.thread timeline ≡ l.trace
 
-abbrev pub AllHaveParts : List Moment → List HistoryItem → List Held → Type 0
+abbrev pub AllHaveParts : List Moment → List HistoryItem → List ThreadView → Type 0
 AllHaveParts timeline order [] = Unit {0}
 AllHaveParts timeline order (h ∷ hs) =
     HasPartOf timeline order h.local × AllHaveParts timeline order hs
@@ -60,7 +60,7 @@ pub record FitsOneHistory (c : Config) (s : table.State Command View) : Type 0 w
   pub real_time : KeepsRealTime timeline order
 
 -- each thread has finished its commands
-abbrev pub AllDone : List Held → Type 0
+abbrev pub AllDone : List ThreadView → Type 0
 AllDone [] = Unit {0}
 AllDone (h ∷ hs) = (is_done h.local ≡ true) × AllDone hs
 

@@ -5,7 +5,7 @@ use lib.ListN.{get_elem?}
 use Rattle.atomic_table.specs.Table as table
 use Rattle.never_heap.specs.declared.Command.{Command}
 use Rattle.never_heap.specs.Histories.{HistoryItem, part}
-use Rattle.shared_heap.specs.declared.rules.Held.{Held}
+use Rattle.shared_heap.specs.declared.rules.ThreadView.{ThreadView}
 use Rattle.shared_heap.specs.declared.rules.Moment.{Moment}
 use Rattle.shared_heap.specs.declared.rules.View.{View}
 use Rattle.shared_heap.specs.Shared.{IsStartOf, history_of, invoked_in, one_view}
@@ -30,18 +30,18 @@ KeepsRealTime timeline order =
 -- ---- two states of a table
 
 -- in this state of the table, this is what the seat of a worker knows
-abbrev pub IsSeatOf : table.State Command View → Held → Type 0
+abbrev pub IsSeatOf : table.State Command View → ThreadView → Type 0
 IsSeatOf s h = (id : ℕ) × (notes : List (List Moment))
     × (get_elem? s.views id ≡ some (one_view h notes))
 
 -- In this state of the table, a worker has seen this timeline.
 pub record HadSeen (s : table.State Command View) (p : List Moment) : Type 0 where
-  pub worker : Held
+  pub worker : ThreadView
   pub seat : IsSeatOf s worker
   pub seen : IsStartOf p worker.past.seen
 
 -- The entries of this timeline come, in the order, before the entries of all commands that the
 -- thread did not yet have.
-abbrev pub PrecedesLaterCommands : List Moment → Held → List HistoryItem → Type 0
+abbrev pub PrecedesLaterCommands : List Moment → ThreadView → List HistoryItem → Type 0
 PrecedesLaterCommands p h order = (t n : ℕ) → n ≤ length (part t (history_of p))
     → ComeBefore order t n h.local.thread (length h.local.trace)

@@ -17,8 +17,8 @@ use Rattle.heap_system.specs.Machines.{Run, IsAfterTurns, local_in}
 use Rattle.heap_system.specs.Systems.{Whole}
 use Rattle.control_heap.specs.Controls.{IsByEvents, with_history}
 use Rattle.control_heap.specs.Growth.{given}
-use Rattle.shared_heap.specs.declared.rules.Held.{Held}
-use Rattle.shared_heap.specs.declared.rules.Past.{Past}
+use Rattle.shared_heap.specs.declared.rules.ThreadView.{ThreadView}
+use Rattle.shared_heap.specs.declared.rules.SeenHistory.{SeenHistory}
 use Rattle.shared_heap.specs.declared.rules.Span.{Span}
 use Rattle.shared_heap.specs.declared.rules.Moment.{Moment}
 use Rattle.shared_heap.specs.declared.rules.Moment.TheVariants as moments
@@ -70,7 +70,7 @@ IsWellFormed timeline = (p : List Moment) → IsStartOf p timeline → (t : ℕ)
     × (length (invoked_in t p) ≤ length (part t (history_of p)) + 1)
 
 -- what each of these threads has seen, and each of these notes, is a prefix of this timeline
-abbrev pub AllSeenIn : List Moment → List Held → Type 0
+abbrev pub AllSeenIn : List Moment → List ThreadView → Type 0
 AllSeenIn timeline [] = Unit {0}
 AllSeenIn timeline (h ∷ hs) = IsStartOf h.past.seen timeline × AllSeenIn timeline hs
 
@@ -89,16 +89,16 @@ pub record IsTimelineOf (c : Config) (r : Run) (timeline : List Moment) : Type 0
   pub formed : IsWellFormed timeline
 
 -- a thread is the run's
-abbrev pub Fits : Config → Run → Held → Type 0
+abbrev pub Fits : Config → Run → ThreadView → Type 0
 Fits c r h = (h.local.thread < c.threads)
     × (h.local ≡ slice_index_or r.state.locals h.local.thread h.local)
 
-abbrev pub AllFit : Config → Run → List Held → Type 0
+abbrev pub AllFit : Config → Run → List ThreadView → Type 0
 AllFit c r [] = Unit {0}
 AllFit c r (h ∷ hs) = Fits c r h × AllFit c r hs
 
 -- how many of these threads are thread t, and how many of those in all views
-abbrev pub threads_of : ℕ → List Held → ℕ
+abbrev pub threads_of : ℕ → List ThreadView → ℕ
 threads_of t [] = 0
 threads_of t (h ∷ hs) = bit (t == h.local.thread) + threads_of t hs
 
@@ -106,7 +106,7 @@ abbrev pub seats_of : ℕ → List View → ℕ
 seats_of t [] = 0
 seats_of t (v ∷ vs) = threads_of t v.threads + seats_of t vs
 
-abbrev pub AllTimed : Config → Run → ℕ → List Held → Type 0
+abbrev pub AllTimed : Config → Run → ℕ → List ThreadView → Type 0
 AllTimed c r turns [] = Unit {0}
 AllTimed c r turns (h ∷ hs) = IsTimed c r turns h × AllTimed c r turns hs
 
@@ -129,13 +129,13 @@ pub record SharedKept (k : Whole) (s : table.State Command View) : Type 0 where
 
 -- ---- views
 
-abbrev pub held : LocalState → Past → Held
+abbrev pub held : LocalState → SeenHistory → ThreadView
 held l p = record { local = l; past = p }
 
 abbrev pub no_view : View
 no_view = record { threads = []; notes = [] }
 
-abbrev pub one_view : Held → List (List Moment) → View
+abbrev pub one_view : ThreadView → List (List Moment) → View
 one_view h notes = record { threads = h ∷ []; notes = notes }
 
 -- a thread that has no command yet, and has seen the start of cycle 1
@@ -145,7 +145,7 @@ unasked l = with_history [] [] l
 abbrev pub no_span : Span
 no_span = record { phase = 0; first = 0; last = 0; own = 0 }
 
-abbrev pub first_past : LocalState → Past
+abbrev pub first_past : LocalState → SeenHistory
 first_past l = record {
   seen = moments.Began ∷ [];
   span = no_span;
@@ -159,18 +159,18 @@ first_past l = record {
   };
 }
 
-abbrev pub first_held : LocalState → Held
+abbrev pub first_held : LocalState → ThreadView
 first_held l = held (unasked l) (first_past l)
 
 -- the first seat has all threads
 abbrev pub first_view : Whole → View
 first_view k = record { threads = map first_held k.state.locals; notes = [] }
 
-abbrev pub first_in : List Held → List Held
+abbrev pub first_in : List ThreadView → List ThreadView
 first_in [] = []
 first_in (h ∷ hs) = h ∷ []
 
-abbrev pub rest_in : List Held → List Held
+abbrev pub rest_in : List ThreadView → List ThreadView
 rest_in [] = []
 rest_in (h ∷ hs) = hs
 
@@ -184,7 +184,7 @@ abbrev pub joined : View → View → View
 joined v w = record { threads = v.threads ++ w.threads; notes = v.notes ++ w.notes }
 
 -- a note of what the threads of a view have seen
-abbrev pub seen_by : Held → List Moment
+abbrev pub seen_by : ThreadView → List Moment
 seen_by h = h.past.seen
 
 abbrev pub noted_of : View → View
@@ -197,7 +197,7 @@ same_view v = v
 
 -- The thread is that of some run of a job. The run has the timeline that the thread has seen, and
 -- as many turns as its seat knows.
-pub record IsOfRun (c : Config) (p : Past) (l : LocalState) : Type 0 where
+pub record IsOfRun (c : Config) (p : SeenHistory) (l : LocalState) : Type 0 where
   pub run : Run
   pub after : IsAfterTurns c run
   pub there : l.thread < c.threads
@@ -205,25 +205,25 @@ pub record IsOfRun (c : Config) (p : Past) (l : LocalState) : Type 0 where
   pub timeline_of : IsTimelineOf c run p.seen
   pub counted : p.span.last ≡ length after.turns
 
-abbrev pub AllOfRuns : List Held → Type 0
+abbrev pub AllOfRuns : List ThreadView → Type 0
 AllOfRuns [] = Unit {0}
 AllOfRuns (h ∷ hs) = IsOfRun h.local.config h.past h.local × AllOfRuns hs
 
-abbrev pub AllRead : List Held → ℕ → Type 0
+abbrev pub AllRead : List ThreadView → ℕ → Type 0
 AllRead [] w = Unit {0}
 AllRead (h ∷ hs) w = LocalReads h.local.config h.local w × AllRead hs w
 
 -- what a seat knows after more events of its thread, where its thread has made so many for its last
 -- command, and the run has this timeline and so many turns
-abbrev pub later_past : List Moment → ℕ → ℕ → Past → Past
+abbrev pub later_past : List Moment → ℕ → ℕ → SeenHistory → SeenHistory
 later_past now turns own p =
     record p { seen = now; span = record p.span { last = turns; own = own } }
 
-abbrev pub stepped_past : List Moment → ℕ → Past → Past
+abbrev pub stepped_past : List Moment → ℕ → SeenHistory → SeenHistory
 stepped_past now turns p = later_past now turns (p.span.own + 1) p
 
 -- what each thread of a view is after an event that read w
-abbrev pub got_by : ℕ → List Moment → ℕ → Held → Held
+abbrev pub got_by : ℕ → List Moment → ℕ → ThreadView → ThreadView
 got_by w now turns h = held (local_got h.local w) (stepped_past now turns h.past)
 
 abbrev pub got_of : ℕ → List Moment → ℕ → table.Me Command View → table.Me Command View
@@ -231,7 +231,7 @@ got_of w now turns me =
     (record { threads = map (got_by w now turns) me.0.threads; notes = me.0.notes }, me.1)
 
 -- each thread is within the bounds of its last command, if it was alone
-abbrev pub AllInTime : List Held → Type 0
+abbrev pub AllInTime : List ThreadView → Type 0
 AllInTime [] = Unit {0}
 AllInTime (h ∷ hs) = IsInTime h.local.config h.past.call.command h.past.span × AllInTime hs
 
@@ -250,7 +250,7 @@ pub record StepsOn (me : table.Me Command View) (w : ℕ) (after : table.Me Comm
 
 -- what a seat knows when a command is announced for its thread: the timeline ends with the
 -- command's invocation
-abbrev pub given_past : Command → ℕ → List Moment → ℕ → List (List Moment) → Held → Past
+abbrev pub given_past : Command → ℕ → List Moment → ℕ → List (List Moment) → ThreadView → SeenHistory
 given_past k phase now turns notes h = record {
   seen = now ++ moments.Invoked h.local.thread k ∷ [];
   span = record { phase = phase; first = turns; last = turns; own = 0 };
@@ -265,7 +265,7 @@ given_past k phase now turns notes h = record {
 }
 
 -- the command is appended to the trace of each thread of a view; no note is left
-abbrev pub given_by : Command → ℕ → List Moment → ℕ → List (List Moment) → Held → Held
+abbrev pub given_by : Command → ℕ → List Moment → ℕ → List (List Moment) → ThreadView → ThreadView
 given_by k phase now turns notes h = held (given k h.local) (given_past k phase now turns notes h)
 
 abbrev pub given_of : Command → ℕ → List Moment → ℕ → table.Me Command View
@@ -295,7 +295,7 @@ gives_on announced phase me after =
     (k : Command) → announced ≡ some k → Gives k phase me after
 
 -- what a seat knows after a stamp: all of the timeline, which ends with the stamp, and the turns
-abbrev pub drawn_by : List Moment → ℕ → Held → Held
+abbrev pub drawn_by : List Moment → ℕ → ThreadView → ThreadView
 drawn_by now turns h =
     held h.local (later_past (now ++ moments.Stamped ∷ []) turns h.past.span.own h.past)
 
@@ -323,6 +323,6 @@ abbrev pub behind : List Command → List Entry → LocalState → LocalState
 behind ks es l = record l { before = 0; trace = ks ++ l.trace; log = es ++ l.log }
 
 -- the first thread of these, or l
-abbrev pub held_of : LocalState → List Held → Held
+abbrev pub held_of : LocalState → List ThreadView → ThreadView
 held_of l [] = held l (first_past l)
 held_of l (h ∷ hs) = h

@@ -7,7 +7,7 @@ use Rattle.never_heap.specs.declared.Command.{Command}
 use Rattle.heap_system.specs.Alone.{after_alone, command_bound, command_near}
 use Rattle.heap_system.specs.Locals.{is_done}
 use Rattle.heap_system.specs.Machines.{Run, local_in}
-use Rattle.shared_heap.specs.declared.rules.Held.{Held}
+use Rattle.shared_heap.specs.declared.rules.ThreadView.{ThreadView}
 use Rattle.shared_heap.specs.declared.rules.Span.{Span}
 
 -- When the command was announced nobody was inside and the gate was open, and every turn of the run
@@ -46,7 +46,7 @@ pub record EndsBy (c : Config) (t : ℕ) (r : Run) (own bound : ℕ) : Type 0 wh
 
 -- A run of so many turns has a thread whose seat counts them. If the thread is alone and not done,
 -- it ends within what is left of its bounds. The only thread of a configuration is alone.
-pub record IsTimed (c : Config) (r : Run) (turns : ℕ) (h : Held) : Type 0 where
+pub record IsTimed (c : Config) (r : Run) (turns : ℕ) (h : ThreadView) : Type 0 where
   pub own : h.past.span.first + h.past.span.own ≤ h.past.span.last
   pub last : h.past.span.last ≤ turns
   pub single : c.threads ≡ 1 → IsAlone (record h.past.span { last = turns })

@@ -7,7 +7,7 @@ use Rattle.block_store.specs.Places.{extent, words_count}
 use Rattle.heap_machine.specs.Operations.{op_place}
 use Rattle.never_heap.specs.declared.Command.{Command}
 use Rattle.heap_system.specs.Locals.{LocalState, LocalReads, is_done, local_got, op_wanted}
-use Rattle.control_heap.proofs.Behind.{behind_got, behind_done}
+use Rattle.control_heap.proofs.DroppedHistory.{behind_got, behind_done}
 use Rattle.shared_heap.specs.declared.rules.View.{View}
 use Rattle.shared_heap.specs.Shared.{AllInTime, AllRead, AllOfRuns, StepsOn, behind, got_of, held, one_view, stepped_past}
 use Rattle.shared_heap.specs.Ports.{MayTurn, HasTurned, HasThread}

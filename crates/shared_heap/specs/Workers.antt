@@ -22,7 +22,7 @@ use Rattle.heap_system.specs.Machines.{Run, local_in}
 use Rattle.heap_system.specs.Systems.{AllDone, Whole}
 use Rattle.control_heap.specs.Controls.{IsByEvents, with_history}
 use Rattle.control_heap.specs.Growth.{given}
-use Rattle.shared_heap.specs.declared.rules.Held.{Held}
+use Rattle.shared_heap.specs.declared.rules.ThreadView.{ThreadView}
 use Rattle.shared_heap.specs.declared.rules.Moment.{Moment}
 use Rattle.shared_heap.specs.declared.rules.Moment.TheVariants as moments
 use Rattle.shared_heap.specs.declared.rules.Span.{Span}
@@ -269,7 +269,7 @@ pub record HaveHistoryOfSome (c : Config) (ws : List WorkerState) (cycles : ℕ)
 
 -- A worker between two commands: its seat knows the whole thread. In memory it has that thread with
 -- only its last command, and three counts.
-pub record Keeps (h : Held) (ns : List (List Moment)) (me : table.Me Command View) (id : TableId)
+pub record Mirrors (h : ThreadView) (ns : List (List Moment)) (me : table.Me Command View) (id : TableId)
     (l : LocalState) (n o : ℕ) : Type 0 where
   pub knows : me ≡ (one_view h ns, [])
   pub history : h.local ≡ with_history h.local.trace h.local.log l
@@ -282,11 +282,11 @@ pub record Keeps (h : Held) (ns : List (List Moment)) (me : table.Me Command Vie
   pub slots : id.slots ≡ 0
   pub words : id.words ≡ words_count (extent l.config) + 1
 
-abbrev pub IsKept : table.Me Command View → TableId → LocalState → ℕ → ℕ → Type 0
-IsKept me id l n o = Keeps (held_of l me.0.threads) me.0.notes me id l n o
+abbrev pub IsMirrored : table.Me Command View → TableId → LocalState → ℕ → ℕ → Type 0
+IsMirrored me id l n o = Mirrors (held_of l me.0.threads) me.0.notes me id l n o
 
 -- the value of a worker in contracts
-abbrev pub worker_of : TableId → Held → List (List Moment) → WorkerState
+abbrev pub worker_of : TableId → ThreadView → List (List Moment) → WorkerState
 worker_of id h ns = record {
   heap = id;
   thread = h.local;
@@ -319,18 +319,18 @@ abbrev pub IsNote : table.Me Command View → Type 0
 IsNote me = me ≡ (record { threads = []; notes = note_in me.0.notes ∷ [] }, [])
 
 -- these are the threads of these workers, in the same order, and each is done
-abbrev pub IsOfWorker : WorkerState → Held → Type 0
+abbrev pub IsOfWorker : WorkerState → ThreadView → Type 0
 IsOfWorker w h = (w.thread ≡ h.local) × (w.seen ≡ history_of h.past.seen) × (is_done h.local ≡ true)
     × (w.timeline ≡ h.past.seen)
 
-abbrev pub AreOfWorkers : List WorkerState → List Held → Type 0
+abbrev pub AreOfWorkers : List WorkerState → List ThreadView → Type 0
 AreOfWorkers [] [] = Unit {0}
 AreOfWorkers (w ∷ ws) (h ∷ hs) = IsOfWorker w h × AreOfWorkers ws hs
 AreOfWorkers _ _ = ⊥
 
 -- a seat knows the threads of these workers
 pub record KnowsAll (me : table.Me Command View) (ws : List WorkerState) : Type 0 where
-  pub threads : List Held
+  pub threads : List ThreadView
   pub notes : List (List Moment)
   pub knows : me ≡ (record { threads = threads; notes = notes }, [])
   pub all : AreOfWorkers ws threads

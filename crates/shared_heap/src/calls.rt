@@ -6,7 +6,7 @@ ghost use Rattle.std.specs.Prelude.{◌≡◌, IfOk};
 ghost use Rattle.never_heap.specs.declared.Command.TheVariants as commands;
 ghost use Rattle.never_heap.specs.declared.Reply.TheVariants as replies;
 ghost use Rattle.control_heap.specs.Calls.{Says, idled, stored, tested};
-ghost use Rattle.shared_heap.specs.Calls.{HasTold};
+ghost use Rattle.shared_heap.specs.Calls.{HasReturned};
 ghost use Rattle.shared_heap.specs.Workers.{IsSame};
 
 use crate::{SharedHeap, Worker};
@@ -23,7 +23,7 @@ impl SharedHeap {
     fn call<R: Wait>(&self, rt: &R, who: &mut Worker, command: Command) -> Result<Reply, Fault>
         requires { who.old.heap ≡ self.now.id }
         ensures same { IsSame who.old who.new }
-        ensures told { HasTold (λ a. a) who.old command who.new result }
+        ensures returned { HasReturned (λ a. a) who.old command who.new result }
         ensures says { IfOk result (Says command) }
     {
         outcome_of(self.ask(rt, who, command))
@@ -43,7 +43,7 @@ impl SharedHeap {
     ) -> Result<Name, Fault>
         requires { who.old.heap ≡ self.now.id }
         ensures same { IsSame who.old who.new }
-        ensures told { HasTold replies.New who.old (commands.New d fields) who.new result }
+        ensures returned { HasReturned replies.New who.old (commands.New d fields) who.new result }
     {
         let reply = self.call(rt, who, Command::New { d, fields })?;
         Ok(name_in(reply))
@@ -63,7 +63,7 @@ impl SharedHeap {
     ) -> Result<Name, Fault>
         requires { who.old.heap ≡ self.now.id }
         ensures same { IsSame who.old who.new }
-        ensures told { HasTold replies.New who.old (commands.Arr d elements) who.new result }
+        ensures returned { HasReturned replies.New who.old (commands.Arr d elements) who.new result }
     {
         let reply = self.call(rt, who, Command::Arr { d, elements })?;
         Ok(name_in(reply))
@@ -85,7 +85,7 @@ impl SharedHeap {
     ) -> Result<Value, Fault>
         requires { who.old.heap ≡ self.now.id }
         ensures same { IsSame who.old who.new }
-        ensures told { HasTold replies.Val who.old (commands.Get d s i) who.new result }
+        ensures returned { HasReturned replies.Val who.old (commands.Get d s i) who.new result }
     {
         let reply = self.call(rt, who, Command::Get { d, s, i })?;
         Ok(value_in(reply))
@@ -100,7 +100,7 @@ impl SharedHeap {
     pub fn put<R: Wait>(&self, rt: &R, who: &mut Worker, s: u8, i: u64, v: u8) -> Result<(), Fault>
         requires { who.old.heap ≡ self.now.id }
         ensures same { IsSame who.old who.new }
-        ensures told { HasTold stored who.old (commands.Put s i v) who.new result }
+        ensures returned { HasReturned stored who.old (commands.Put s i v) who.new result }
     {
         let reply = self.call(rt, who, Command::Put { s, i, v })?;
         stored_in(reply);
@@ -124,7 +124,7 @@ impl SharedHeap {
     ) -> Result<Value, Fault>
         requires { who.old.heap ≡ self.now.id }
         ensures same { IsSame who.old who.new }
-        ensures told { HasTold replies.Val who.old (commands.Swap s i v) who.new result }
+        ensures returned { HasReturned replies.Val who.old (commands.Swap s i v) who.new result }
     {
         let reply = self.call(rt, who, Command::Swap { s, i, v })?;
         Ok(value_in(reply))
@@ -149,7 +149,7 @@ impl SharedHeap {
     ) -> Result<bool, Fault>
         requires { who.old.heap ≡ self.now.id }
         ensures same { IsSame who.old who.new }
-        ensures told { HasTold tested who.old (commands.Cas s i a v) who.new result }
+        ensures returned { HasReturned tested who.old (commands.Cas s i a v) who.new result }
     {
         let reply = self.call(rt, who, Command::Cas { s, i, a, v })?;
         Ok(test_in(reply))
@@ -163,7 +163,7 @@ impl SharedHeap {
     pub fn set<R: Wait>(&self, rt: &R, who: &mut Worker, d: u8, value: u64) -> Result<(), Fault>
         requires { who.old.heap ≡ self.now.id }
         ensures same { IsSame who.old who.new }
-        ensures told { HasTold stored who.old (commands.Set d value) who.new result }
+        ensures returned { HasReturned stored who.old (commands.Set d value) who.new result }
     {
         let reply = self.call(rt, who, Command::Set { d, value })?;
         stored_in(reply);
@@ -178,7 +178,7 @@ impl SharedHeap {
     pub fn nil<R: Wait>(&self, rt: &R, who: &mut Worker, d: u8) -> Result<(), Fault>
         requires { who.old.heap ≡ self.now.id }
         ensures same { IsSame who.old who.new }
-        ensures told { HasTold stored who.old (commands.Nil d) who.new result }
+        ensures returned { HasReturned stored who.old (commands.Nil d) who.new result }
     {
         let reply = self.call(rt, who, Command::Nil { d })?;
         stored_in(reply);
@@ -193,7 +193,7 @@ impl SharedHeap {
     pub fn mov<R: Wait>(&self, rt: &R, who: &mut Worker, d: u8, s: u8) -> Result<(), Fault>
         requires { who.old.heap ≡ self.now.id }
         ensures same { IsSame who.old who.new }
-        ensures told { HasTold stored who.old (commands.Mov d s) who.new result }
+        ensures returned { HasReturned stored who.old (commands.Mov d s) who.new result }
     {
         let reply = self.call(rt, who, Command::Mov { d, s })?;
         stored_in(reply);
@@ -209,7 +209,7 @@ impl SharedHeap {
     pub fn len<R: Wait>(&self, rt: &R, who: &mut Worker, s: u8) -> Result<u64, Fault>
         requires { who.old.heap ≡ self.now.id }
         ensures same { IsSame who.old who.new }
-        ensures told { HasTold replies.Len who.old (commands.Len s) who.new result }
+        ensures returned { HasReturned replies.Len who.old (commands.Len s) who.new result }
     {
         let reply = self.call(rt, who, Command::Len { s })?;
         Ok(length_in(reply))
@@ -223,7 +223,7 @@ impl SharedHeap {
     pub fn same<R: Wait>(&self, rt: &R, who: &mut Worker, a: u8, b: u8) -> Result<bool, Fault>
         requires { who.old.heap ≡ self.now.id }
         ensures same { IsSame who.old who.new }
-        ensures told { HasTold tested who.old (commands.Same a b) who.new result }
+        ensures returned { HasReturned tested who.old (commands.Same a b) who.new result }
     {
         let reply = self.call(rt, who, Command::Same { a, b })?;
         Ok(test_in(reply))
@@ -237,7 +237,7 @@ impl SharedHeap {
     pub fn say<R: Wait>(&self, rt: &R, who: &mut Worker, s: u8) -> Result<Value, Fault>
         requires { who.old.heap ≡ self.now.id }
         ensures same { IsSame who.old who.new }
-        ensures told { HasTold replies.Val who.old (commands.Say s) who.new result }
+        ensures returned { HasReturned replies.Val who.old (commands.Say s) who.new result }
     {
         let reply = self.call(rt, who, Command::Say { s })?;
         Ok(value_in(reply))
@@ -251,7 +251,7 @@ impl SharedHeap {
     pub fn idle<R: Wait>(&self, rt: &R, who: &mut Worker, units: u64) -> Result<(), Fault>
         requires { who.old.heap ≡ self.now.id }
         ensures same { IsSame who.old who.new }
-        ensures told { HasTold idled who.old (commands.Idle units) who.new result }
+        ensures returned { HasReturned idled who.old (commands.Idle units) who.new result }
     {
         let reply = self.call(rt, who, Command::Idle { units })?;
         idle_in(reply);

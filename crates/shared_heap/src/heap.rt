@@ -15,7 +15,7 @@ ghost use Rattle.shared_heap.specs.Refusals.{IsOpenFault, IsRefused};
 
 use crate::note::Note;
 use crate::port::Port;
-use crate::rules::{Both, Cut, Drawn, Given, Law, Noted, View};
+use crate::rules::{Announced, Drawn, JoinViews, Law, NoteView, SplitView, View};
 use crate::worker::{Worker, objects_of};
 use atom_board::drives;
 use atomic_table::{Seat, Shared, Table};
@@ -102,7 +102,7 @@ fn dealt(
     let mut seat = seat;
     let mut workers = room;
     for local in locals {
-        let own = shared.split_seat::<Cut>(&mut seat);
+        let own = shared.split_seat::<SplitView>(&mut seat);
         let port = Port { seat: own };
         workers.push_reserved(Worker {
             port,
@@ -147,7 +147,7 @@ pub(crate) fn announce(
     ensures { HasAnnounced port.old.seat.me port.old.seat.table_id local.old command
         port.new.seat.me port.new.seat.table_id local.new }
 {
-    shared.compare_exchange_with::<Given>(&mut port.seat, 0, 0, 0, &command);
+    shared.compare_exchange_with::<Announced>(&mut port.seat, 0, 0, 0, &command);
     local.begin(command);
 }
 
@@ -208,7 +208,7 @@ fn ordered(who: Vec<Worker>, threads: usize) -> Vec<Worker>
 }
 
 // The first of the workers, and the others.
-#[tactic(auto, using(crate::proofs::Crews::taken_first))]
+#[tactic(auto, using(crate::proofs::AllWorkers::taken_first))]
 pub(crate) fn first_and_rest(who: Vec<Worker>) -> (Worker, Vec<Worker>)
     requires { 0 < length who.items }
     ensures { result.0 ∷ result.1.items ≡ who.items }
@@ -234,7 +234,7 @@ fn gathered(
     let mut seat = port.seat;
     for worker in rest {
         let Worker { port, .. } = worker;
-        shared.join_seat::<Both>(&mut seat, port.seat);
+        shared.join_seat::<JoinViews>(&mut seat, port.seat);
     }
     seat
 }
@@ -335,7 +335,7 @@ impl SharedHeap {
         ensures seen { result.seen ≡ who.old.seen }
         ensures same { who.new ≡ who.old }
     {
-        let seat = self.table.shared.split_seat::<Noted>(&mut who.port.seat);
+        let seat = self.table.shared.split_seat::<NoteView>(&mut who.port.seat);
         Note { seat }
     }
 
@@ -349,7 +349,7 @@ impl SharedHeap {
         let Note { seat } = note;
         self.table
             .shared
-            .join_seat::<Both>(&mut who.port.seat, seat);
+            .join_seat::<JoinViews>(&mut who.port.seat, seat);
     }
 
     /// Draws a stamp for a worker of this heap: a number to compare with the stamps of other

@@ -11,7 +11,7 @@ ghost use Rattle.never_heap.specs.declared.Reply.{Reply};
 ghost use Rattle.never_heap.specs.Bounds.{IsCommandInBounds};
 ghost use Rattle.never_heap.specs.Histories.{HistoryItem};
 ghost use Rattle.heap_system.specs.Systems.{Whole};
-ghost use Rattle.shared_heap.specs.declared.rules.Held.{Held};
+ghost use Rattle.shared_heap.specs.declared.rules.ThreadView.{ThreadView};
 ghost use Rattle.shared_heap.specs.declared.rules.Moment.{Moment};
 ghost use Rattle.shared_heap.specs.declared.rules.Moment.TheVariants as moments;
 ghost use Rattle.shared_heap.specs.declared.rules.View.{View};
@@ -19,7 +19,7 @@ ghost use Rattle.shared_heap.specs.Shared.{IsStartOf, SharedKept, history_of, on
 ghost use Rattle.shared_heap.specs.RealTime.{PrecedesLaterCommands, IsSeatOf, HadSeen};
 ghost use Rattle.shared_heap.specs.Workers.{HasAnswered, HasRoom, HasSeenIts, WorkerState};
 ghost use Rattle.shared_heap.specs.Stamps.{HasDrawn};
-ghost use Rattle.shared_heap.specs.Behind.{StandsBehind, StandsBehindAll};
+ghost use Rattle.shared_heap.specs.EntryPlaces.{StandsBehind, StandsBehindAll};
 ghost use Rattle.shared_heap.specs.Prefixes.{FitsOneHistory, AllAreDone, EndsInTime};
 
 /// Wherever the rule of the table holds, and so between any two steps of any threads, the replies
@@ -42,7 +42,7 @@ pub fn what_was_answered_fits_one_history()
 pub fn what_was_seen_comes_before_what_is_invoked_later()
     ensures { (k : Whole) (s later : table.State Command View) (now : SharedKept k s)
         (then : SharedKept k later) (p : List Moment) → HadSeen s p → HadSeen later p
-        → (h : Held) → IsSeatOf s h → PrecedesLaterCommands p h then.run.order }
+        → (h : ThreadView) → IsSeatOf s h → PrecedesLaterCommands p h then.run.order }
 {}
 
 /// Real-time order, of commands of a heap that was closed, by `close` or `close_some`, with this
@@ -82,7 +82,7 @@ pub fn stamps_are_in_order()
 /// single thread: `command_bound` turns, and `command_near` turns.
 pub fn commands_alone_end_in_time()
     ensures { (k : Whole) (s : table.State Command View) (kept : SharedKept k s) → AllAreDone s
-        → (id : ℕ) (h : Held) (ns : List (List Moment)) (m : Command)
+        → (id : ℕ) (h : ThreadView) (ns : List (List Moment)) (m : Command)
         → get_elem? s.views id ≡ some (one_view h ns)
         → IsCommandInBounds h.local.config m → HasRoom h.local m
         → EndsInTime k.config h.local.thread m kept.run }

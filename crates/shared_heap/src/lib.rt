@@ -24,6 +24,7 @@ pub use laws::{
 pub use note::Note;
 pub use pending::Pending;
 pub use rules::{
-    Both, Call, Cut, Drawn, Given, Held, Law, Moment, Noted, Past, Span, Turned, View,
+    Announced, Call, Drawn, JoinViews, Law, Moment, NoteView, SeenHistory, Span, SplitView,
+    ThreadView, Turned, View,
 };
 pub use worker::Worker;

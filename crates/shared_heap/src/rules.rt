@@ -49,7 +49,7 @@ pub struct Call {
 }
 
 /// What the seat of a thread knows beyond the thread. It is used in proofs only.
-pub struct Past {
+pub struct SeenHistory {
     /// The timeline up to the thread's last step.
     pub seen: LinkedList<Moment>,
     /// The turns of its last command.
@@ -60,17 +60,17 @@ pub struct Past {
 
 /// A thread with all of its commands and the entries of those that are finished, and what its seat
 /// knows of the run. It is used in proofs only.
-pub struct Held {
+pub struct ThreadView {
     /// The thread.
     pub local: Local,
     /// What its seat knows.
-    pub past: Past,
+    pub past: SeenHistory,
 }
 
 /// What a seat knows: its threads, and what it has learned from notes. It is used in proofs only.
 pub struct View {
     /// One for the seat of a worker, and none for the seat of a note.
-    pub threads: LinkedList<Held>,
+    pub threads: LinkedList<ThreadView>,
     /// Timelines that other workers had seen. The seat of a note has one.
     pub notes: LinkedList<LinkedList<Moment>>,
 }
@@ -95,9 +95,9 @@ impl Play<Command, View> for Turned {
 
 /// The command that the step announces is appended to the trace of the seat's thread, and its
 /// invocation to the timeline.
-pub struct Given {}
+pub struct Announced {}
 
-impl Play<Command, View> for Given {
+impl Play<Command, View> for Announced {
     ghost then = { λ s me found after. gives_on s.said found me after };
 }
 
@@ -109,27 +109,27 @@ impl Play<Command, View> for Drawn {
 }
 
 /// One thread moves to a new seat.
-pub struct Cut {}
+pub struct SplitView {}
 
-impl Split<View> for Cut {
+impl Split<View> for SplitView {
     ghost left = { rest_of };
 
     ghost right = { first_of };
 }
 
 /// A new seat notes what the thread has seen.
-pub struct Noted {}
+pub struct NoteView {}
 
-impl Split<View> for Noted {
+impl Split<View> for NoteView {
     ghost left = { same_view };
 
     ghost right = { noted_of };
 }
 
 /// A seat takes over the threads and the notes of another.
-pub struct Both {}
+pub struct JoinViews {}
 
-impl Join<View> for Both {
+impl Join<View> for JoinViews {
     ghost both = { joined };
 
     ghost spent = { no_view };

@@ -40,14 +40,14 @@ pub struct Worker {
 impl Model for Worker {
     ghost use Rattle.std.specs.Prelude.{◌≡◌};
     ghost use Rattle.shared_heap.specs.Shared.{held_of};
-    ghost use Rattle.shared_heap.specs.Workers.{WorkerState, IsKept, worker_of};
+    ghost use Rattle.shared_heap.specs.Workers.{WorkerState, IsMirrored, worker_of};
 
     ghost Value = { WorkerState };
 
     ghost view = { λ w. worker_of w.port.seat.table_id
         (held_of w.local w.port.seat.me.0.threads) w.port.seat.me.0.notes };
 
-    ghost invariant = { λ w. IsKept w.port.seat.me w.port.seat.table_id w.local w.count w.objects
+    ghost invariant = { λ w. IsMirrored w.port.seat.me w.port.seat.table_id w.local w.count w.objects
         × (w.config ≡ w.local.config) };
 }
 

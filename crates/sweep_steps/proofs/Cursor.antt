@@ -12,11 +12,11 @@ use Rattle.sweep_steps.specs.declared.rows.SweepRow.TheVariants.{ReadCursor, Cla
 use Rattle.sweep_steps.specs.SweepUnits.{row_passes, row_claims, blocks_from, is_reading, unpassed}
 use Rattle.sweep_steps.specs.Fits.{RowFits, SweepFits}
 use Rattle.sweep_steps.proofs.PassedBlocks.{nothing_read}
-use Rattle.sweep_steps.specs.Rows.{SweepState, row_want, row_got, after_read, after_range, next_block, before_free, sweep_want, sweep_got, sweep_holding, sweep_nothing}
+use Rattle.sweep_steps.specs.Rows.{SweepState, row_want, row_got, after_read, after_range, next_block, before_free, sweep_want, sweep_got, sweep_in_hand, sweep_nothing}
 
 -- the blocks that a row has left
 abbrev left_at : SweepRow → ℕ
-left_at r = unpassed (sweep_holding r)
+left_at r = unpassed (sweep_in_hand r)
 
 read_left : (m owed w : ℕ) → left_at (after_read m owed w) ≡ 0
 read_left m owed w =
@@ -75,7 +75,7 @@ leaves c m owed (Credit p v) w f = omega arith
 leaves c m owed (Swept p v) w f = omega arith
 leaves c m owed NothingLeft w f = omega arith
 
--- a part that finds nothing does so where the cursor is behind the last block
+-- a part that finds nothing does so where the cursor is after the last block
 found_none : (r : SweepRow) (m w : ℕ)
     → (false || cond (is_reading r) (ltb m w) false) ≡ true → (r ≡ ReadCursor) × (m < w)
 found_none ReadCursor m w e = (refl, ltb-true m w e)
@@ -98,13 +98,13 @@ pub cursor_moves : (c : Config) (h : Heap) (s : SweepState) → SweepFits c s
 cursor_moves c h s f = claims h s.thread s.cycle s.blocks s.owed s.row (row_of c s f)
 
 pub left_moves : (c : Config) (s : SweepState) (w : ℕ) → SweepFits c s
-    → unpassed (sweep_holding s.row) + length (row_claims s.row w)
-    ≡ unpassed (sweep_holding (sweep_got s w).row) + bit (is_some (row_passes s.cycle s.row w))
+    → unpassed (sweep_in_hand s.row) + length (row_claims s.row w)
+    ≡ unpassed (sweep_in_hand (sweep_got s w).row) + bit (is_some (row_passes s.cycle s.row w))
 left_moves c s w f = leaves s.cycle s.blocks s.owed s.row w (row_of c s f)
 
 pub both_move : (c : Config) (h : Heap) (s : SweepState) → SweepFits c s
-    → heap_after h (sweep_want s) Cursor + unpassed (sweep_holding s.row)
-    ≡ h Cursor + unpassed (sweep_holding (sweep_got s (h (place_of (sweep_want s)))).row)
+    → heap_after h (sweep_want s) Cursor + unpassed (sweep_in_hand s.row)
+    ≡ h Cursor + unpassed (sweep_in_hand (sweep_got s (h (place_of (sweep_want s)))).row)
     + bit (is_some (row_passes s.cycle s.row (h (place_of (sweep_want s)))))
 both_move c h s f =
     omega (arith, cursor_moves c h s f, left_moves c s (h (place_of (sweep_want s))) f)

@@ -4,33 +4,27 @@ use Rattle.std.proofs.lemmas.Bool.{cases_Bool, cases_eq}
 use Rattle.block_store.specs.declared.Config.{Config}
 use Rattle.block_store.specs.declared.Colour.TheVariants.{Free}
 use Rattle.block_store.specs.Colours.{is_free, is_grey, white_word, free_word}
-use Rattle.block_store.proofs.ColourWords.{colour-code, link-free, not_grey_white, not_grey_free, free_free}
+use Rattle.block_store.proofs.Lemmas.{colour-code, free_free, link-free, not_grey_free, not_grey_white, one_place}
 use Rattle.block_store.specs.Heaps.{Heap, put_at}
 use Rattle.block_store.specs.Phases.{is_sweep, cycle_of}
 use Rattle.block_store.specs.Places.{Extent, extent, Place, Phase, Cursor, FreeCount, FreeList, ColourOf, same_place}
-use Rattle.block_store.proofs.Indexes.{one_place}
 use Rattle.block_store.specs.Counts.{changed}
-use Rattle.heap_machine.specs.Grey.{GreyHolding, no_grey, GreyKept}
-use Rattle.heap_machine.specs.Holdings.{Holding, grey_held, free_held}
+use Rattle.heap_machine.specs.Grey.{GreyInHand, no_grey, GreyKept}
+use Rattle.heap_machine.specs.WorkInHand.{WorkInHand, grey_held, free_held}
 use Rattle.heap_machine.specs.Operations.{Exchange, CompareExchange, FetchAdd, place_of, heap_after}
 use Rattle.heap_machine.specs.Readings.{IsHeld}
 use Rattle.heap_machine.specs.PhaseKept.{PhaseKept}
 use Rattle.heap_machine.specs.ReuseKept.{ReuseKept}
-use Rattle.heap_machine.proofs.FreeBlocks.{free_few}
-use Rattle.heap_machine.proofs.GreyBlocks.{kept_other, kept_other_colour}
-use Rattle.heap_machine.proofs.GreyEvents.{stays}
-use Rattle.heap_machine.proofs.Held.{held_put, held_after}
-use Rattle.heap_machine.proofs.HeapRules.{part_changed}
-use Rattle.heap_machine.proofs.PhaseRules.{from_sweep}
+use Rattle.heap_machine.proofs.Lemmas.{free_few, from_sweep, held_after, held_put, kept_other, kept_other_colour, part_changed, stays}
 use Rattle.sweep_steps.specs.declared.rows.SweepRow.{SweepRow}
 use Rattle.sweep_steps.specs.declared.rows.SweepRow.TheVariants.{ReadCursor, ClaimRange, PassBlock, TakeFree, FreeBlock, PutFree, Credit, Swept, NothingLeft}
-use Rattle.sweep_steps.specs.Rows.{SweepState, row_want, sweep_want, sweep_got, sweep_holding}
+use Rattle.sweep_steps.specs.Rows.{SweepState, row_want, sweep_want, sweep_got, sweep_in_hand}
 use Rattle.sweep_steps.specs.SweepUnits.{is_freeing, is_unswept}
 use Rattle.sweep_steps.specs.Fits.{RowFits, SweepFits, IsSweeping}
 use Rattle.sweep_steps.proofs.ReuseRulesKept.{doomed_white, keeps_reuse}
 
 -- what the thread holds of the grey blocks
-none_grey : (r : SweepRow) → grey_held (sweep_holding r) ≡ no_grey
+none_grey : (r : SweepRow) → grey_held (sweep_in_hand r) ≡ no_grey
 none_grey ReadCursor = refl
 none_grey (ClaimRange x high) = refl
 none_grey (PassBlock x high p a g) = refl
@@ -56,10 +50,10 @@ cas_other : (h : Heap) (p q : Place) (old v : ℕ) → same_place p q ≡ false
 cas_other h p q old v away =
     elim (cases_Bool (eqb (h p) old)) [ inl is ↦ rw (is, away) refl | inr is ↦ rw is refl ]
 
-module _ (ex : Extent) (h : Heap) (hs : ℕ → Holding) (k : ReuseKept ex h hs) (t c owed : ℕ)
+module _ (ex : Extent) (h : Heap) (hs : ℕ → WorkInHand) (k : ReuseKept ex h hs) (t c owed : ℕ)
     (low : t < ex.threads) (phase : is_sweep (h Phase) ≡ true)
     (cycle : cycle_of (h Phase) ≡ c) where
-  row_colours : (r : SweepRow) → RowFits ex.blocks owed r → hs t ≡ sweep_holding r → (x : ℕ)
+  row_colours : (r : SweepRow) → RowFits ex.blocks owed r → hs t ≡ sweep_in_hand r → (x : ℕ)
       → (heap_after h (row_want t c r) (ColourOf x) ≡ h (ColourOf x))
       ⊎ (is_freeing r ≡ true) × (h (ColourOf x) ≡ white_word c)
       × (is_free (heap_after h (row_want t c r) (ColourOf x)) ≡ true)
@@ -77,7 +71,7 @@ module _ (ex : Extent) (h : Heap) (hs : ℕ → Holding) (k : ReuseKept ex h hs)
   row_colours (Swept p g) f e x = inl refl
   row_colours NothingLeft f e x = inl refl
 
-  row_frees : (r : SweepRow) → RowFits ex.blocks owed r → hs t ≡ sweep_holding r
+  row_frees : (r : SweepRow) → RowFits ex.blocks owed r → hs t ≡ sweep_in_hand r
       → is_freeing r ≡ true
       → (x : ℕ) × (place_of (row_want t c r) ≡ ColourOf x) × (h (ColourOf x) ≡ white_word c)
       × (is_free (heap_after h (row_want t c r) (ColourOf x)) ≡ true)
@@ -89,8 +83,8 @@ module _ (ex : Extent) (h : Heap) (hs : ℕ → Holding) (k : ReuseKept ex h hs)
   )
   row_frees _ f e is = absurd cc
 
-  row_grey : (r : SweepRow) → RowFits ex.blocks owed r → hs t ≡ sweep_holding r
-      → (gs : ℕ → GreyHolding) → GreyKept ex.threads h gs
+  row_grey : (r : SweepRow) → RowFits ex.blocks owed r → hs t ≡ sweep_in_hand r
+      → (gs : ℕ → GreyInHand) → GreyKept ex.threads h gs
       → GreyKept ex.threads (heap_after h (row_want t c r)) gs
   row_grey ReadCursor f e gs g = g
   row_grey (ClaimRange y high) f e gs g =
@@ -107,9 +101,9 @@ module _ (ex : Extent) (h : Heap) (hs : ℕ → Holding) (k : ReuseKept ex h hs)
   row_grey (Swept p v) f e gs g = g
   row_grey NothingLeft f e gs g = g
 
-row_words : (cf : Config) (h : Heap) (hs : ℕ → Holding) (k : ReuseKept (extent cf) h hs)
+row_words : (cf : Config) (h : Heap) (hs : ℕ → WorkInHand) (k : ReuseKept (extent cf) h hs)
     (t c owed : ℕ) → t < cf.threads → cf.blocks ≤ 65535 → (r : SweepRow)
-    → RowFits cf.blocks owed r → hs t ≡ sweep_holding r → IsHeld cf h
+    → RowFits cf.blocks owed r → hs t ≡ sweep_in_hand r → IsHeld cf h
     → IsHeld cf (heap_after h (row_want t c r))
 row_words cf h hs k t c owed low few ReadCursor f e g = g
 row_words cf h hs k t c owed low few (ClaimRange y high) f e g =
@@ -119,13 +113,13 @@ row_words cf h hs k t c owed low few (PassBlock y high p a v) f e g = g
 row_words cf h hs k t c owed low few (TakeFree y high p) f e g =
     held_put cf h (FreeList t) 0 (omega arith) g
 row_words cf h hs k t c owed low few (FreeBlock y high p a v) f e g =
-    let hand = f.1 in
+    let list = f.1 in
     held_put cf h (ColourOf y) (free_word a)
     (ap is_some (colour-code (Free a) (omega arith)), omega (arith, link-free a)) g
 row_words cf h hs k t c owed low few (PutFree a p v) f e g = held_put cf h (FreeList t) a f.1 g
 row_words cf h hs k t c owed low few (Credit p v) f e g =
     let all = free_few (extent cf) h (λ u. free_held (hs u)) k.free t low in
-    let mine : (hs t).freed ≡ v = ap (λ (w : Holding). w.freed) e in
+    let mine : (hs t).freed ≡ v = ap (λ (w : WorkInHand). w.freed) e in
     held_put cf h FreeCount (h FreeCount + v) (omega arith) g
 row_words cf h hs k t c owed low few (Swept p v) f e g = g
 row_words cf h hs k t c owed low few NothingLeft f e g = g
@@ -154,43 +148,43 @@ pub leaves_others : (h : Heap) (s : SweepState) (p : Place) → is_unswept p ≡
     → heap_after h (sweep_want s) p ≡ h p
 leaves_others h s p is = row_leaves h s.thread s.cycle s.row p is
 
-pub colours_stay : (c : Config) (h : Heap) (hs : ℕ → Holding) (s : SweepState) → SweepFits c s
+pub colours_stay : (c : Config) (h : Heap) (hs : ℕ → WorkInHand) (s : SweepState) → SweepFits c s
     → IsSweeping h s
-    → ReuseKept (extent c) h hs → hs s.thread ≡ sweep_holding s.row → (x : ℕ)
+    → ReuseKept (extent c) h hs → hs s.thread ≡ sweep_in_hand s.row → (x : ℕ)
     → (heap_after h (sweep_want s) (ColourOf x) ≡ h (ColourOf x))
     ⊎ (is_freeing s.row ≡ true) × (h (ColourOf x) ≡ white_word s.cycle)
     × (is_free (heap_after h (sweep_want s) (ColourOf x)) ≡ true)
 colours_stay c h hs s f is k e =
     row_colours (extent c) h hs k s.thread s.cycle s.owed f.thread is.phase is.cycle s.row f.row e
 
-pub frees_white : (c : Config) (h : Heap) (hs : ℕ → Holding) (s : SweepState) → SweepFits c s
+pub frees_white : (c : Config) (h : Heap) (hs : ℕ → WorkInHand) (s : SweepState) → SweepFits c s
     → IsSweeping h s
-    → ReuseKept (extent c) h hs → hs s.thread ≡ sweep_holding s.row → is_freeing s.row ≡ true
+    → ReuseKept (extent c) h hs → hs s.thread ≡ sweep_in_hand s.row → is_freeing s.row ≡ true
     → (x : ℕ) × (place_of (sweep_want s) ≡ ColourOf x) × (h (ColourOf x) ≡ white_word s.cycle)
     × (is_free (heap_after h (sweep_want s) (ColourOf x)) ≡ true)
 frees_white c h hs s f is k e =
     row_frees (extent c) h hs k s.thread s.cycle s.owed f.thread is.phase is.cycle s.row f.row e
 
-pub keeps_grey : (c : Config) (h : Heap) (hs : ℕ → Holding) (s : SweepState) → SweepFits c s
+pub keeps_grey : (c : Config) (h : Heap) (hs : ℕ → WorkInHand) (s : SweepState) → SweepFits c s
     → IsSweeping h s
-    → ReuseKept (extent c) h hs → hs s.thread ≡ sweep_holding s.row
+    → ReuseKept (extent c) h hs → hs s.thread ≡ sweep_in_hand s.row
     → GreyKept c.threads h (λ u. grey_held (hs u))
     → GreyKept c.threads (heap_after h (sweep_want s))
     (λ u. grey_held (changed hs s.thread
-    (sweep_holding (sweep_got s (h (place_of (sweep_want s)))).row) u))
+    (sweep_in_hand (sweep_got s (h (place_of (sweep_want s)))).row) u))
 keeps_grey c h hs s f is k e g =
     let next = (sweep_got s (h (place_of (sweep_want s)))).row in
-    let gs : ℕ → GreyHolding = λ u. grey_held (hs u) in
-    let same : grey_held (hs s.thread) ≡ grey_held (sweep_holding next) =
+    let gs : ℕ → GreyInHand = λ u. grey_held (hs u) in
+    let same : grey_held (hs s.thread) ≡ grey_held (sweep_in_hand next) =
     ap grey_held e ∙ none_grey s.row ∙ sym (none_grey next) in
-    subst (λ (ws : ℕ → GreyHolding). GreyKept c.threads (heap_after h (sweep_want s)) ws)
-    (part_changed grey_held hs s.thread (sweep_holding next))
+    subst (λ (ws : ℕ → GreyInHand). GreyKept c.threads (heap_after h (sweep_want s)) ws)
+    (part_changed grey_held hs s.thread (sweep_in_hand next))
     (row_grey (extent c) h hs k s.thread s.cycle s.owed f.thread is.phase is.cycle s.row f.row e
-    (changed gs s.thread (grey_held (sweep_holding next)))
-    (stays c.threads h gs g s.thread f.thread (grey_held (sweep_holding next)) same))
+    (changed gs s.thread (grey_held (sweep_in_hand next)))
+    (stays c.threads h gs g s.thread f.thread (grey_held (sweep_in_hand next)) same))
 
-pub keeps_words : (c : Config) (h : Heap) (hs : ℕ → Holding) (s : SweepState) → SweepFits c s
-    → ReuseKept (extent c) h hs → hs s.thread ≡ sweep_holding s.row → IsHeld c h
+pub keeps_words : (c : Config) (h : Heap) (hs : ℕ → WorkInHand) (s : SweepState) → SweepFits c s
+    → ReuseKept (extent c) h hs → hs s.thread ≡ sweep_in_hand s.row → IsHeld c h
     → IsHeld c (heap_after h (sweep_want s))
 keeps_words c h hs s f k e g =
     row_words c h hs k s.thread s.cycle s.owed f.thread f.few s.row f.row e g
@@ -203,14 +197,14 @@ keeps_sweeping h s w k =
     record { phase = ap is_sweep same ∙ k.phase; cycle = ap cycle_of same ∙ k.cycle }
 
 -- all that is kept in Sweep
-pub keeps_phase : (c : Config) (h : Heap) (hs : ℕ → Holding) (s : SweepState) → SweepFits c s
+pub keeps_phase : (c : Config) (h : Heap) (hs : ℕ → WorkInHand) (s : SweepState) → SweepFits c s
     → IsSweeping h s
-    → PhaseKept (extent c) h hs → hs s.thread ≡ sweep_holding s.row
+    → PhaseKept (extent c) h hs → hs s.thread ≡ sweep_in_hand s.row
     → PhaseKept (extent c) (heap_after h (sweep_want s))
-    (changed hs s.thread (sweep_holding (sweep_got s (h (place_of (sweep_want s)))).row))
+    (changed hs s.thread (sweep_in_hand (sweep_got s (h (place_of (sweep_want s)))).row))
 keeps_phase c h hs s f is k e =
     let w = h (place_of (sweep_want s)) in
     from_sweep (extent c) (heap_after h (sweep_want s))
-    (changed hs s.thread (sweep_holding (sweep_got s w).row))
+    (changed hs s.thread (sweep_in_hand (sweep_got s w).row))
     (keeps_sweeping h s w is).phase (keeps_grey c h hs s f is k.reuse e k.grey)
     (keeps_reuse c h hs s f is k.reuse e)

@@ -7,7 +7,7 @@ use Rattle.block_store.specs.Colours.{white_word}
 use Rattle.block_store.specs.Phases.{bit}
 use Rattle.sweep_steps.specs.declared.rows.SweepRow.{SweepRow}
 use Rattle.sweep_steps.specs.declared.rows.SweepRow.TheVariants.{ReadCursor, ClaimRange, PassBlock, TakeFree, FreeBlock, PutFree, Credit, Swept, NothingLeft}
-use Rattle.sweep_steps.specs.Rows.{SweepState, row_got, after_range, next_block, before_free, range_end, sweep_got, sweep_over, sweep_unit, sweep_passed, sweep_nothing, sweeping, sweep_holding}
+use Rattle.sweep_steps.specs.Rows.{SweepState, row_got, after_range, next_block, before_free, range_end, sweep_got, sweep_over, sweep_unit, sweep_passed, sweep_nothing, sweeping, sweep_in_hand}
 use Rattle.sweep_steps.specs.SweepUnits.{row_passes, row_claims, is_reading, blocks_from, blocks_left, sweep_after, with_first, blocks_passed, blocks_claimed}
 use Rattle.sweep_steps.specs.Fits.{IsLeft, RowFits, SweepFits}
 
@@ -143,10 +143,10 @@ passed_bits s w = passed_counts s w
 
 -- with what is left of the range, at most as many as were owed
 pub claimed_due : (c : Config) (s : SweepState) → SweepFits c s
-    → (sweep_holding s.row).high + sweep_passed s.row ≤ (sweep_holding s.row).low + s.owed
+    → (sweep_in_hand s.row).high + sweep_passed s.row ≤ (sweep_in_hand s.row).low + s.owed
 claimed_due c s f = due_row c.blocks s.owed s.row f.row where
   due_row : (m owed : ℕ) (r : SweepRow) → RowFits m owed r
-      → (sweep_holding r).high + sweep_passed r ≤ (sweep_holding r).low + owed
+      → (sweep_in_hand r).high + sweep_passed r ≤ (sweep_in_hand r).low + owed
   due_row m owed ReadCursor f = omega arith
   due_row m owed (ClaimRange x high) f = omega arith
   due_row m owed (PassBlock x high p a g) f = f.0.due
@@ -203,7 +203,7 @@ module _ (c m owed : ℕ) (due : 1 ≤ owed) where
   row_some (Swept p g) w f = tt
   row_some NothingLeft w f = tt
 
-  -- the blocks from x on are x and those behind it
+  -- the blocks from x on are x and those after it
   from_next : (x high p a f : ℕ) → x < high
       → blocks_from x (high - x) ≡ x ∷ blocks_left (next_block x high p a f)
   from_next x high p a f some = elim (cases_Bool (ltb (x + 1) high)) [

@@ -19,22 +19,22 @@ pub record IsLeft (m owed x high passed : ℕ) : Type 0 where
   pub few : high + passed ≤ x + 8
   pub due : high + passed ≤ x + owed
 
--- what was freed, of the blocks that were passed, is in the hand, which is a block or 0
+-- what was freed, of the blocks that were passed, is in the private list, which is a block or 0
 abbrev pub IsFreed : ℕ → ℕ → ℕ → ℕ → Type 0
-IsFreed m passed hand freed =
-    (freed ≡ 0) × (hand ≡ 0) ⊎ (1 ≤ freed) × (freed ≤ passed) × (1 ≤ hand) × (hand ≤ m)
+IsFreed m passed list freed =
+    (freed ≡ 0) × (list ≡ 0) ⊎ (1 ≤ freed) × (freed ≤ passed) × (1 ≤ list) × (list ≤ m)
 
 -- the numbers that a row names are in range, of m blocks
 abbrev pub RowFits : ℕ → ℕ → SweepRow → Type 0
 RowFits m owed ReadCursor = Unit {0}
 RowFits m owed (ClaimRange x high) = IsLeft m owed x high 0
-RowFits m owed (PassBlock x high passed hand freed) =
-    IsLeft m owed x high passed × IsFreed m passed hand freed
+RowFits m owed (PassBlock x high passed list freed) =
+    IsLeft m owed x high passed × IsFreed m passed list freed
 RowFits m owed (TakeFree x high passed) = IsLeft m owed x high passed
-RowFits m owed (FreeBlock x high passed hand freed) =
-    IsLeft m owed x high passed × (hand ≤ m) × (freed ≤ passed)
-RowFits m owed (PutFree hand passed freed) =
-    (1 ≤ hand) × (hand ≤ m) × (1 ≤ freed) × (freed ≤ passed) × (passed ≤ 8) × (passed ≤ owed)
+RowFits m owed (FreeBlock x high passed list freed) =
+    IsLeft m owed x high passed × (list ≤ m) × (freed ≤ passed)
+RowFits m owed (PutFree list passed freed) =
+    (1 ≤ list) × (list ≤ m) × (1 ≤ freed) × (freed ≤ passed) × (passed ≤ 8) × (passed ≤ owed)
 RowFits m owed (Credit passed freed) =
     (1 ≤ freed) × (freed ≤ passed) × (passed ≤ 8) × (passed ≤ owed)
 RowFits m owed (Swept passed freed) =

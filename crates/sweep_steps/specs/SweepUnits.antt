@@ -1,17 +1,18 @@
--- Which events pass a block, free one and put a hand, and which blocks a part claims and passes.
+-- Which events pass a block, free one and put a private list, and which blocks a part claims and
+-- passes.
 use Rattle.std.specs.Prelude.{ℕ, zero, suc, ◌+◌, ◌-◌, ◌==◌, Bool, true, false, if◌then◌else◌, Option, Some, None, List, [], ◌∷◌, ◌++◌, is_some}
 use Rattle.block_store.specs.Colours.{white_word}
 use Rattle.block_store.specs.Places.{Place, Cursor, FreeCount, FreeList, ColourOf}
-use Rattle.heap_machine.specs.Holdings.{Holding}
+use Rattle.heap_machine.specs.WorkInHand.{WorkInHand}
 use Rattle.heap_machine.specs.declared.Outcome.{Outcome}
 use Rattle.sweep_steps.specs.declared.rows.SweepRow.{SweepRow}
 use Rattle.sweep_steps.specs.declared.rows.SweepRow.TheVariants.{ReadCursor, ClaimRange, PassBlock, FreeBlock, PutFree}
-use Rattle.sweep_steps.specs.Rows.{SweepState, sweep_got, sweep_step, sweep_holding}
+use Rattle.sweep_steps.specs.Rows.{SweepState, sweep_got, sweep_step, sweep_in_hand}
 
 -- the event passes this block: it read a block that is not white, or freed one
 abbrev pub row_passes : ℕ → SweepRow → ℕ → Option ℕ
-row_passes c (PassBlock x high passed hand freed) w = if w == white_word c then None else Some x
-row_passes c (FreeBlock x high passed hand freed) w = Some x
+row_passes c (PassBlock x high passed list freed) w = if w == white_word c then None else Some x
+row_passes c (FreeBlock x high passed list freed) w = Some x
 row_passes c r w = None
 
 -- what an event is: its step, and whether it makes a unit
@@ -23,11 +24,11 @@ is_reading ReadCursor = true
 is_reading _ = false
 
 abbrev pub is_freeing : SweepRow → Bool
-is_freeing (FreeBlock x high passed hand freed) = true
+is_freeing (FreeBlock x high passed list freed) = true
 is_freeing _ = false
 
 abbrev pub is_putting : SweepRow → Bool
-is_putting (PutFree hand passed freed) = true
+is_putting (PutFree list passed freed) = true
 is_putting _ = false
 
 -- n blocks from x on
@@ -41,12 +42,12 @@ row_claims (ClaimRange x high) w = if w == x then blocks_from x (high - x) else 
 row_claims r w = []
 
 -- how many blocks a thread has claimed and not yet passed
-abbrev pub unpassed : Holding → ℕ
+abbrev pub unpassed : WorkInHand → ℕ
 unpassed w = w.high - w.low
 
 -- those of them before the event of a row
 abbrev pub blocks_left : SweepRow → List ℕ
-blocks_left r = blocks_from (sweep_holding r).low (unpassed (sweep_holding r))
+blocks_left r = blocks_from (sweep_in_hand r).low (unpassed (sweep_in_hand r))
 
 -- the state after events that read these words, in this order
 abbrev pub sweep_after : SweepState → List ℕ → SweepState

@@ -1,5 +1,5 @@
 //! The sweep, one atomic operation at a time: a thread claims up to eight blocks, passes them one
-//! by one, and frees those that are white. Free blocks stand in lists that are linked through the
+//! by one, and frees those that are white. Free blocks are in lists that are linked through the
 //! blocks' own colour words, so sweeping takes no memory.
 #![tactic(auto)]
 

@@ -67,7 +67,7 @@ fn after_claim(block: u32, end: u32, cursor: u64) -> SweepRow
             block,
             end,
             passed: 0,
-            hand: 0,
+            list: 0,
             freed: 0,
         }
     } else {
@@ -76,14 +76,14 @@ fn after_claim(block: u32, end: u32, cursor: u64) -> SweepRow
 }
 
 // After the last block of the range was passed.
-fn after_range(passed: u32, hand: u32, freed: u32) -> SweepRow
-    ensures { result ≡ Rows.after_range passed hand freed }
+fn after_range(passed: u32, list: u32, freed: u32) -> SweepRow
+    ensures { result ≡ Rows.after_range passed list freed }
 {
     if freed == 0 {
         SweepRow::Swept { passed, freed }
     } else {
         SweepRow::PutFree {
-            hand,
+            list,
             passed,
             freed,
         }
@@ -91,9 +91,9 @@ fn after_range(passed: u32, hand: u32, freed: u32) -> SweepRow
 }
 
 // After the block was passed.
-fn next_block(block: u32, end: u32, passed: u32, hand: u32, freed: u32) -> SweepRow
+fn next_block(block: u32, end: u32, passed: u32, list: u32, freed: u32) -> SweepRow
     requires { (block ≤ 65535) × (passed < 8) }
-    ensures { result ≡ Rows.next_block block end passed hand freed }
+    ensures { result ≡ Rows.next_block block end passed list freed }
 {
     let passed = passed + 1;
     if block + 1 < end {
@@ -101,24 +101,24 @@ fn next_block(block: u32, end: u32, passed: u32, hand: u32, freed: u32) -> Sweep
             block: block + 1,
             end,
             passed,
-            hand,
+            list,
             freed,
         }
     } else {
-        after_range(passed, hand, freed)
+        after_range(passed, list, freed)
     }
 }
 
 // Where the block is white.
-fn before_free(block: u32, end: u32, passed: u32, hand: u32, freed: u32) -> SweepRow
-    ensures { result ≡ Rows.before_free block end passed hand freed }
+fn before_free(block: u32, end: u32, passed: u32, list: u32, freed: u32) -> SweepRow
+    ensures { result ≡ Rows.before_free block end passed list freed }
 {
     if freed > 0 {
         SweepRow::FreeBlock {
             block,
             end,
             passed,
-            hand,
+            list,
             freed,
         }
     } else {
@@ -135,7 +135,7 @@ fn after_take(block: u32, end: u32, passed: u32, head: u64) -> SweepRow
         block,
         end,
         passed,
-        hand: head as u32,
+        list: head as u32,
         freed: 0,
     }
 }
@@ -318,7 +318,7 @@ impl SweepPass {
         }
     }
 
-    /// Whether the cursor was read behind the last block.
+    /// Whether the cursor was read after the last block.
     pub fn nothing(&self) -> bool
         ensures { result ≡ sweep_nothing self.now.row }
     {
@@ -341,10 +341,10 @@ impl SweepPass {
             }
             PassBlock { block, .. } => Op::load(places.colour(block)),
             TakeFree { .. } => Op::exchange(places.free_list(self.thread), 0),
-            FreeBlock { block, hand, .. } => {
-                Op::exchange(places.colour(block), colour_word(Colour::Free(hand)))
+            FreeBlock { block, list, .. } => {
+                Op::exchange(places.colour(block), colour_word(Colour::Free(list)))
             }
-            PutFree { hand, .. } => Op::exchange(places.free_list(self.thread), hand as u64),
+            PutFree { list, .. } => Op::exchange(places.free_list(self.thread), list as u64),
             Credit { freed, .. } => credit(places, freed),
             Swept { .. } | NothingLeft => Op::load(places.phase()),
         }
@@ -384,13 +384,13 @@ impl SweepPass {
                 block,
                 end,
                 passed,
-                hand,
+                list,
                 freed,
             } => {
                 if read == colour_word(white(self.cycle)) {
-                    before_free(block, end, passed, hand, freed)
+                    before_free(block, end, passed, list, freed)
                 } else {
-                    next_block(block, end, passed, hand, freed)
+                    next_block(block, end, passed, list, freed)
                 }
             },
             TakeFree { block, end, passed } => after_take(block, end, passed, read),

@@ -2,7 +2,7 @@
 
 /// The next event of the sweep, or how the part ended. The blocks from `block` on below `end` are
 /// claimed and not yet passed, and `passed` of the range, 0 to 8, were passed before. `freed` of
-/// those were freed, and `hand` is the first block of the thread's own free list with them in
+/// those were freed, and `list` is the first block of the thread's own free list with them in
 /// front, or 0. Blocks are 1 to the number of blocks, and `end` is at most one more.
 #[derive(Clone, Copy, Debug, PartialEq, Eq)]
 pub enum SweepRow {
@@ -18,7 +18,7 @@ pub enum SweepRow {
         block: u32,
         end: u32,
         passed: u32,
-        hand: u32,
+        list: u32,
         freed: u32,
     },
     /// Takes the thread's own free list. The block is white.
@@ -27,17 +27,17 @@ pub enum SweepRow {
         end: u32,
         passed: u32,
     },
-    /// Frees the block, which is white, and so passes it; it is then the first in the hand.
+    /// Frees the block, which is white, and so passes it; it is then the first in the private list.
     FreeBlock {
         block: u32,
         end: u32,
         passed: u32,
-        hand: u32,
+        list: u32,
         freed: u32,
     },
-    /// Puts the hand in the thread's own free list.
+    /// Puts the private list in the thread's own free list.
     PutFree {
-        hand: u32,
+        list: u32,
         passed: u32,
         freed: u32,
     },
@@ -51,6 +51,6 @@ pub enum SweepRow {
         passed: u32,
         freed: u32,
     },
-    /// The part is over: the cursor was behind the last block.
+    /// The part is over: the cursor was after the last block.
     NothingLeft,
 }

@@ -1,4 +1,4 @@
-pub mod Rests
+pub mod ListRemainder
 pub mod ReplayInRange
 pub mod Fronts
 pub mod Legality

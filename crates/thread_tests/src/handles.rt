@@ -3,9 +3,13 @@
 ghost use Rattle.std.specs.Prelude.{IfOk};
 ghost use Rattle.live_tables.specs.rows.Workers.{AreInOrder, IsOf, IsSameWorker};
 
-use crate::slim::handles::{Seat, Shown, close, evict, fault_of, make, open, release, see, take};
+use crate::slim::handles::Request::{Evict, Make, Note, Release, See, Take};
+use crate::slim::handles::{
+    Answer, Request, Seat, Shown, close, evict, fault_of, make, open, release, see, take,
+};
 use block_store::OutOfMemory;
 use live_tables::handles::{HandleWorker, LiveHandles, OpenFault, Refused};
+use std::alloc::Global;
 use std::process::Abort;
 use std::sync::Wait;
 use std::sync::atomic::{AtomicU64, Ordering};
@@ -181,40 +185,106 @@ fn each_handle_leaves_once(rt: HostRuntime) -> Result<(), OutOfMemory> {
     Ok(())
 }
 
+// Of which thread, what its worker is asked, and what it is answered.
+type Row = (u32, Request, Answer);
+
 // The example of `array_tables`, with a second handle and refusals.
-fn follows_the_example<R: Wait + Abort>(rt: &R, seat: &mut Seat<'_>) {
-    assert_eq!(rt; seat.see(rt, 0), Err(Refused::NotMade));
-    assert_eq!(rt; seat.take(rt, 0), Ok(None));
-    assert_eq!(rt; seat.make(rt, 0, 0, 7), Ok(true));
-    assert_eq!(rt; seat.take(rt, 0), Ok(Some((1, 7))));
-    assert_eq!(rt; seat.make(rt, 1, 0, 8), Ok(false));
-    assert_eq!(rt; seat.see(rt, 0), Ok(true));
-    assert_eq!(rt; seat.release(rt, 1), Ok(false));
-    assert_eq!(rt; seat.evict(rt, 0), Ok(Some((1, 7))));
+const EXAMPLE: [Row; 16] = [
+    (0, See { handle: 0 }, Answer::Refused(Refused::NotMade)),
+    (0, Take { slot: 0 }, Answer::Found(None)),
+    (
+        0,
+        Make {
+            handle: 0,
+            slot: 0,
+            number: 7,
+        },
+        Answer::Matched(true),
+    ),
+    (0, Take { slot: 0 }, Answer::Found(Some((1, 7)))),
+    (
+        0,
+        Make {
+            handle: 1,
+            slot: 0,
+            number: 8,
+        },
+        Answer::Matched(false),
+    ),
+    (0, See { handle: 0 }, Answer::Matched(true)),
+    (0, Release { handle: 1 }, Answer::Matched(false)),
+    (0, Evict { slot: 0 }, Answer::Found(Some((1, 7)))),
+    (0, See { handle: 0 }, Answer::Matched(false)),
+    (0, Release { handle: 0 }, Answer::Matched(false)),
+    (
+        0,
+        Make {
+            handle: 1,
+            slot: 0,
+            number: 9,
+        },
+        Answer::Matched(true),
+    ),
+    (0, Take { slot: 0 }, Answer::Found(Some((3, 9)))),
+    (0, Release { handle: 1 }, Answer::Matched(true)),
+    (0, Take { slot: 0 }, Answer::Found(None)),
+    (0, Take { slot: 1 }, Answer::Refused(Refused::OutOfRange)),
+    (0, See { handle: 8 }, Answer::Refused(Refused::OutOfRange)),
+];
+
+// A worker learns its own note and then does another request.
+const NOTES: [Row; 6] = [
+    (
+        0,
+        Make {
+            handle: 7,
+            slot: 0,
+            number: 5,
+        },
+        Answer::Matched(true),
+    ),
+    (0, Note, Answer::Noted),
+    (0, See { handle: 7 }, Answer::Matched(true)),
+    (
+        1,
+        Make {
+            handle: 7,
+            slot: 1,
+            number: 5,
+        },
+        Answer::Matched(true),
+    ),
+    (1, Note, Answer::Noted),
+    (1, See { handle: 7 }, Answer::Matched(true)),
+];
+
+// Asks a worker the rows of its thread.
+fn asks<R: Wait + Abort>(rt: &R, seat: &mut Seat<'_>, rows: &[Row]) {
+    for (thread, request, wanted) in rows {
+        if *thread == seat.thread() {
+            assert_eq!(rt; seat.ask(rt, *request), *wanted);
+        }
+    }
 }
 
-fn goes_on<R: Wait + Abort>(rt: &R, seat: &mut Seat<'_>) {
-    assert_eq!(rt; seat.see(rt, 0), Ok(false));
-    assert_eq!(rt; seat.release(rt, 0), Ok(false));
-    assert_eq!(rt; seat.make(rt, 1, 0, 9), Ok(true));
-    assert_eq!(rt; seat.take(rt, 0), Ok(Some((3, 9))));
-    assert_eq!(rt; seat.release(rt, 1), Ok(true));
-    assert_eq!(rt; seat.take(rt, 0), Ok(None));
-    assert_eq!(rt; seat.take(rt, 1), Err(Refused::OutOfRange));
-    assert_eq!(rt; seat.see(rt, 8), Err(Refused::OutOfRange));
+// Asks the workers of so many slots and threads, one after the other.
+fn ask_all<R: Wait + Abort>(rt: &R, alloc: Global, slots: u32, threads: u32, rows: &[Row]) {
+    let Ok((table, workers)) = open(alloc, slots, threads) else {
+        panic!(rt; "they do not open");
+    };
+    for who in workers {
+        asks(rt, &mut Seat::of(&table, who), rows);
+    }
 }
 
 #[test]
 fn one_thread_is_answered_as_the_example(rt: HostRuntime) {
-    let Ok((table, workers)) = open(rt.alloc(), 1, 1) else {
-        assert!(rt; false, "it opens");
-        return;
-    };
-    for who in workers {
-        let mut seat = Seat::of(&table, who);
-        follows_the_example(&rt, &mut seat);
-        goes_on(&rt, &mut seat);
-    }
+    ask_all(&rt, rt.alloc(), 1, 1, &EXAMPLE);
+}
+
+#[test]
+fn a_note_is_learned(rt: HostRuntime) {
+    ask_all(&rt, rt.alloc(), 3, 2, &NOTES);
 }
 
 #[test]
@@ -232,21 +302,5 @@ fn slots_out_of_range_are_not_opened(rt: HostRuntime) {
             fault,
             "{slots} for {threads}"
         );
-    }
-}
-
-// A worker learns its own note and then does another request.
-#[test]
-fn a_note_is_learned(rt: HostRuntime) {
-    let Ok((table, workers)) = open(rt.alloc(), 3, 2) else {
-        assert!(rt; false, "it opens");
-        return;
-    };
-    for who in workers {
-        let mut seat = Seat::of(&table, who);
-        let slot = seat.thread();
-        assert_eq!(rt; seat.make(&rt, 7, slot, 5), Ok(true));
-        seat.learn_own_note();
-        assert_eq!(rt; seat.see(&rt, 7), Ok(true));
     }
 }

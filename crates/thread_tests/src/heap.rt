@@ -5,8 +5,8 @@ ghost use Rattle.std.specs.Prelude.{◌≡◌, IfOk};
 ghost use Rattle.shared_heap.specs.Workers.{AreEachOnce, AreInOrder, IsSame};
 
 use crate::slim::heap::{
-    Seat, ask, asked, close, close_swapped, close_with_one, fault_of, heap_of, objects_left, open,
-    pass_note, stamps, two_of,
+    Seat, Told, ask, asked, close, close_swapped, close_with_one, fault_of, heap_of, objects_left,
+    open, pass_note, stamps, two_of,
 };
 use block_store::{Config, Name, OutOfMemory, Value};
 use never_heap::{Command, Reply};
@@ -34,7 +34,7 @@ enum Task {
 }
 
 // Does a task once. Returns whether the reply is the expected one.
-#[tactic(auto, using(shared_heap::proofs::Crews::same_here, shared_heap::proofs::Crews::same_on))]
+#[tactic(auto, using(shared_heap::proofs::AllWorkers::same_here, shared_heap::proofs::AllWorkers::same_on))]
 fn does<R: Wait>(rt: &R, heap: &SharedHeap, who: &mut Worker, task: Task, number: u32) -> bool
     requires { who.old.heap ≡ heap.now.id }
     ensures { IsSame who.old who.new }
@@ -59,7 +59,7 @@ fn makes<R: Wait>(rt: &R, heap: &SharedHeap, who: &mut Worker, number: u32) -> b
 }
 
 // Tries to increment the shared element by `cas`. Returns whether it succeeded.
-#[tactic(auto, using(shared_heap::proofs::Crews::same_here, shared_heap::proofs::Crews::same_on))]
+#[tactic(auto, using(shared_heap::proofs::AllWorkers::same_here, shared_heap::proofs::AllWorkers::same_on))]
 fn counts<R: Wait>(rt: &R, heap: &SharedHeap, who: &mut Worker) -> bool
     requires { who.old.heap ≡ heap.now.id }
     ensures { IsSame who.old who.new }
@@ -92,7 +92,7 @@ fn reads<R: Wait>(rt: &R, heap: &SharedHeap, who: &mut Worker, number: u64) -> b
 }
 
 // Does a task so many times. Returns how many replies are the expected ones.
-#[tactic(auto, using(shared_heap::proofs::Crews::same_here, shared_heap::proofs::Crews::same_on))]
+#[tactic(auto, using(shared_heap::proofs::AllWorkers::same_here, shared_heap::proofs::AllWorkers::same_on))]
 fn repeats<R: Wait>(rt: &R, heap: &SharedHeap, who: &mut Worker, task: Task, times: u32) -> u64
     requires { who.old.heap ≡ heap.now.id }
     ensures { IsSame who.old who.new }
@@ -202,20 +202,39 @@ fn threads_count_by_cas(rt: HostRuntime) -> Result<(), OutOfMemory> {
     Ok(())
 }
 
+// What a worker asks, what it is answered, how many commands it has done then, and how many units it
+// has left.
+type Row = (Command, Result<Reply, Refused>, u64, u64);
+
+const REFUSED: [Row; 2] = [
+    (
+        Command::Say { s: 16 },
+        Err(Refused::OutOfBounds),
+        0,
+        1 << 45,
+    ),
+    (
+        Command::Idle { units: 10 },
+        Ok(Reply::Idle),
+        1,
+        (1 << 45) - 10,
+    ),
+];
+
+fn asks<R: Wait + Abort>(rt: &R, seat: &mut Seat<'_>, rows: &[Row]) {
+    for (command, answer, asked, left) in rows {
+        assert_eq!(rt; seat.ask(rt, *command), *answer);
+        assert!(rt; seat.asked() == *asked && seat.units_left() == *left);
+    }
+}
+
 #[test]
 fn what_cannot_be_asked_changes_nothing(rt: HostRuntime) {
     let Ok((heap, workers)) = open(rt.alloc(), 1) else {
-        assert!(rt; false, "it opens");
-        return;
+        panic!(rt; "it does not open");
     };
     for who in workers {
-        let mut seat = Seat::of(&heap, who);
-        let refused = seat.ask(&rt, Command::Say { s: 16 });
-        assert_eq!(rt; refused, Err(Refused::OutOfBounds));
-        assert_eq!(rt; (seat.asked(), seat.units_left()), (0, 1 << 45));
-        let idle = seat.ask(&rt, Command::Idle { units: 10 });
-        assert_eq!(rt; idle, Ok(Reply::Idle));
-        assert_eq!(rt; (seat.asked(), seat.units_left()), (1, (1 << 45) - 10));
+        asks(&rt, &mut Seat::of(&heap, who), &REFUSED);
     }
 }
 
@@ -232,7 +251,7 @@ fn each_refusal_of_a_configuration_has_its_cause(rt: HostRuntime) {
 }
 
 // Writes the shared element.
-#[tactic(auto, using(shared_heap::proofs::Crews::same_here, shared_heap::proofs::Crews::same_on))]
+#[tactic(auto, using(shared_heap::proofs::AllWorkers::same_here, shared_heap::proofs::AllWorkers::same_on))]
 fn writes<R: Wait>(rt: &R, heap: &SharedHeap, who: &mut Worker, value: u64)
     requires { who.old.heap ≡ heap.now.id }
     ensures { IsSame who.old who.new }
@@ -242,7 +261,7 @@ fn writes<R: Wait>(rt: &R, heap: &SharedHeap, who: &mut Worker, value: u64)
 }
 
 // One worker writes the shared element and makes a note. The other learns the note and reads.
-#[tactic(auto, using(shared_heap::proofs::Crews::same_here, shared_heap::proofs::Crews::same_on))]
+#[tactic(auto, using(shared_heap::proofs::AllWorkers::same_here, shared_heap::proofs::AllWorkers::same_on))]
 fn passes_on<R: Wait>(rt: &R, heap: &SharedHeap, writer: &mut Worker, reader: &mut Worker) -> bool
     requires writer { writer.old.heap ≡ heap.now.id }
     requires reader { reader.old.heap ≡ heap.now.id }
@@ -256,7 +275,7 @@ fn passes_on<R: Wait>(rt: &R, heap: &SharedHeap, writer: &mut Worker, reader: &m
 
 // A worker learns the note of another. Then the two are closed in the opposite order.
 #[test]
-#[tactic(auto, using(crate::proofs::Crews::same_worker))]
+#[tactic(auto, using(crate::proofs::WorkersOfHeap::same_worker))]
 fn a_note_passes_between_workers(rt: HostRuntime) -> Result<(), OutOfMemory> {
     let Ok((heap, workers)) = open(rt.alloc(), 2) else {
         assert!(rt; false, "it opens");
@@ -312,59 +331,89 @@ fn a_heap_opens_or_is_refused_memory(rt: HostRuntime) {
     }
 }
 
-// A worker learns its own note and then executes another command.
+// A worker learns its own note between two commands.
+const BEFORE: [Row; 1] = [(
+    Command::Set { d: 1, value: 7 },
+    Ok(Reply::Stored),
+    1,
+    1 << 45,
+)];
+
+const BEHIND: [Row; 1] = [(
+    Command::Say { s: 1 },
+    Ok(Reply::Val(Value::Int(7))),
+    2,
+    1 << 45,
+)];
+
 #[test]
 fn a_note_is_learned(rt: HostRuntime) {
     let Ok((heap, workers)) = open(rt.alloc(), 2) else {
-        assert!(rt; false, "it opens");
-        return;
+        panic!(rt; "it does not open");
     };
     for who in workers {
         let mut seat = Seat::of(&heap, who);
-        assert!(rt; seat.ask(&rt, Command::Set { d: 1, value: 7 }).is_ok());
+        asks(&rt, &mut seat, &BEFORE);
         seat.learn_own_note();
-        let seven = Ok(Reply::Val(Value::Int(7)));
-        assert_eq!(rt; seat.ask(&rt, Command::Say { s: 1 }), seven);
-        assert_eq!(rt; seat.asked(), 2);
+        asks(&rt, &mut seat, &BEHIND);
     }
 }
 
-// Makes a record that keeps a number, exchanges the number with nil, and puts it back.
-fn keeps<R: Wait + Abort>(rt: &R, seat: &mut Seat<'_>) {
-    assert!(rt; seat.record(rt, 1, 2));
-    assert_eq!(rt; seat.set(rt, 2, 7), Ok(()));
-    assert_eq!(rt; seat.put(rt, 1, 1, 2), Ok(()));
-    assert_eq!(rt; seat.get(rt, 4, 1, 1), Ok(Value::Int(7)));
-    assert_eq!(rt; seat.swap(rt, 1, 1, 5), Ok(Value::Int(7)));
-    assert_eq!(rt; seat.cas(rt, 1, 1, 8, 2), Ok(true));
+// A record that keeps a number, which is exchanged with nil and put back and compared with the one
+// that was exchanged; an array that is dropped.
+const CALLS: [(Command, Told); 13] = [
+    (Command::New { d: 1, fields: 2 }, Told::Made),
+    (Command::Set { d: 2, value: 7 }, Told::Done),
+    (Command::Put { s: 1, i: 1, v: 2 }, Told::Done),
+    (
+        Command::Get { d: 4, s: 1, i: 1 },
+        Told::Shown(Value::Int(7)),
+    ),
+    (
+        Command::Swap { s: 1, i: 1, v: 5 },
+        Told::Shown(Value::Int(7)),
+    ),
+    (
+        Command::Cas {
+            s: 1,
+            i: 1,
+            a: 8,
+            v: 2,
+        },
+        Told::Compared(true),
+    ),
+    (Command::Same { a: 2, b: 5 }, Told::Compared(true)),
+    (Command::Mov { d: 6, s: 1 }, Told::Done),
+    (Command::Arr { d: 1, elements: 4 }, Told::Made),
+    (Command::Len { s: 1 }, Told::Counted(4)),
+    (Command::Nil { d: 1 }, Told::Done),
+    (Command::Idle { units: 10 }, Told::Done),
+    (Command::Put { s: 1, i: 0, v: 2 }, Told::Fault(Fault::Null)),
+];
+
+fn calls<R: Wait + Abort>(rt: &R, seat: &mut Seat<'_>) {
+    for (number, (command, told)) in CALLS.iter().enumerate() {
+        assert_eq!(rt; seat.call(rt, *command), *told, "call {number}");
+    }
 }
 
-// Compares that number with the one that was exchanged, makes an array, and drops it.
-fn drops<R: Wait + Abort>(rt: &R, seat: &mut Seat<'_>) {
-    assert_eq!(rt; seat.same(rt, 2, 5), Ok(true));
-    assert_eq!(rt; seat.mov(rt, 6, 1), Ok(()));
-    assert!(rt; seat.array(rt, 1, 4));
-    assert_eq!(rt; seat.len(rt, 1), Ok(4));
-    assert_eq!(rt; seat.nil(rt, 1), Ok(()));
-    assert_eq!(rt; seat.idle(rt, 10), Ok(()));
-    assert_eq!(rt; seat.put(rt, 1, 0, 2), Err(Fault::Null));
+fn has_counted(seat: &Seat<'_>) -> bool {
+    seat.objects_made() == 2
+        && seat.commands_left() == (1 << 60) - 13
+        && seat.rate() == 7
+        && seat.units_made() == 2 * 7 + 10
 }
 
 #[test]
 fn each_call_returns_its_reply_or_a_fault(rt: HostRuntime) {
     let Ok((heap, workers)) = open(rt.alloc(), 1) else {
-        assert!(rt; false, "it opens");
-        return;
+        panic!(rt; "it does not open");
     };
     for who in workers {
         let mut seat = Seat::of(&heap, who);
-        keeps(&rt, &mut seat);
-        drops(&rt, &mut seat);
-        assert_eq!(rt;
-            (seat.objects_made(), seat.commands_left()),
-            (2, (1 << 60) - 13)
-        );
-        assert_eq!(rt; (seat.rate(), seat.units_made()), (7, 2 * 7 + 10));
-        assert_eq!(rt; seat.say(&rt, 2), Ok(Value::Int(7)));
+        calls(&rt, &mut seat);
+        assert!(rt; has_counted(&seat));
+        let said = seat.call(&rt, Command::Say { s: 2 });
+        assert_eq!(rt; said, Told::Shown(Value::Int(7)));
     }
 }

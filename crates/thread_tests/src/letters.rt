@@ -1,45 +1,41 @@
-//! Letters of a `rt_mail` that are taken before and after the senders are gathered.
+//! Letters of a post that are taken before and after the senders are gathered.
 
-ghost use Rattle.std.specs.Prelude.{◌≡◌};
-
-use crate::slim::mail::comes;
-use rt_mail::Post;
+use crate::slim::mail::Row::{Comes, Sends};
+use crate::slim::mail::{closes, gathers_one, gathers_two, post_of_one, post_of_two, works};
 use std::test::Fail;
 
 #[test]
 fn a_letter_is_taken_before_its_sender_is_gathered(rt: HostRuntime) -> Result<(), Fail> {
-    let (post, mut senders, mut taker) = Post::new(rt.alloc(), 1, 2)?;
-    comes(&rt, &post, &mut taker, None)?;
-    post.send(&rt, &mut senders[0], 7);
-    comes(&rt, &post, &mut taker, Some((0, 7)))?;
-    comes(&rt, &post, &mut taker, None)?;
-    post.send(&rt, &mut senders[0], 8);
-    post.gather(&rt, &mut taker, senders);
-    comes(&rt, &post, &mut taker, Some((0, 8)))?;
-    comes(&rt, &post, &mut taker, None)?;
-    let taken = post.close(taker);
+    let (post, sender, taker) = post_of_one(rt.alloc(), 2)?;
+    let mut sender = sender;
+    let mut taker = taker;
+    let rows = [
+        Comes(None),
+        Sends(7),
+        Comes(Some((0, 7))),
+        Comes(None),
+        Sends(8),
+    ];
+    works(&rt, &post, &mut sender, &mut taker, &rows);
+    gathers_one(&rt, rt.alloc(), &post, sender, &mut taker)?;
+    let taken = closes(&rt, post, taker, &[Some((0, 8)), None]);
     assert_eq!(rt; taken.numbers(0), [7, 8].as_slice());
     Ok(())
 }
 
 #[test]
-#[tactic(auto, using(crate::proofs::Pairs::two_are_all))]
 fn the_letters_of_two_senders_are_taken_in_their_order(rt: HostRuntime) -> Result<(), Fail> {
-    let (post, mut senders, mut taker) = Post::new(rt.alloc(), 2, 2)?;
-    let mut second = senders.remove(1);
-    let mut first = senders.remove(0);
-    post.send(&rt, &mut first, 5);
-    post.send(&rt, &mut second, 6);
-    comes(&rt, &post, &mut taker, Some((0, 5)))?;
-    comes(&rt, &post, &mut taker, Some((1, 6)))?;
-    post.send(&rt, &mut second, 7);
-    post.send(&rt, &mut first, 8);
-    comes(&rt, &post, &mut taker, Some((1, 7)))?;
-    comes(&rt, &post, &mut taker, Some((0, 8)))?;
-    let both = vec![in rt.alloc(); second, first]?;
-    post.gather(&rt, &mut taker, both);
-    comes(&rt, &post, &mut taker, None)?;
-    let taken = post.close(taker);
+    let (post, first, second, taker) = post_of_two(rt.alloc())?;
+    let mut first = first;
+    let mut second = second;
+    let mut taker = taker;
+    works(&rt, &post, &mut first, &mut taker, &[Sends(5)]);
+    let rows = [Sends(6), Comes(Some((0, 5))), Comes(Some((1, 6))), Sends(7)];
+    works(&rt, &post, &mut second, &mut taker, &rows);
+    let rows = [Sends(8), Comes(Some((1, 7))), Comes(Some((0, 8)))];
+    works(&rt, &post, &mut first, &mut taker, &rows);
+    gathers_two(&rt, rt.alloc(), &post, first, second, &mut taker)?;
+    let taken = closes(&rt, post, taker, &[None]);
     assert_eq!(rt; taken.numbers(0), [5, 8].as_slice());
     assert_eq!(rt; taken.numbers(1), [6, 7].as_slice());
     Ok(())
@@ -47,9 +43,13 @@ fn the_letters_of_two_senders_are_taken_in_their_order(rt: HostRuntime) -> Resul
 
 #[test]
 fn a_post_has_room_for_many_letters(rt: HostRuntime) -> Result<(), Fail> {
-    let (post, mut senders, mut taker) = Post::new(rt.alloc(), 1, 100_000)?;
-    post.send(&rt, &mut senders[0], 7);
-    comes(&rt, &post, &mut taker, Some((0, 7)))?;
-    post.gather(&rt, &mut taker, senders);
-    comes(&rt, &post, &mut taker, None)
+    let (post, sender, taker) = post_of_one(rt.alloc(), 100_000)?;
+    let mut sender = sender;
+    let mut taker = taker;
+    let rows = [Sends(7), Comes(Some((0, 7)))];
+    works(&rt, &post, &mut sender, &mut taker, &rows);
+    gathers_one(&rt, rt.alloc(), &post, sender, &mut taker)?;
+    let taken = closes(&rt, post, taker, &[None]);
+    assert_eq!(rt; taken.numbers(0), [7].as_slice());
+    Ok(())
 }

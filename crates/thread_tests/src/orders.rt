@@ -3,7 +3,7 @@
 
 ghost use Rattle.live_tables.specs.rows.Workers.{AreInOrder, IsOf};
 
-use crate::slim::handles::{Seat, Shown, open};
+use crate::slim::handles::{Answer, Request, Seat, Shown, open};
 use block_store::OutOfMemory;
 use live_tables::handles::{HandleWorker, LiveHandles};
 use rand_core::utils::NextWord;
@@ -18,25 +18,9 @@ use std::thread::Threads;
 // How many requests each of three threads draws for two slots.
 const REQUESTS: usize = 60;
 
-// A request of a worker, which has handles 0 to 2.
-#[derive(Clone, Copy, Debug)]
-enum Request {
-    Make { handle: u8, slot: u32, number: u64 },
-    See { handle: u8 },
-    Release { handle: u8 },
-    Take { slot: u32 },
-    Evict { slot: u32 },
-}
-
-#[derive(Clone, Copy, Debug, PartialEq, Eq)]
-enum Answer {
-    Matched(bool),
-    Found(Shown),
-}
-
 // A request that a thread made, with the slot and the id that it was about, its answer, and the
 // stamps before and after it.
-#[derive(Clone, Copy, Debug)]
+#[derive(Clone, Copy)]
 struct Did {
     request: Request,
     slot: u32,
@@ -71,6 +55,7 @@ impl Did {
                 *at = None;
                 Some(Answer::Found(was))
             }
+            Request::Note => None,
         }
     }
 }
@@ -184,6 +169,7 @@ impl Own {
                 *self.last.get(usize::from(handle))?
             }
             Request::Take { slot } | Request::Evict { slot } => Some((0, slot)),
+            Request::Note => None,
         }
     }
 }
@@ -205,25 +191,8 @@ fn drawn(draws: &mut Lcg64Xsh32) -> Request {
     }
 }
 
-// Makes a request. `None` if it is refused.
-fn answered<R: Wait>(rt: &R, seat: &mut Seat<'_>, request: &Request) -> Option<Answer> {
-    match *request {
-        Request::Make {
-            handle,
-            slot,
-            number,
-        } => seat
-            .make(rt, handle, slot, number)
-            .ok()
-            .map(Answer::Matched),
-        Request::See { handle } => seat.see(rt, handle).ok().map(Answer::Matched),
-        Request::Release { handle } => seat.release(rt, handle).ok().map(Answer::Matched),
-        Request::Take { slot } => seat.take(rt, slot).ok().map(Answer::Found),
-        Request::Evict { slot } => seat.evict(rt, slot).ok().map(Answer::Found),
-    }
-}
-
-// Makes a drawn request. `None` if its handle was not made.
+// Makes a drawn request of a worker, which has handles 0 to 2. `None` if its handle was not made, or
+// it is refused.
 fn does<R: Wait>(
     rt: &R,
     seat: &mut Seat<'_>,
@@ -234,14 +203,17 @@ fn does<R: Wait>(
     let request = drawn(draws);
     let about = own.about(&request);
     let began = clock.fetch_add(1, Ordering::SeqCst);
-    let answer = answered(rt, seat, &request);
+    let answer = seat.ask(rt, request);
     let ended = clock.fetch_add(1, Ordering::SeqCst);
     let (id, slot) = about?;
+    if let Answer::Refused(_) = answer {
+        return None;
+    }
     Some(Did {
         request,
         slot,
         id,
-        answer: answer?,
+        answer,
         began,
         ended,
     })

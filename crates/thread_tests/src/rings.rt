@@ -3,9 +3,11 @@
 ghost use Rattle.std.specs.Prelude.{IfOk};
 ghost use Rattle.live_tables.specs.rows.Workers.{AreInOrder, IsOf, IsSameWorker};
 
-use crate::slim::rings::{Seat, close, fault_of, keep, open, recall};
+use crate::slim::rings::Request::{Count, Keep, Note, Recall};
+use crate::slim::rings::{Answer, Request, Seat, close, fault_of, keep, open, recall};
 use block_store::OutOfMemory;
 use live_tables::rings::{LiveRings, OpenFault, Refused, RingWorker};
+use std::alloc::Global;
 use std::process::Abort;
 use std::sync::Wait;
 use std::sync::atomic::{AtomicU64, Ordering};
@@ -161,29 +163,126 @@ fn threads_recall_the_last_numbers(rt: HostRuntime) -> Result<(), OutOfMemory> {
     Ok(())
 }
 
-fn keeps_eight<R: Wait + Abort>(rt: &R, seat: &mut Seat<'_>) {
-    assert_eq!(rt; seat.recall(rt, 0, 0), Ok(None));
-    for number in 50..59 {
-        assert_eq!(rt; seat.keep(rt, number), Ok(()));
+// Of which thread, what its worker is asked, and what it is answered.
+type Row = (u32, Request, Answer);
+
+const EIGHT: [Row; 17] = [
+    (
+        0,
+        Recall {
+            thread: 0,
+            place: 0,
+        },
+        Answer::Found(None),
+    ),
+    (0, Keep { number: 50 }, Answer::Done),
+    (0, Keep { number: 51 }, Answer::Done),
+    (0, Keep { number: 52 }, Answer::Done),
+    (0, Keep { number: 53 }, Answer::Done),
+    (0, Keep { number: 54 }, Answer::Done),
+    (0, Keep { number: 55 }, Answer::Done),
+    (0, Keep { number: 56 }, Answer::Done),
+    (0, Keep { number: 57 }, Answer::Done),
+    (0, Keep { number: 58 }, Answer::Done),
+    (0, Count, Answer::Kept(9)),
+    (
+        0,
+        Recall {
+            thread: 0,
+            place: 0,
+        },
+        Answer::Found(Some(58)),
+    ),
+    (
+        0,
+        Recall {
+            thread: 0,
+            place: 1,
+        },
+        Answer::Found(Some(51)),
+    ),
+    (
+        0,
+        Recall {
+            thread: 0,
+            place: 8,
+        },
+        Answer::Refused(Refused::OutOfRange),
+    ),
+    (
+        0,
+        Recall {
+            thread: 1,
+            place: 0,
+        },
+        Answer::Refused(Refused::OutOfRange),
+    ),
+    (
+        0,
+        Keep { number: 1 << 62 },
+        Answer::Refused(Refused::OutOfRange),
+    ),
+    (
+        0,
+        Recall {
+            thread: 0,
+            place: 1,
+        },
+        Answer::Found(Some(51)),
+    ),
+];
+
+// A worker learns its own note and then does another request.
+const NOTES: [Row; 6] = [
+    (0, Keep { number: 7 }, Answer::Done),
+    (0, Note, Answer::Done),
+    (
+        0,
+        Recall {
+            thread: 0,
+            place: 0,
+        },
+        Answer::Found(Some(7)),
+    ),
+    (1, Keep { number: 7 }, Answer::Done),
+    (1, Note, Answer::Done),
+    (
+        1,
+        Recall {
+            thread: 1,
+            place: 0,
+        },
+        Answer::Found(Some(7)),
+    ),
+];
+
+// Asks a worker the rows of its thread.
+fn asks<R: Wait + Abort>(rt: &R, seat: &mut Seat<'_>, rows: &[Row]) {
+    for (thread, request, wanted) in rows {
+        if *thread == seat.thread() {
+            assert_eq!(rt; seat.ask(rt, *request), *wanted);
+        }
     }
-    assert_eq!(rt; seat.kept(), 9);
-    assert_eq!(rt; seat.recall(rt, 0, 0), Ok(Some(58)));
-    assert_eq!(rt; seat.recall(rt, 0, 1), Ok(Some(51)));
-    assert_eq!(rt; seat.recall(rt, 0, 8), Err(Refused::OutOfRange));
-    assert_eq!(rt; seat.recall(rt, 1, 0), Err(Refused::OutOfRange));
-    assert_eq!(rt; seat.keep(rt, 1 << 62), Err(Refused::OutOfRange));
-    assert_eq!(rt; seat.recall(rt, 0, 1), Ok(Some(51)));
+}
+
+// Asks the workers of rings for so many threads, one after the other.
+fn ask_all<R: Wait + Abort>(rt: &R, alloc: Global, threads: u32, rows: &[Row]) {
+    let Ok((rings, workers)) = open(alloc, threads) else {
+        panic!(rt; "they do not open");
+    };
+    for who in workers {
+        asks(rt, &mut Seat::of(&rings, who), rows);
+    }
 }
 
 #[test]
 fn one_thread_keeps_eight(rt: HostRuntime) {
-    let Ok((rings, workers)) = open(rt.alloc(), 1) else {
-        assert!(rt; false, "they open");
-        return;
-    };
-    for who in workers {
-        keeps_eight(&rt, &mut Seat::of(&rings, who));
-    }
+    ask_all(&rt, rt.alloc(), 1, &EIGHT);
+}
+
+#[test]
+fn a_note_is_learned(rt: HostRuntime) {
+    ask_all(&rt, rt.alloc(), 2, &NOTES);
 }
 
 #[test]
@@ -194,21 +293,5 @@ fn rings_out_of_range_are_not_opened(rt: HostRuntime) {
         (16, None),
     ] {
         assert_eq!(rt; fault_of(rt.alloc(), threads), fault, "{threads} threads");
-    }
-}
-
-// A worker learns its own note and then does another request.
-#[test]
-fn a_note_is_learned(rt: HostRuntime) {
-    let Ok((rings, workers)) = open(rt.alloc(), 2) else {
-        assert!(rt; false, "they open");
-        return;
-    };
-    for who in workers {
-        let mut seat = Seat::of(&rings, who);
-        let thread = seat.thread();
-        assert_eq!(rt; seat.keep(&rt, 7), Ok(()));
-        seat.learn_own_note();
-        assert_eq!(rt; seat.recall(&rt, thread, 0), Ok(Some(7)));
     }
 }

@@ -3,9 +3,11 @@
 ghost use Rattle.std.specs.Prelude.{IfOk};
 ghost use Rattle.live_tables.specs.rows.Workers.{AreInOrder, IsOf, IsSameWorker};
 
-use crate::slim::tags::{Seat, Tag, clear, close, fault_of, open, read, write};
+use crate::slim::tags::Request::{Clear, Note, Read, Stamp, Write};
+use crate::slim::tags::{Answer, Request, Seat, Tag, clear, close, fault_of, open, read, write};
 use block_store::OutOfMemory;
 use live_tables::tags::{LiveTags, OpenFault, Refused, TagWorker};
+use std::alloc::Global;
 use std::process::Abort;
 use std::sync::Wait;
 use std::sync::atomic::{AtomicU64, Ordering};
@@ -163,27 +165,95 @@ fn threads_keep_pairs_together(rt: HostRuntime) -> Result<(), OutOfMemory> {
     Ok(())
 }
 
-fn answers<R: Wait + Abort>(rt: &R, seat: &mut Seat<'_>) {
-    assert_eq!(rt; seat.read(rt, 0), Ok(None));
-    assert_eq!(rt; seat.write(rt, 0, (5, 1)), Ok(None));
-    assert_eq!(rt; seat.write(rt, 0, (6, 2)), Ok(Some((5, 1))));
-    assert_eq!(rt; seat.read(rt, 1), Ok(None));
-    assert_eq!(rt; seat.read(rt, 0), Ok(Some((6, 2))));
-    assert_eq!(rt; seat.read(rt, 2), Err(Refused::OutOfRange));
-    assert_eq!(rt; seat.write(rt, 0, (1 << 62, 0)), Err(Refused::OutOfRange));
-    assert_eq!(rt; seat.clear(rt, 0), Ok(Some((6, 2))));
-    assert_eq!(rt; seat.read(rt, 0), Ok(None));
+// Of which thread, what its worker is asked, and what it is answered.
+type Row = (u32, Request, Answer);
+
+const ALONE: [Row; 9] = [
+    (0, Read { place: 0 }, Answer::Was(None)),
+    (
+        0,
+        Write {
+            place: 0,
+            tag: (5, 1),
+        },
+        Answer::Was(None),
+    ),
+    (
+        0,
+        Write {
+            place: 0,
+            tag: (6, 2),
+        },
+        Answer::Was(Some((5, 1))),
+    ),
+    (0, Read { place: 1 }, Answer::Was(None)),
+    (0, Read { place: 0 }, Answer::Was(Some((6, 2)))),
+    (0, Read { place: 2 }, Answer::Refused(Refused::OutOfRange)),
+    (
+        0,
+        Write {
+            place: 0,
+            tag: (1 << 62, 0),
+        },
+        Answer::Refused(Refused::OutOfRange),
+    ),
+    (0, Clear { place: 0 }, Answer::Was(Some((6, 2)))),
+    (0, Read { place: 0 }, Answer::Was(None)),
+];
+
+// A worker learns its own note, draws a stamp, and then does another operation.
+const NOTES: [Row; 8] = [
+    (
+        0,
+        Write {
+            place: 0,
+            tag: (7, 3),
+        },
+        Answer::Was(None),
+    ),
+    (0, Note, Answer::Noted),
+    (0, Stamp, Answer::Drawn(0)),
+    (0, Read { place: 0 }, Answer::Was(Some((7, 3)))),
+    (
+        1,
+        Write {
+            place: 1,
+            tag: (7, 3),
+        },
+        Answer::Was(None),
+    ),
+    (1, Note, Answer::Noted),
+    (1, Stamp, Answer::Drawn(1)),
+    (1, Read { place: 1 }, Answer::Was(Some((7, 3)))),
+];
+
+// Asks a worker the rows of its thread.
+fn asks<R: Wait + Abort>(rt: &R, seat: &mut Seat<'_>, rows: &[Row]) {
+    for (thread, request, wanted) in rows {
+        if *thread == seat.thread() {
+            assert_eq!(rt; seat.ask(rt, *request), *wanted);
+        }
+    }
+}
+
+// Asks the workers of a table for so many threads, one after the other.
+fn ask_all<R: Wait + Abort>(rt: &R, alloc: Global, tags: u32, threads: u32, rows: &[Row]) {
+    let Ok((table, workers)) = open(alloc, tags, threads) else {
+        panic!(rt; "it does not open");
+    };
+    for who in workers {
+        asks(rt, &mut Seat::of(&table, who), rows);
+    }
 }
 
 #[test]
 fn one_thread_is_answered_what_was_there(rt: HostRuntime) {
-    let Ok((table, workers)) = open(rt.alloc(), 2, 1) else {
-        assert!(rt; false, "it opens");
-        return;
-    };
-    for who in workers {
-        answers(&rt, &mut Seat::of(&table, who));
-    }
+    ask_all(&rt, rt.alloc(), 2, 1, &ALONE);
+}
+
+#[test]
+fn a_note_is_learned_and_a_stamp_drawn(rt: HostRuntime) {
+    ask_all(&rt, rt.alloc(), 3, 2, &NOTES);
 }
 
 #[test]
@@ -201,22 +271,5 @@ fn tables_out_of_range_are_not_opened(rt: HostRuntime) {
             fault,
             "{tags} for {threads}"
         );
-    }
-}
-
-// A worker learns its own note, draws a stamp, and then does another operation.
-#[test]
-fn a_note_is_learned_and_a_stamp_drawn(rt: HostRuntime) {
-    let Ok((table, workers)) = open(rt.alloc(), 3, 2) else {
-        assert!(rt; false, "it opens");
-        return;
-    };
-    for (number, who) in workers.into_iter().enumerate() {
-        let mut seat = Seat::of(&table, who);
-        let place = seat.thread();
-        assert_eq!(rt; seat.write(&rt, place, (7, 3)), Ok(None));
-        seat.learn_own_note();
-        assert_eq!(rt; seat.stamp(), number as u64);
-        assert_eq!(rt; seat.read(&rt, place), Ok(Some((7, 3))));
     }
 }

@@ -1,4 +1,4 @@
-pub mod Calls
+pub mod TimedCalls
 pub mod Kinds
 pub mod Lines
 pub mod Samples

@@ -4,7 +4,7 @@ use Rattle.block_store.specs.declared.Config.{Config}
 use Rattle.block_store.specs.Widths.{payloads}
 use Rattle.rate_plan.specs.solo_bound.Near.{near_other_bound}
 use Rattle.never_heap.specs.declared.Command.{Command}
-use Rattle.never_heap.specs.RightWork.{units_told}
+use Rattle.never_heap.specs.RightWork.{requested_units}
 use Rattle.rate_plan.specs.Rates.{IsRate}
 use Rattle.heap_system.specs.Alone.{IsQuiet, HasCommand, EndsWithin, most_events}
 use Rattle.heap_system.specs.Locals.{command_of}
@@ -20,4 +20,4 @@ IsBoundAlone c rate command turns = (r : Run) (t : ℕ) → IsAfterTurns c r →
 -- the near bound of a command that makes no object
 abbrev pub other_near : Config → Command → ℕ
 other_near c k =
-    near_other_bound c.threads (payloads c.width) c.blocks (units_told k) (most_events c k)
+    near_other_bound c.threads (payloads c.width) c.blocks (requested_units k) (most_events c k)

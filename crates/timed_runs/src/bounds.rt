@@ -39,5 +39,9 @@ fn other_turns(config: &Config, command: &Command) -> Option<u64>
     requires { IsInBounds config.now }
     ensures { IsInWord result (other_near config.now command.now) }
 {
-    near_other_turns(config, command.told(), most_events(config, command))
+    near_other_turns(
+        config,
+        command.requested_units(),
+        most_events(config, command),
+    )
 }

@@ -1,5 +1,5 @@
 //! How long each command of a run takes: a pace that reads the clock before each command, and what
-//! is told of the times behind the run.
+//! is told of the times after the run.
 #![tactic(auto)]
 
 mod bounds;

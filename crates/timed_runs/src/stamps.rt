@@ -84,7 +84,7 @@ impl<'a, C: Clock + CpuClock + Sync> Pace for Stamps<'a, C> {
     }
 }
 
-/// Where the word of a command stands.
+/// Where the word of a command is.
 fn place(thread: u32, command: u64) -> Option<usize> {
     if thread < THREADS as u32 && command < COMMANDS as u64 {
         Some(thread as usize * COMMANDS + command as usize)

@@ -1,12 +1,12 @@
 //! The top call.
 
 ghost use Rattle.std.specs.Prelude.{◌≡◌, ◌≢◌, ◌∷◌, [], map, string_bytes, IfOk, OnErr, IfSome};
-ghost use Rattle.rtheap_core.specs.Calls.{IsCarriedOut, IsComplete};
+ghost use Rattle.rtheap_core.specs.TopCalls.{IsCarriedOut, IsComplete};
 ghost use Rattle.rtheap_core.specs.Exits.{NeverFull};
 ghost use Rattle.exit_statuses.specs.Exits.{IsToldBy};
 ghost use Rattle.exit_statuses.specs.Sides.{sides, IsUntouched};
-ghost use Rattle.timed_runs.specs.Calls.{form_asked, run_words, words_for};
-ghost use Rattle.timed_runs.specs.Calls.{silent, IsReported, IsTimed};
+ghost use Rattle.timed_runs.specs.TimedCalls.{form_asked, run_words, words_for};
+ghost use Rattle.timed_runs.specs.TimedCalls.{silent, IsReported, IsTimed};
 
 use crate::counted::Counted;
 use crate::stamps::{Stamps, reading_time};

@@ -56,7 +56,7 @@ keeps_known None b h = tt
 keeps_known (Some before) None h = absurd h
 keeps_known (Some before) (Some bs) h = ap Some (h ∙ sym (append-nil before))
 
--- a text was written up to a place, and then k bytes of what stands from there on
+-- a text was written up to a place, and then k bytes of what is from there on
 pub written_more : (a b c : Option (List ℕ)) (text : List ℕ) (done k : ℕ)
     → Appends a b (take done text)
     → known.Appends b c (take k (take (length text - done) (drop done text)))

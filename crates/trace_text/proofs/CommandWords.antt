@@ -1,4 +1,4 @@
--- What holds of the word of each command, and of the numbers behind it.
+-- What holds of the word of each command, and of the numbers after it.
 use Rattle.std.proofs.Common.{◌≡◌, ℕ, ◌<◌, ◌≤◌, ◌^◌, Bool, true, ltb, ◌&&◌, List, [], ◌∷◌, length, Some, refl, ap, ◌∙◌, arith}
 use Rattle.std.specs.List.{AllByRecursion}
 use Rattle.std.specs.Option.{unwrap_or}
@@ -13,7 +13,7 @@ use Rattle.trace_text.specs.Said.{count_is}
 use Rattle.trace_text.specs.Words.{word_at, has_word, is_command, is_wide, operands}
 use Rattle.trace_text.proofs.WordLaws.{AreWritten, word_complete, word_text}
 
--- bytes that stand behind the space
+-- bytes that come after the space
 abbrev pub is_token : List ℕ → Bool
 is_token [] = true
 is_token (b ∷ bs) = ltb 32 b && is_token bs

@@ -23,14 +23,14 @@ Outcome bytes = ((job : Job) × IsJob bytes job) ⊎
 bad : (bytes : List ℕ) (line : ℕ) (why : Why) → IsFirstBadLine bytes line why → Outcome bytes
 bad bytes line why is = inr (line, why, is)
 
--- what follows behind some traces and a part of one more, when these lines are left
+-- what follows after some traces and a part of one more, when these lines are left
 abbrev Follows : List ℕ → Config → Lines → Type 0
 Follows bytes c others =
     (done : List (List Command)) (read : ℕ) (left : Lines) (trace : List Command)
     → IsBegun c done bytes read left → length done < c.threads → IsSoFar c left trace others
     → Outcome bytes
 
--- behind the last trace
+-- after the last trace
 behind_last : (bytes : List ℕ) (c : Config) (done : List (List Command)) (read : ℕ)
     (others : Lines) → IsBegun c done bytes read others → length done ≡ c.threads → Outcome bytes
 behind_last bytes c done read [] begun last =
@@ -44,7 +44,7 @@ none_so_far c lines = record {
   in_bounds = record { few = omega arith; commands = tt };
 }
 
--- behind a trace
+-- after a trace
 behind_trace : (bytes : List ℕ) (c : Config) (done : List (List Command)) (read : ℕ)
     (others : Lines) → Follows bytes c others → IsBegun c done bytes read others → Outcome bytes
 behind_trace bytes c done read others follows begun =

@@ -68,7 +68,7 @@ took_on (Some bytes) mid new front room most few h t =
     ap (drop (taken.0 + length front)) h.1 ∙ drop_past front h.0 taken.0 in
     (taken.0 + length front, omega (arith, taken.1), taken.2 ∙ ap Some (sym past))
 
--- the same behind a front
+-- the same after a front
 pub few_on : (fault : TraceFault) (old mid new : Option (List ℕ)) (front : List ℕ) (room most : ℕ)
     → length front + room ≤ most → HasRead old front mid → TookFew fault room mid new
     → TookFew fault most old new

@@ -6,17 +6,17 @@ use Rattle.std.proofs.lemmas.Bool.{cases_lt}
 use Rattle.std.proofs.Math.Numerals.{add-one}
 use Rattle.std.proofs.Math.Seq.{drop-cons}
 use Rattle.std.specs.List.{AllByRecursion, flat_map}
-use Rattle.block_store.proofs.Functions.{funext}
+use Rattle.block_store.proofs.Lemmas.{funext}
 use Rattle.never_heap.specs.declared.Entry.{Entry}
 use Rattle.never_heap.specs.declared.Item.{Item}
 use Rattle.never_heap.specs.declared.Item.TheVariants as items
 use Rattle.never_heap.specs.Histories.{HistoryItem, Started, Did, part, starts_in, work_in}
-use Rattle.never_heap.specs.Orders.{item_of, IsHistoryOf}
+use Rattle.never_heap.specs.HistoryOfOrder.{item_of, IsHistoryOf}
 use Rattle.trace_text.specs.Lines.{ended}
-use Rattle.trace_text.specs.Orders.{IsOrderOf, entries_in, left_behind, history_from, history_of, lines_from, end_text, order_text, text_in_order}
+use Rattle.trace_text.specs.OrderTexts.{IsOrderOf, entries_in, left_behind, history_from, history_of, lines_from, end_text, order_text, text_in_order}
 use Rattle.trace_text.specs.Places.{left_of, HasNext, next_line, told_after, starts_after}
 use Rattle.trace_text.specs.Streams.{Appends, AppendsPrefix}
-use Rattle.trace_text.specs.Texts.{entry_line, totals_line}
+use Rattle.trace_text.specs.RunTexts.{entry_line, totals_line}
 use Rattle.trace_text.proofs.AppendedTexts.{appends_none, appends_in_turn, front_in_turn, front_longer}
 
 -- ---- a history and its order
@@ -95,7 +95,7 @@ dropped : (b : Bool) (k : ℕ) (log : List Entry)
 dropped true k log = drop-drop 1 k log
 dropped false k log = refl
 
--- the lines are that of the next item and those behind it
+-- the lines are that of the next item and those after it
 pub next_then : (logs : List (List Entry)) (told : ℕ → ℕ) (starts : ℕ) (i : Item)
     (order : List Item)
     → text_from logs told starts (i ∷ order)
@@ -192,7 +192,7 @@ module _ (logs : List (List Entry)) (order : List Item) (i : ℕ) (told : ℕ �
   next_is_there small =
       has_next logs told starts i item (drop (i + 1) order) so_far.counted small left_now
 
-  -- the text so far, the next line, and what is left behind it
+  -- the text so far, the next line, and what is left after it
   whole_now : (so_far.text ++ next_line logs told starts item)
       ++ text_from logs (told_after told item) (starts_after starts item) (drop (i + 1) order)
       ≡ flat_map ended (lines_from 0 (history_of order logs))
@@ -290,7 +290,7 @@ named_here : (t : ℕ) (order : List Item)
     → entries_in t (items.Entry t ∷ order) ≡ 1 + entries_in t order
 named_here t order = ap (λ b. cond b 1 0 + entries_in t order) (eq-eqb t t refl)
 
--- what is put back in front of what is left behind an entry is what was left
+-- what is put back in front of what is left after an entry is what was left
 put_back : (b : Bool) (e : Entry) (es left part : List Entry)
     → (b ≡ true → left ≡ e ∷ es) → part ≡ cond b (drop 1 left) left
     → cond b (e ∷ part) part ≡ left

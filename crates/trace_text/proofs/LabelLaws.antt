@@ -1,4 +1,4 @@
--- The tokens behind the labels of a header.
+-- The tokens after the labels of a header.
 use Rattle.std.proofs.Common.{◌≡◌, List, [], ◌∷◌, ℕ, codes, bytes_eq, Some, None, cond, inl, inr, refl, ap, subst, ◌∙◌}
 use Rattle.std.proofs.lemmas.Option.{same_Some, some_pair_parts}
 use Rattle.std.proofs.lemmas.Slice.Eq.{bytes_eq-Decides}
@@ -76,13 +76,13 @@ version_sound (p ∷ ps) x e =
     ap (λ (q : List ℕ). q ∷ ps) (width_sound p a.at a.first)
     ∙ ap (λ (y : Width × List (List ℕ)). version y.0 ∷ y.1) same
 
--- the tokens of a header of this width with these five tokens behind its labels
+-- the tokens of a header of this width with these five tokens after its labels
 abbrev pub labels : Width → List ℕ → List ℕ → List ℕ → List ℕ → List ℕ → List (List ℕ)
 labels w n m l b s =
     codes "rtheap" ∷ version w ∷ codes "threads" ∷ n ∷ codes "blocks" ∷ m ∷ codes "live" ∷ l
     ∷ codes "object" ∷ b ∷ codes "shared" ∷ s ∷ []
 
--- each part behind the one before
+-- each part after the one before
 joined : (w : Width) (n m l b s : List ℕ) (p0 p1 p2 p3 p4 p5 p6 p7 : List (List ℕ))
     → p0 ≡ codes "rtheap" ∷ p1 → p1 ≡ version w ∷ p2 → p2 ≡ codes "threads" ∷ n ∷ p3
     → p3 ≡ codes "blocks" ∷ m ∷ p4 → p4 ≡ codes "live" ∷ l ∷ p5 → p5 ≡ codes "object" ∷ b ∷ p6

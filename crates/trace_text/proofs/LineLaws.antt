@@ -16,7 +16,7 @@ use Rattle.never_heap.specs.declared.Command.TheVariants as commands
 use Rattle.never_heap.specs.Bounds.{IsCommandInBounds}
 use Rattle.never_heap.specs.Signatures as signed
 use Rattle.never_heap.specs.Signatures.{numbers}
-use Rattle.never_heap.proofs.CommandBounds.{operands_in_range, operands_low}
+use Rattle.never_heap.proofs.Lemmas.{operands_in_range, operands_low}
 use Rattle.trace_text.specs.declared.trace_faults.Why.{Why}
 use Rattle.trace_text.specs.declared.trace_faults.Why.TheVariants as whys
 use Rattle.trace_text.specs.declared.reading.lines.Line.{Line}
@@ -38,7 +38,7 @@ abbrev pub reason : {A : Type 0} → Result A Why → Option Why
 reason (Ok x) = None
 reason (Err why) = Some why
 
--- behind t threads, the last with k commands so far
+-- after t threads, the last with k commands so far
 abbrev pub place : Config → ℕ → ℕ → Place
 place c t k = record { config = c; threads = t; full = leb 131072 k }
 
@@ -286,13 +286,13 @@ line_text (Thread t) = word_text words.Thread ∷ decimal t ∷ []
 line_text End = word_text words.End ∷ []
 line_text (Told command) = command_line command
 
--- a line behind t threads and k commands of the last
+-- a line after t threads and k commands of the last
 abbrev pub Fits : Config → ℕ → ℕ → Line → Type 0
 Fits c t k (Thread n) = (n ≡ t) × (t ≢ c.threads)
 Fits c t k End = t ≡ c.threads
 Fits c t k (Told command) = IsCommandInBounds c command × (k < 131072)
 
--- a word and the numbers behind it say this
+-- a word and the numbers after it say this
 pub record Says (c : Config) (t k : ℕ) (w : Word) (l : Line) (ns : List ℕ) : Type 0 where
   pub text : word_text w ∷ map decimal ns ≡ line_text l
   pub fits : Fits c t k l
@@ -338,7 +338,7 @@ thread_turn n t m r = (grind (arith, nat_tests), λ e. grind (arith, nat_tests, 
 end_turn : (t m : ℕ) → not (eqb t m) ≡ false → t ≡ m
 end_turn t m r = grind (arith, nat_tests)
 
--- a command that is told stands on its line, and is in its ranges
+-- a command that is told is on its line, and is in its ranges
 says_told : (c : Config) (t k : ℕ) (w : Word) (command : Command) (ns : List ℕ) (l : Line)
     → HasRegisters command → word_text w ∷ map decimal ns ≡ command_line command
     → is_command w ≡ true → IsOfWidth c.width command → fitted (place c t k) command ≡ Ok l
@@ -445,7 +445,7 @@ pub from_option : {A : Type 0} (o : Option A) (why : Why) (x : A) → ok_or o wh
 from_option None why x e = absurd cc
 from_option (Some y) why x e = ap Some (same_Ok y x e)
 
--- what a line says behind t threads and k commands of the last
+-- what a line says after t threads and k commands of the last
 pub record SaysLine (c : Config) (t k : ℕ) (ps : List (List ℕ)) (l : Line) : Type 0 where
   pub text : ps ≡ line_text l
   pub fits : Fits c t k l

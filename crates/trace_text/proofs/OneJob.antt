@@ -53,7 +53,7 @@ same_command c x y p q e =
 abbrev tail_lines : ℕ → List (List Command) → List (List (List ℕ))
 tail_lines t traces = traces_lines t traces ++ (codes "end" ∷ []) ∷ []
 
--- the same behind the lines of some commands
+-- the same after the lines of some commands
 abbrev rest_lines : ℕ → List Command → List (List Command) → List (List (List ℕ))
 rest_lines t trace traces = map command_line trace ++ tail_lines t traces
 
@@ -92,7 +92,7 @@ same_rest c t traces others same (x ∷ xs) (y ∷ ys) p q e =
     let more = same_rest c t traces others same xs ys p.1 q.1 rest in
     (ap (λ (z : Command). z ∷ xs) first ∙ ap (λ (zs : List Command). y ∷ zs) more.0, more.1)
 
--- behind a thread's line stand its commands and what follows them
+-- after a thread's line are its commands and what follows them
 parted_tail : (t : ℕ) (trace : List Command) (traces : List (List Command))
     → tail_lines t (trace ∷ traces)
     ≡ (codes "thread" ∷ decimal t ∷ []) ∷ rest_lines (t + 1) trace traces

@@ -23,7 +23,7 @@ use Rattle.trace_text.proofs.HeaderLaws.{header_agrees, header_sound, header_com
 abbrev pub Lines : Type 0
 Lines = List (List (List ℕ))
 
--- nothing is wrong with these lines behind others
+-- nothing is wrong with these lines after others
 abbrev pub IsQuiet : Config → Before → Lines → Type 0
 IsQuiet c b [] = Unit {0}
 IsQuiet c b (line ∷ lines) = (later_fault c b line ≡ None) × IsQuiet c (after_line b line) lines
@@ -57,7 +57,7 @@ after_command t k x =
     ap (after_word (prior t k)) (word_again x)
     ∙ one_more (prior t k) (word_of x) (spelled x).command
 
--- nothing is wrong with lines behind t threads and k commands of the last, and they lead on to
+-- nothing is wrong with lines after t threads and k commands of the last, and they lead on to
 -- other counts
 pub record LeadsOn (c : Config) (t k : ℕ) (lines : Lines) (t' k' : ℕ) : Type 0 where
   pub quiet : IsQuiet c (prior t k) lines

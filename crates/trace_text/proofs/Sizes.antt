@@ -10,7 +10,7 @@ use Rattle.never_heap.specs.Bounds.{IsCommandInBounds}
 use Rattle.never_heap.specs.LiveBlocks.{blocks_of_kind}
 use Rattle.never_heap.specs.Signatures.{Operand, Register, Length, Field, Number, Units, IsInRange, object_in, operands, registers_in, sizes_in, units_in}
 use Rattle.never_heap.specs.Steps.{blocks_in}
-use Rattle.never_heap.proofs.CommandBounds.{all_of_each, each_of_all, operands_in_range}
+use Rattle.never_heap.proofs.Lemmas.{all_of_each, each_of_all, operands_in_range}
 use Rattle.trace_text.specs.declared.trace_faults.Why.TheVariants as whys
 use Rattle.trace_text.specs.declared.reading.lines.Line.TheVariants.{Told}
 use Rattle.trace_text.specs.declared.reading.lines.Place.{Place}

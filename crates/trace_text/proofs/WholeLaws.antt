@@ -207,7 +207,7 @@ end_next : (c : Config) (t : ℕ) → t ≡ c.threads → next_line c t ≡ code
 end_next c t e = ap (λ (b : Bool). cond b (codes "end" ∷ []) (codes "thread" ∷ decimal t ∷ []))
     (eq-eqb t c.threads e)
 
--- behind the end each line is wrong
+-- after the end each line is wrong
 behind_end : (c : Config) (t k : ℕ) (ps : List (List ℕ))
     → later_fault c (record { threads = t; commands = k; ended = true }) ps ≡ Some whys.End
 unfolding later_fault

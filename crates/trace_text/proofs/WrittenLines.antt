@@ -13,7 +13,7 @@ use Rattle.block_store.specs.Configs.{IsInBounds}
 use Rattle.never_heap.specs.declared.Command.{Command}
 use Rattle.never_heap.specs.Bounds.{IsCommandInBounds}
 use Rattle.never_heap.specs.Signatures.{numbers, operands}
-use Rattle.never_heap.proofs.CommandBounds.{operands_in_range, operands_low}
+use Rattle.never_heap.proofs.Lemmas.{operands_in_range, operands_low}
 use Rattle.never_heap.specs.Jobs.{IsTraceInBounds}
 use Rattle.trace_text.specs.Lines.{lines_of, tokens_of, onto_first}
 use Rattle.trace_text.specs.Reading.{tokenized}

@@ -5,12 +5,12 @@ use Rattle.block_store.specs.declared.Width.{Width}
 use Rattle.block_store.specs.declared.Width.TheVariants.{Four, Eight}
 use Rattle.trace_text.specs.Reading.{◌>>=◌, parted, no_more_of}
 
--- the tokens behind this word
+-- the tokens after this word
 unfoldable pub behind_at : List ℕ → List (List ℕ) → Option (List (List ℕ))
 behind_at word [] = None
 behind_at word (first ∷ others) = if bytes_eq first word then Some others else None
 
--- the token behind this label, and the tokens behind it
+-- the token after this label, and the tokens after it
 unfoldable pub labelled_at : List ℕ → List (List ℕ) → Option (List ℕ × List (List ℕ))
 labelled_at label tokens = behind_at label tokens >>= parted
 
@@ -20,7 +20,7 @@ width_at token =
     if bytes_eq token (codes "1") then Some Four else
     if bytes_eq token (codes "2") then Some Eight else None
 
--- the same of the version in front, and the tokens behind it
+-- the same of the version in front, and the tokens after it
 unfoldable pub version_at : List (List ℕ) → Option (Width × List (List ℕ))
 version_at tokens = do
   p ← parted tokens

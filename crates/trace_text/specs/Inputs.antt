@@ -6,7 +6,7 @@ use Rattle.trace_text.specs.Jobs.{Job, input_limit}
 use Rattle.trace_text.specs.Streams.{IsAtEnd, TookAtMost}
 use Rattle.trace_text.specs.Faults.{Rose}
 
--- the first k bytes that were left stand behind what was read before, and the others are left
+-- the first k bytes that were left come after what was read before, and the others are left
 pub record Adds (k : ℕ) (bytes old new : List ℕ) (left : Option (List ℕ)) : Type 0 where
   pub within : k ≤ length bytes
   pub added : new ≡ old ++ take k bytes

@@ -11,8 +11,8 @@ pub mod Refusals
 pub mod Reasons
 pub mod Wholes
 pub mod Inputs
-pub mod Texts
-pub mod Orders
+pub mod RunTexts
+pub mod OrderTexts
 pub mod Places
 pub mod JobTexts
 pub mod Memories

@@ -27,7 +27,7 @@ pub record SinkState : Type 0 where
   -- how many of them failed
   pub faults : ℕ
 
--- a count after one more; it stands still at its last value
+-- a count after one more; it is still at its last value
 abbrev pub one_more : ℕ → ℕ
 one_more n = min (n + 1) (2 ^ 64 - 1)
 

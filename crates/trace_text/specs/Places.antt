@@ -5,7 +5,7 @@ use Rattle.std.specs.List.{flat_map}
 use Rattle.never_heap.specs.declared.Entry.{Entry}
 use Rattle.never_heap.specs.declared.Item.{Item}
 use Rattle.never_heap.specs.declared.Item.TheVariants as items
-use Rattle.trace_text.specs.Texts.{entry_line, start_line}
+use Rattle.trace_text.specs.RunTexts.{entry_line, start_line}
 
 -- what each thread has left
 abbrev pub left_of : List (List Entry) → (ℕ → ℕ) → ℕ → List Entry
@@ -21,7 +21,7 @@ abbrev pub next_line : List (List Entry) → (ℕ → ℕ) → ℕ → Item → 
 next_line logs told starts items.Start = start_line (starts + 1)
 next_line logs told starts (items.Entry t) = flat_map entry_line (take 1 (left_of logs told t))
 
--- how much is written behind it
+-- how much is written after it
 abbrev pub told_after : (ℕ → ℕ) → Item → ℕ → ℕ
 told_after told items.Start u = told u
 told_after told (items.Entry t) u = if t == u then told u + 1 else told u

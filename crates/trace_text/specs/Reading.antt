@@ -31,7 +31,7 @@ tokens_left (Some line) = tokens_of line
 abbrev pub is_digit : ℕ → Bool
 is_digit b = nat_le 48 b && nat_le b 57
 
--- the number that these digits make behind the digits of n
+-- the number that these digits make after the digits of n
 unfoldable pub digits_on : ℕ → List ℕ → Option ℕ
 digits_on n [] = Some n
 digits_on n (b ∷ bs) = if is_digit b then digits_on (10 * n + (b - 48)) bs else None

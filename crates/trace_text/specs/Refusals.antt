@@ -82,7 +82,7 @@ pub record Before : Type 0 where
   -- whether one began with `end`
   pub ended : Bool
 
--- behind the header
+-- after the header
 abbrev pub nothing_before : Before
 nothing_before = record { threads = 0; commands = 0; ended = false }
 
@@ -149,7 +149,7 @@ word_fault c b (Some word) tokens =
     )
     ∷ [])
 
--- what is wrong with a line behind the header
+-- what is wrong with a line after the header
 unfoldable pub later_fault : Config → Before → List (List ℕ) → Option Why
 later_fault c b [] = if b.ended then Some whys.End else Some whys.Word
 later_fault c b (first ∷ tokens) =

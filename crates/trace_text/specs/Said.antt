@@ -87,7 +87,7 @@ abbrev pub fitted : Place → Command → Result Line Why
 fitted p command =
     if is_oversized p.config command || p.full then Err whys.Size else Ok (Told command)
 
--- behind no number, one, two, three or four
+-- after no number, one, two, three or four
 abbrev pub on_none : List ℕ → Result Line Why → Result Line Why
 on_none [] line = line
 on_none (n ∷ ns) line = Err whys.Count
@@ -108,7 +108,7 @@ abbrev pub on_four : List ℕ → (ℕ → ℕ → ℕ → ℕ → Result Line W
 on_four (a ∷ b ∷ d ∷ e ∷ []) line = line a b d e
 on_four ns line = Err whys.Count
 
--- what a word and the numbers behind it say
+-- what a word and the numbers after it say
 unfoldable pub told_at : Place → Word → List ℕ → Result Line Why
 told_at p words.Thread ns =
     on_one ns (λ t.
@@ -147,11 +147,11 @@ told_at p words.Cas ns =
     (commands.Cas s i a v))
 told_at p words.Idle ns = on_one ns (λ u. fitted p (commands.Idle u))
 
--- what a word and the tokens behind it say
+-- what a word and the tokens after it say
 unfoldable pub operands_at : Place → Word → List (List ℕ) → Result Line Why
 operands_at p word tokens = numbers_at (length (operands word)) tokens >>= told_at p word
 
--- the same, where a command comes only behind a thread
+-- the same, where a command comes only after a thread
 abbrev pub in_turn : Place → Word → List (List ℕ) → Result Line Why
 in_turn p word tokens =
     if is_command word && p.threads == 0 then Err whys.Order else operands_at p word tokens

@@ -19,7 +19,7 @@ header c =
     ∷ codes "blocks" ∷ decimal c.blocks ∷ codes "live" ∷ decimal c.live
     ∷ codes "object" ∷ decimal c.object ∷ codes "shared" ∷ decimal c.shared ∷ []
 
--- a command is its word and the numbers behind it
+-- a command is its word and the numbers after it
 abbrev pub command_line : Command → List (List ℕ)
 command_line k = (signature k).word ∷ map decimal (numbers k)
 

@@ -8,7 +8,7 @@ pub record GivesFirst (k : ℕ) (piece bytes : List ℕ) (left : Option (List �
   pub given : take k piece ≡ take k bytes
   pub rest : left ≡ Some (drop k bytes)
 
--- what is held afterwards is what was held, and this text behind it
+-- what is held afterwards is what was held, and this text after it
 abbrev pub Appends : Option (List ℕ) → Option (List ℕ) → List ℕ → Type 0
 Appends old new text = IfSome old (λ bytes. new ≡ Some (bytes ++ text))
 

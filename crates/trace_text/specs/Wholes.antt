@@ -19,11 +19,11 @@ IsLineFault P TooLong = ⊥
 IsLineFault P (BadLine line why) = P line why
 IsLineFault P OutOfMemory = Unit {0}
 
--- the line behind the traces of t threads
+-- the line after the traces of t threads
 abbrev pub next_line : Config → ℕ → List (List ℕ)
 next_line c t = if t == c.threads then codes "end" ∷ [] else codes "thread" ∷ decimal t ∷ []
 
--- lines are the commands of a thread, the line behind the traces of t threads, and others
+-- lines are the commands of a thread, the line after the traces of t threads, and others
 pub record IsTrace
     (c : Config) (t : ℕ) (lines : List (List (List ℕ)))
     (trace : List Command) (others : List (List (List ℕ)))
@@ -31,7 +31,7 @@ pub record IsTrace
   pub text : lines ≡ map command_line trace ++ next_line c t ∷ others
   pub in_bounds : IsTraceInBounds c trace
 
--- behind commands of thread t - 1 and `read` lines before them there is something wrong
+-- after commands of thread t - 1 and `read` lines before them there is something wrong
 pub record IsBadTrace
     (c : Config) (t : ℕ) (lines : List (List (List ℕ))) (read line : ℕ) (why : Why)
     : Type 0 where
@@ -43,7 +43,7 @@ pub record IsBadTrace
   pub fault : next_fault c
       (record { threads = t; commands = length trace; ended = false }) others ≡ Some why
 
--- the lines of an input are those of a job up to the line behind these traces, and others
+-- the lines of an input are those of a job up to the line after these traces, and others
 pub record IsBegun
     (c : Config) (done : List (List Command)) (bytes : List ℕ)
     (read : ℕ) (others : List (List (List ℕ)))

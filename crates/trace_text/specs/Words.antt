@@ -1,4 +1,4 @@
--- The words that lines begin with, and what stands behind them.
+-- The words that lines begin with, and what comes after them.
 use Rattle.std.specs.Prelude.{ℕ, Bool, true, false, List, [], ◌∷◌, Option, None, Some, codes, if◌then◌else◌}
 use Rattle.std.specs.Str.{bytes_eq}
 use Rattle.block_store.specs.declared.Width.{Width}
@@ -61,7 +61,7 @@ pub data Operand : Type 0 where
   OfNumber : Operand
   OfUnits : Operand
 
--- the operands behind a word
+-- the operands after a word
 abbrev pub operands : Word → List Operand
 operands Thread = OfThread ∷ []
 operands End = []

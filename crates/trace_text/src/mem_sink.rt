@@ -42,7 +42,7 @@ impl Model for MemSink {
 
 impl MemSink {
     /// An empty sink with room for `room` bytes, which are taken here: no later call takes memory.
-    /// The calls whose numbers, from 0, stand in `fail` fail.
+    /// The calls whose numbers, from 0, are in `fail` fail.
     pub fn new(alloc: Global, room: usize, fail: Vec<u64>) -> Result<MemSink, OutOfMemory>
         ensures { IfOk result (λ sink. sink ≡ record {
           held = [];

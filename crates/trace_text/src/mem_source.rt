@@ -41,7 +41,7 @@ impl Model for MemSource {
 
 impl MemSource {
     /// A source of these bytes, which gives at most `most` of them a call. The calls whose numbers,
-    /// from 0, stand in `fail` fail. With no number there it never fails.
+    /// from 0, are in `fail` fail. With no number there it never fails.
     pub fn new(bytes: Vec<u8>, most: usize, fail: Vec<u64>) -> MemSource
         requires { 1 ≤ most }
         ensures { result ≡ record {

@@ -5,10 +5,10 @@ ghost use Rattle.std.specs.List.{AllByRecursion, flat_map};
 ghost use Rattle.never_heap.specs.declared.Entry.{Entry};
 ghost use Rattle.never_heap.specs.declared.Item.{Item};
 ghost use Rattle.never_heap.specs.Histories.{HistoryItem, starts_in, work_in};
-ghost use Rattle.never_heap.specs.Orders.{IsHistoryOf};
+ghost use Rattle.never_heap.specs.HistoryOfOrder.{IsHistoryOf};
 ghost use Rattle.trace_text.specs.Faults.{Rose};
 ghost use Rattle.trace_text.specs.Lines.{ended};
-ghost use Rattle.trace_text.specs.Orders.{IsOrderOf, history_of, lines_from, order_text, text_in_order};
+ghost use Rattle.trace_text.specs.OrderTexts.{IsOrderOf, history_of, lines_from, order_text, text_in_order};
 ghost use Rattle.trace_text.specs.Places.{HasNext, next_line, starts_after, told_after};
 ghost use Rattle.trace_text.specs.Streams.{Appends, AppendsPrefix};
 

@@ -4,7 +4,7 @@ ghost use Rattle.std.specs.Prelude.{◌≡◌, ◌+◌, ◌^◌, ◌<◌, ◌≤
 ghost use Rattle.std.specs.List.{flat_map};
 ghost use Rattle.trace_text.specs.Faults.{Rose};
 ghost use Rattle.trace_text.specs.Streams.{Appends, AppendsPrefix};
-ghost use Rattle.trace_text.specs.Texts.{name_text, value_text, value_serial, reply_text, reply_serial, entry_line, totals_line, start_line, run_text};
+ghost use Rattle.trace_text.specs.RunTexts.{name_text, value_text, value_serial, reply_text, reply_serial, entry_line, totals_line, start_line, run_text};
 
 use crate::line_buffer::LineBuffer;
 use crate::{Failed, Sink};

@@ -54,7 +54,7 @@ impl ShortLine {
         self.len = 0;
     }
 
-    /// Puts a byte behind the others.
+    /// Puts a byte after the others.
     fn push(&mut self, byte: u8)
         requires { length self.old < LINE_ROOM }
         ensures bytes { self.new ≡ self.old ++ byte ∷ [] }
@@ -65,7 +65,7 @@ impl ShortLine {
     }
 }
 
-/// What stands next in a source.
+/// What is next in a source.
 #[derive(Clone, Copy, Debug, PartialEq, Eq)]
 pub enum Next {
     /// A line of fewer than 40 bytes.
@@ -104,7 +104,7 @@ pub fn next_line<S: Source>(source: &mut S, line: &mut ShortLine) -> Result<Next
     Ok(Next::Long)
 }
 
-/// What the end of a source is behind so many bytes of a line.
+/// What the end of a source is after so many bytes of a line.
 fn at_end(place: usize) -> Next
     ensures none { place ≡ 0 → result ≡ ends.End }
     ensures some { 0 < place → result ≡ ends.Line }

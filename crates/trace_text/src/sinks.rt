@@ -11,7 +11,7 @@ pub trait Sink {
     /// The bytes that the sink holds, where it tells them.
     ghost held: { Self → Option (List ℕ) };
 
-    /// How many faults the sink has counted. The count never falls, and stands still at 2^64 - 1.
+    /// How many faults the sink has counted. The count never falls, and is still at 2^64 - 1.
     ghost faults: { Self → ℕ };
 
     /// Appends a piece. At `Failed` a prefix of it was appended.

@@ -11,7 +11,7 @@ pub trait Source {
     /// The bytes that are left, where the source tells them.
     ghost left: { Self → Option (List ℕ) };
 
-    /// How many faults the source has counted. The count never falls, and stands still at 2^64 - 1.
+    /// How many faults the source has counted. The count never falls, and is still at 2^64 - 1.
     ghost faults: { Self → ℕ };
 
     /// Reads into the front of a piece, and says how many bytes. For a piece that is not empty, 0

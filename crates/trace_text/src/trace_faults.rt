@@ -25,7 +25,7 @@ pub enum Why {
     Size,
     /// A command before any thread, or a thread or the end out of turn.
     Order,
-    /// A line behind the line of the end, or no line of the end.
+    /// A line after the line of the end, or no line of the end.
     End,
 }
 

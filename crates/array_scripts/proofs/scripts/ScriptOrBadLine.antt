@@ -52,7 +52,7 @@ module _ {L H S Op : Type 0} (lang : Language L H S Op)
 
     -- ---- lines without a bad one are a script
 
-    -- behind t thread lines: the operations of the present thread, and the other threads
+    -- after t thread lines: the operations of the present thread, and the other threads
     record Goes (h : H) (t : ℕ) (s : S) (ls : List L) : Type 0 where
       ops : List Op
       scripts : List (List Op)
@@ -285,7 +285,7 @@ module _ {L H S Op : Type 0} (lang : Language L H S Op)
         ∙ script_told k others b.header b.fit in
         (header, ap (λ (r : List Op × List (List Op)). r.1) (some_is same))
 
-    -- lines are a script or have a first that cannot stand, and never both
+    -- lines are a script or have a first that may not come, and never both
     told_apart_by : (ls : List L) (o : Option ℕ) → bad_line lang Start 1 ls ≡ o
         → ((h : H) × (scripts : List (List Op)) × IsScript lang IsHeader Fits ls h scripts)
         ⊎ ((n : ℕ) × (bad_line lang Start 1 ls ≡ Some n))

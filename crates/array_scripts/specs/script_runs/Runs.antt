@@ -2,7 +2,7 @@
 use Rattle.std.specs.Prelude.{ℕ, ◌≡◌, List}
 use Rattle.array_scripts.specs.declared.header.Header.{Header}
 use Rattle.array_scripts.specs.Answers.{traces_in, answers_in}
-use Rattle.array_scripts.specs.Calls as calls
+use Rattle.array_scripts.specs.ScriptCalls as calls
 use Rattle.array_scripts.specs.Kinds.{Kind}
 use Rattle.array_scripts.specs.JobsOfScripts.{HasRoom, IsReadAs}
 use Rattle.array_scripts.specs.Tellings.{lines_from}

@@ -1,15 +1,15 @@
 -- Scripts: a header, then for each thread its line and a line for each of its operations, then the
--- end. Lines are of any type; what a line says depends on the header, on how many threads began, and
--- on what is known of the present thread.
+-- end. Lines are of any type; what a line says depends on the header, on how many threads began,
+-- and on what is known of the present thread.
 use Rattle.std.specs.Prelude.{ℕ, ◌+◌, ◌≡◌, ◌<◌, Option, Some, None, List, [], ◌∷◌, ◌++◌, map}
 
--- what a line behind the header says
+-- what a line after the header says
 pub data Said (Op : Type 0) : Type 0 where
   Thread : (t : ℕ) → Said Op
   Told : (op : Op) → Said Op
   End : Said Op
 
--- where a line stands: at the header, behind t thread lines, or behind the end
+-- where a line is: at the header, after t thread lines, or after the end
 pub data Place (H S : Type 0) : Type 0 where
   Start : Place H S
   Among : (h : H) (t : ℕ) (s : S) → Place H S
@@ -42,13 +42,13 @@ thread_lines lang t (ops ∷ scripts) =
 abbrev pub script_lines : {L H S Op : Type 0} → Language L H S Op → H → List (List Op) → List L
 script_lines lang h scripts = lang.header_line h ∷ thread_lines lang 0 scripts
 
--- the place behind a line
+-- the place after a line
 abbrev pub place_after : {L H S Op : Type 0} → Language L H S Op → H → ℕ → S → Said Op → Place H S
 place_after lang h t s (Thread u) = Among h (t + 1) (lang.begun h t)
 place_after lang h t s (Told op) = Among h t (lang.more s op)
 place_after lang h t s End = Done
 
--- the place behind a line that can stand here
+-- the place after a line that may come here
 abbrev pub behind :
     {L H S Op : Type 0} → Language L H S Op → H → ℕ → S → Option (Said Op) → Option (Place H S)
 behind lang h t s None = None
@@ -63,7 +63,7 @@ next_place lang Start l = begins lang (lang.header_at l)
 next_place lang (Among h t s) l = behind lang h t s (lang.line_at h t s l)
 next_place lang Done l = None
 
--- The first line that cannot stand at its place; one more than there are lines where there is no
+-- The first line that is not allowed at its place; one more than there are lines where there is no
 -- end. Line n is the first of these.
 abbrev pub at_end : {H S : Type 0} → Place H S → ℕ → Option ℕ
 at_end Done n = None
@@ -80,13 +80,13 @@ bad_line lang p n (l ∷ ls) =
 
 module _ {L H S Op : Type 0} (lang : Language L H S Op)
     (IsHeader : H → Type 0) (Fits : H → S → Op → Type 0) where
-  -- what can stand behind t thread lines
+  -- what may come after t thread lines
   abbrev pub Stands : H → ℕ → S → Said Op → Type 0
   Stands h t s (Thread u) = (u ≡ t) × (t < lang.threads_of h)
   Stands h t s (Told op) = (0 < t) × Fits h s op
   Stands h t s End = t ≡ lang.threads_of h
 
-  -- operations that fit, one behind the other
+  -- operations that fit, one after the other
   abbrev pub AreFit : H → S → List Op → Type 0
   AreFit h s [] = Unit {0}
   AreFit h s (op ∷ ops) = Fits h s op × AreFit h (lang.more s op) ops
@@ -103,7 +103,7 @@ module _ {L H S Op : Type 0} (lang : Language L H S Op)
     pub fit : AllFit h 0 scripts
     pub spelled : lines ≡ script_lines lang h scripts
 
-  -- What the readers of a header and of one line owe: each reads what can stand at its place, and
+  -- What the readers of a header and of one line owe: each reads what may come at its place, and
   -- nothing else.
   pub record Reads : Type 0 where
     pub header_sound : (l : L) (h : H) → lang.header_at l ≡ Some h

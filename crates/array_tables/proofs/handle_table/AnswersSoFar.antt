@@ -3,7 +3,7 @@ use Rattle.std.proofs.Common.{◌≡◌, ℕ, ◌≤◌, List, ◌++◌, length,
 use Rattle.std.proofs.lemmas.List.{drop_all}
 use Rattle.never_heap.specs.declared.Command.{Command}
 use Rattle.never_heap.specs.declared.Entry.{Entry}
-use Rattle.never_heap.proofs.PartLogs.{replies}
+use Rattle.never_heap.proofs.Lemmas.{replies}
 use Rattle.array_tables.specs.declared.handle_table.operation.Operation.{Operation}
 use Rattle.array_tables.specs.declared.handle_table.told.Outcome.{Outcome}
 use Rattle.array_tables.specs.handle_table.Handles.{outcomes_told, sizes_of, commands_from, rows_of, command_at, deeds_of}

@@ -2,7 +2,7 @@
 use Rattle.std.proofs.Common.{◌≡◌, ℕ, None, List, [], slice_index_or, sym, refl, ◌∙◌, subst, arith}
 use Rattle.std.specs.List.{AllByRecursion}
 use Rattle.array_tables.specs.operations.Linearizations.{Call, AreAnswered}
-use Rattle.array_tables.proofs.operations.Calls.{ops_of, by_threads}
+use Rattle.array_tables.proofs.operations.CallsOfThread.{ops_of, by_threads}
 use Rattle.array_tables.specs.declared.handle_table.operation.Operation.{Operation}
 use Rattle.array_tables.specs.handle_table.Handles.{Deed, Answer, all_deeds, IsScriptInRange, answer, slots_after, empty_slots}
 use Rattle.array_tables.specs.handle_table.Fates.{TellFates, ShowMakes}
@@ -14,7 +14,7 @@ module _ (slots : ℕ) (scripts : List (List Operation)) (order : List (Call Dee
     (in_range : (t : ℕ) → IsScriptInRange slots (slice_index_or scripts t []))
     (each : (t : ℕ) → ops_of t order ≡ slice_index_or (all_deeds 0 scripts) t [])
     (answered : AreAnswered answer slots_after (empty_slots slots) order) where
-  -- each thread's deeds in the order are numbered, and stand behind their makes
+  -- each thread's deeds in the order are numbered, and come after their makes
   numbered : (t j : ℕ) → Numbered slots 14000 t j 0 (λ h. 0) None (ops_of t order)
   numbered t j = subst (Numbered slots 14000 t j 0 (λ h. 0) None)
       (sym (each t ∙ deeds_of_thread scripts t))

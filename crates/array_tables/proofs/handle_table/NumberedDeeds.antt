@@ -1,4 +1,4 @@
--- The deeds of scripts: of whom they are, how they are numbered and stand behind their makes, and
+-- The deeds of scripts: of whom they are, how they are numbered and come after their makes, and
 -- which commands they have.
 use Rattle.std.proofs.Common.{◌≡◌, ◌≢◌, ℕ, zero, suc, ◌+◌, ◌-◌, ◌<◌, ◌≤◌, ◌==◌, ◌&&◌, inl, inr, cond, true, Option, Some, None, List, [], ◌∷◌, ◌++◌, length, map, slice_index_or, sym, refl, ap, ◌∙◌, subst, arith}
 use Rattle.std.specs.Prelude.{flat_map}
@@ -6,12 +6,12 @@ use Rattle.std.specs.List.{AllByRecursion}
 use Rattle.std.proofs.lemmas.Bool.{cases_eq}
 use Rattle.never_heap.specs.declared.Command.{Command}
 use Rattle.array_tables.specs.operations.Linearizations.{Call}
-use Rattle.array_tables.proofs.operations.Calls.{ops_of, ops_here, ops_there}
+use Rattle.array_tables.proofs.operations.CallsOfThread.{ops_of, ops_here, ops_there}
 use Rattle.array_tables.specs.declared.handle_table.operation.Operation.{Operation}
 use Rattle.array_tables.specs.declared.handle_table.operation.Operation.TheVariants as said
 use Rattle.array_tables.specs.handle_table.Handles.{Deed, Make, See, Drop, Take, Evict, Answer, last_after, AreNumbered, numbered, deeds_of, all_deeds, slot_by, slot_behind, slot_of, AreInTurn, rows_of, command_at, commands_of, commands_from, sizes_of}
 
--- the slot behind one operation more
+-- the slot after one operation more
 pub slot_more : (h : ℕ) (slot : Option ℕ) (before : List Operation) (op : Operation)
     → slot_behind h slot (before ++ op ∷ []) ≡ slot_by h (slot_behind h slot before) op
 slot_more h slot [] op = refl
@@ -23,7 +23,7 @@ made_in t j slot (Make u l h i x) = cond ((u == t) && (l == j)) (Some i) slot
 made_in t j slot _ = slot
 
 -- where this is the slot of make j of thread t, or there was none: it is made once, and what is
--- about it comes behind its make and at its slot
+-- about it comes after its make and at its slot
 abbrev pub Stands : ℕ → ℕ → Option ℕ → Deed → Type 0
 Stands t j slot (Make u l h i x) = (u == t) && (l == j) ≡ true → slot ≡ None
 Stands t j slot (See u l h i) = (u == t) && (l == j) ≡ true → slot ≡ Some i
@@ -45,14 +45,14 @@ IsOwn slots m w (Evict i) = i < slots
 pub same_both : (t j : ℕ) → (t == t) && (j == j) ≡ true
 same_both t j = grind arith
 
--- ---- behind n makes, of which the last of each h is known
+-- ---- after n makes, of which the last of each h is known
 
 module _ (slots m t j : ℕ) where
   abbrev pub Numbered : ℕ → (ℕ → ℕ) → Option ℕ → List Deed → Type 0
   Numbered n last slot ops = AreNumbered slots t n last ops × AllStand t j slot ops
       × AllByRecursion (IsOwn slots m t) ops
 
-  -- each h with a slot has a make, and the slot of make j is known behind it
+  -- each h with a slot has a make, and the slot of make j is known after it
   record Knows (n : ℕ) (last : ℕ → ℕ) (slot : Option ℕ) (before : List Operation) : Type 0 where
     early : n ≤ j → slot ≡ None
     known : (h i : ℕ) → slot_of h before ≡ Some i
@@ -149,7 +149,7 @@ module _ (t j slots m : ℕ) where
       → Stands t j slot op × (made_in t j slot op ≡ slot)
   others w op slot own ne = grind arith
 
-  -- what stands in the thread stands in the order
+  -- what is in the thread is in the order
   pub all_stand : (ds : List (Call Deed Answer)) (slot : Option ℕ)
       → AllByRecursion (IsOwnCall slots m) ds → AllStand t j slot (ops_of t ds)
       → AllStand t j slot (deeds_in ds)

@@ -8,7 +8,7 @@ use Rattle.never_heap.specs.declared.Reply.{Reply}
 use Rattle.never_heap.specs.declared.Reply.TheVariants.{Yes, No}
 use Rattle.never_heap.specs.Graphs.{Object, register_of, object_of, field_of}
 use Rattle.never_heap.specs.Steps.{same_value}
-use Rattle.never_heap.proofs.Effects.{nothing}
+use Rattle.never_heap.proofs.Lemmas.{nothing}
 use Rattle.array_tables.proofs.operations.LiveBound.{IsPlain}
 use Rattle.array_tables.proofs.operations.Pairs.{◌▸◌}
 use Rattle.array_tables.proofs.operations.Records.{HasField, reply_by, value_by, tell_known, tell_null, tell_kind, tell_field}

@@ -4,9 +4,9 @@ use Rattle.std.specs.Prelude.{slice_set}
 use Rattle.std.specs.List.{AllByRecursion}
 use Rattle.std.proofs.lemmas.Bool.{cases_lt}
 use Rattle.std.proofs.lemmas.List.{length-set, length-replicate, get_or_past, get_or-replicate}
-use Rattle.never_heap.proofs.GraphMoves.{get_or_set}
+use Rattle.never_heap.proofs.Lemmas.{get_or_set}
 use Rattle.array_tables.specs.operations.Linearizations.{Call, AreAnswered}
-use Rattle.array_tables.proofs.operations.Calls.{ops_of}
+use Rattle.array_tables.proofs.operations.CallsOfThread.{ops_of}
 use Rattle.array_tables.specs.handle_table.Handles.{Deed, Make, See, Drop, Take, Evict, Slot, Answer, Matched, is_free, holds, slot_at, answer, slots_after, empty_slots}
 use Rattle.array_tables.specs.handle_table.Fates.{Fate, Unmade, Refused, Kept, Gone, evicted, fate_by, fate_after, AnswersFor}
 use Rattle.array_tables.proofs.handle_table.NumberedDeeds.{IsOwn, IsOwnCall, made_in, Stands, AllStand, deeds_in, all_stand, same_both}

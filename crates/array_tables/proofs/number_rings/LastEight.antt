@@ -6,7 +6,7 @@ use Rattle.std.proofs.lemmas.Grind.{get_or-set_at}
 use Rattle.std.proofs.lemmas.List.{get_or-set_other, length-set, at_drop_more, drop_all}
 use Rattle.std.proofs.Math.Nat.{mod-lt, div-add-mod}
 use Rattle.array_tables.specs.number_rings.Rings.{Operation, Cell, ring_place, keeps, recalls, script_of, last_numbers, lost_of, left_of, with_number}
-use Rattle.array_tables.proofs.number_rings.Alone.{IsOwn, IsOwnPlace, alone}
+use Rattle.array_tables.proofs.number_rings.OwnPlaces.{IsOwn, IsOwnPlace, alone}
 use Rattle.array_tables.proofs.number_rings.Chunks.{numbers_in}
 
 pub ring_own : (t j : ℕ) → IsOwnPlace t (ring_place t j)
@@ -19,7 +19,7 @@ places_differ t i j low near same =
     let b = div-add-mod j 8 in
     omega (arith, same, a, b)
 
--- of all numbers, those before number j that are among its last eight stand at their places
+-- of all numbers, those before number j that are among its last eight are at their places
 pub record IsHeld (t j : ℕ) (all : List ℕ) (cells : List Cell) : Type 0 where
   pub room : 8 * t + 8 ≤ length cells
   pub holds : (i : ℕ) → i < j → j ≤ i + 8

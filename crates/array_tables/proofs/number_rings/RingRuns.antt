@@ -10,9 +10,9 @@ use Rattle.never_heap.specs.Runs.{IsRun}
 use Rattle.array_tables.specs.operations.Linearizations.{Call, calls_of, replies_in, IsLinearization}
 use Rattle.array_tables.proofs.operations.Applied.{applied, as_many_replies}
 use Rattle.array_tables.proofs.operations.LinearizedRuns.{linearized}
-use Rattle.array_tables.proofs.operations.Calls.{by_threads}
+use Rattle.array_tables.proofs.operations.CallsOfThread.{by_threads}
 use Rattle.array_tables.specs.number_rings.Rings.{Operation, Cell, answer, cells_after, empty_cells, rows_of, command_at, decides, ends, AreInCells, ring_config, ring_traces, scripts_from, script_of, recalled, last_numbers}
-use Rattle.array_tables.proofs.number_rings.Alone.{IsOwn, Agree, alone, answers_alone}
+use Rattle.array_tables.proofs.number_rings.OwnPlaces.{IsOwn, Agree, alone, answers_alone}
 use Rattle.array_tables.proofs.number_rings.Chunks.{numbers_in, by_chunks, script_tells, answers_of}
 use Rattle.array_tables.proofs.number_rings.LastEight.{script_own, script_shows}
 use Rattle.array_tables.proofs.number_rings.RingTable.{rings, rings_owe}

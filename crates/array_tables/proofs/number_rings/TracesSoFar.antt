@@ -4,13 +4,13 @@ use Rattle.std.specs.Prelude.{flat_map}
 use Rattle.std.proofs.lemmas.List.{drop-map}
 use Rattle.never_heap.specs.declared.Command.{Command}
 use Rattle.never_heap.specs.declared.Entry.{Entry}
-use Rattle.never_heap.proofs.PartLogs.{replies}
+use Rattle.never_heap.proofs.Lemmas.{replies}
 use Rattle.array_tables.specs.number_rings.Rings.{Operation, Recall, Cell, rows_of, command_at, ring_place, recalls, number_of, with_number, numbers_told}
 
 abbrev pub commands_of : List Operation → List Command
 commands_of ops = map command_at (flat_map rows_of ops)
 
--- behind these commands those of one recall more
+-- after these commands those of one recall more
 pub recall_more : (t j k : ℕ) (so_far more whole : List Command) → j < k
     → more ≡ so_far ++ map command_at (rows_of (Recall (ring_place t j)))
     → so_far ++ commands_of (recalls t j (k - j)) ≡ whole

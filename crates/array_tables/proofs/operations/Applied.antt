@@ -13,7 +13,7 @@ use Rattle.block_store.specs.declared.Value.TheVariants.{Nil, Ref}
 use Rattle.block_store.specs.declared.Width.TheVariants.{Eight}
 use Rattle.never_heap.specs.Graphs.{Graph, Object, Array, nils, shared_name, start_graph, mutator_at, register_of, object_of, field_of}
 use Rattle.never_heap.specs.LiveBlocks.{live_blocks}
-use Rattle.never_heap.proofs.StartGraph.{threads_of_start, count_of_start, object_of_start, has_shared, register_of_start, registers_of_start}
+use Rattle.never_heap.proofs.Lemmas.{count_of_start, has_shared, object_of_start, register_of_start, registers_of_start, threads_of_start}
 use Rattle.never_heap.specs.declared.Command.{Command}
 use Rattle.never_heap.specs.declared.Entry.{Entry}
 use Rattle.never_heap.specs.Histories.{HistoryItem, part}

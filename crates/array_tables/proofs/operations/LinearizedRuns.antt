@@ -17,12 +17,10 @@ use Rattle.never_heap.specs.LiveBlocks.{live_blocks}
 use Rattle.never_heap.specs.Runs.{IsRun}
 use Rattle.never_heap.specs.Coming.{left_of, IsNext, MayCome, IsNoFull}
 use Rattle.never_heap.specs.Steps.{step}
-use Rattle.never_heap.proofs.ItemsOfRuns.{none_left}
-use Rattle.never_heap.proofs.HistoryGrowth.{replay_more, part_append}
-use Rattle.never_heap.proofs.RunInduction.{walk_all}
+use Rattle.never_heap.proofs.Lemmas.{none_left, part_append, replay_more, walk_all}
 use Rattle.array_tables.specs.operations.Applications.{Progress, said, acted, kept_next, Tells, op_by, ops_in, moved, fresh, Application}
 use Rattle.array_tables.specs.operations.Linearizations.{Call, calls_of, after_calls, AreAnswered, rows_left, traces_of, decided_by, decided_next, decided_at, decided_behind, told_next, seen_next, answers_told, replies_in, IsLinearization}
-use Rattle.array_tables.specs.operations.SoFar.{IsRunSoFar, IsLinearizationSoFar}
+use Rattle.array_tables.specs.operations.RunPrefixes.{IsRunSoFar, IsLinearizationSoFar}
 
 -- the call that a row of thread t makes, if it decides an operation
 abbrev pub calls_by :

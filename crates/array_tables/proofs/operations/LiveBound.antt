@@ -1,4 +1,4 @@
--- How many blocks can be live where references stand in one array, in a few registers, and in the
+-- How many blocks can be live where references are in one array, in a few registers, and in the
 -- objects to which these refer, and no deeper.
 use Rattle.std.proofs.Common.{◌≡◌, ℕ, zero, suc, ◌+◌, ◌*◌, ◌<◌, ◌≤◌, ◌⊎◌, inl, inr, true, List, [], ◌∷◌, ◌++◌, length, slice_index_or, sym, refl, ap, ◌∙◌, subst, arith}
 use Rattle.std.specs.Prelude.{flat_map}
@@ -13,10 +13,7 @@ use Rattle.block_store.specs.Registers.{registers_end}
 use Rattle.never_heap.specs.Graphs.{Graph, shared_name, register_of, object_of, field_of, same_name}
 use Rattle.never_heap.specs.LiveBlocks.{live_blocks, object_blocks}
 use Rattle.never_heap.specs.Reach.{is_among, IsClosed}
-use Rattle.never_heap.proofs.LiveBlocksBound.{within}
-use Rattle.never_heap.proofs.NameLists.{one_name, same_itself}
-use Rattle.never_heap.proofs.UnchangedBySteps.{thread_of}
-use Rattle.array_tables.proofs.operations.Among.{refs, refs_weigh, registers_at, registers_long, register_in}
+use Rattle.never_heap.proofs.Lemmas.{one_name, refs, refs_weigh, register_in, registers_at, registers_long, same_itself, thread_of, within}
 
 -- nil or a number
 abbrev pub IsPlain : Value → Type 0

@@ -11,8 +11,7 @@ use Rattle.never_heap.specs.declared.Reply.TheVariants.{Val, Null, Kind}
 use Rattle.never_heap.specs.Graphs.{Graph, Object, register_of, object_of, field_of, with_register}
 use Rattle.never_heap.specs.LiveBlocks.{object_blocks}
 use Rattle.never_heap.specs.Steps.{step, at_field}
-use Rattle.array_tables.proofs.operations.Among.{refs_weigh}
-use Rattle.never_heap.proofs.Effects.{nothing, stores, gets}
+use Rattle.never_heap.proofs.Lemmas.{gets, nothing, refs_weigh, stores}
 use Rattle.array_tables.proofs.operations.LiveBound.{IsPlain, no_ref, Carries}
 use Rattle.array_tables.proofs.operations.Tables.{Frame, Sym, Own, Lasting, Shown, Hold, Has, Table, own_name, value_of, record_with, record_of, held, Meets}
 use Rattle.array_tables.proofs.operations.RowRules.{IsRegister, in_range, Told}

@@ -15,10 +15,9 @@ use Rattle.never_heap.specs.declared.Reply.{Reply}
 use Rattle.never_heap.specs.declared.Reply.TheVariants.{Yes, No}
 use Rattle.never_heap.specs.Graphs.{Graph, Object, Record, nil_object, nils, next_name, register_of, object_of, field_of, set_field, with_register, with_field}
 use Rattle.never_heap.specs.Steps.{step, made, swapped, same_value}
-use Rattle.never_heap.proofs.StepChanges.{has_field}
+use Rattle.never_heap.proofs.Lemmas.{Effect, cas_is, gets, has_field, makes, nothing, puts, puts_is, stores, swaps, swaps_is}
 use Rattle.array_tables.specs.operations.Applications.{kept_next, acted, said, Tells}
 use Rattle.array_tables.specs.operations.Linearizations.{seen_next}
-use Rattle.never_heap.proofs.Effects.{Effect, nothing, stores, puts, makes, swaps, gets, puts_is, swaps_is, cas_is}
 use Rattle.array_tables.proofs.operations.Tables.{Frame, same_frame, IsMade, Sym, Empty, Own, Lasting, Shown, Hold, Is, Has, Spot, nowhere, Table, name_at, own_name, value_of, record_with, record_of, held, held_here, held_past, behind, spot_by, Lasts, Meets, InSpot, lasts_move, meets_move, spot_move}
 use Rattle.array_tables.proofs.operations.Turns.{Before, Arrives, Goes, finishes_none, finishes_more, grown, out_after, out_same, thread, inside, room, place, owes, shared, array, known, reply, acts, told, frame, leaves, shared_stays, shared_changes}
 

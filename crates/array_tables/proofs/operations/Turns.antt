@@ -12,10 +12,9 @@ use Rattle.block_store.specs.declared.Value.TheVariants.{Nil, Ref}
 use Rattle.never_heap.specs.declared.Reply.{Reply}
 use Rattle.never_heap.specs.Graphs.{Graph, Object, Array, shared_name, mutator_at, count_of, register_of, object_of, field_of, set_field}
 use Rattle.never_heap.specs.Steps.{step}
-use Rattle.never_heap.proofs.GraphMoves.{get_or_set}
+use Rattle.never_heap.proofs.Lemmas.{Effect, get_or_set}
 use Rattle.array_tables.specs.operations.Applications.{Progress, moved, acted, said, kept_next}
 use Rattle.array_tables.specs.operations.Linearizations.{seen_next}
-use Rattle.never_heap.proofs.Effects.{Effect}
 use Rattle.array_tables.proofs.operations.Tables.{Frame, IsMade, Spot, Table, spot_of, behind, owed, owed_is, InSpot, Place, place_move}
 
 -- thread t has finished j more objects, and the others as many as before

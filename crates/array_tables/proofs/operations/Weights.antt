@@ -12,9 +12,8 @@ use Rattle.array_trees.specs.Trees.{array_blocks}
 use Rattle.object_lists.specs.Records.{record_blocks}
 use Rattle.never_heap.specs.Graphs.{Graph, Object, shared_name, register_of, object_of, field_of}
 use Rattle.never_heap.specs.LiveBlocks.{live_blocks, object_blocks, blocks_of_kind}
-use Rattle.never_heap.proofs.UnchangedBySteps.{thread_of}
+use Rattle.never_heap.proofs.Lemmas.{refs, thread_of}
 use Rattle.array_tables.specs.operations.Applications.{Progress}
-use Rattle.array_tables.proofs.operations.Among.{refs}
 use Rattle.array_tables.proofs.operations.LiveBound.{IsPlain, no_ref, Carries, IsIn, total, few as few_of}
 use Rattle.array_tables.proofs.operations.Turns.{HoldsBy, Thread}
 use Rattle.array_tables.proofs.operations.Tables.{Sym, Own, Lasting, Plain, Shown, Any, Meant, Hold, Is, Has, Spot, Table, own_name, value_of, record_of, held, spot_of, IsProper, Lasts, Meets}

@@ -2,7 +2,7 @@
 use Rattle.std.proofs.Common.{◌≡◌, ℕ, ◌≤◌, List, ◌++◌, length, drop}
 use Rattle.std.specs.Prelude.{flat_map}
 use Rattle.never_heap.specs.declared.Entry.{Entry}
-use Rattle.never_heap.proofs.PartLogs.{replies}
+use Rattle.never_heap.proofs.Lemmas.{replies}
 use Rattle.array_tables.specs.declared.tag_table.operation.Operation.{Operation}
 use Rattle.array_tables.specs.tag_table.Tables.{Tag, rows_of, answers_of}
 

@@ -7,7 +7,7 @@ use Rattle.block_store.specs.declared.Width.TheVariants.{Eight}
 use Rattle.array_trees.proofs.Counts.{few_shared}
 use Rattle.never_heap.specs.Bounds.{IsCommandInBounds}
 use Rattle.never_heap.specs.Jobs.{IsTraceInBounds, IsJobInBounds}
-use Rattle.never_heap.proofs.CommandBounds.{plain_fits}
+use Rattle.never_heap.proofs.Lemmas.{plain_fits}
 use Rattle.array_tables.specs.operations.Linearizations.{traces_of}
 use Rattle.array_tables.proofs.operations.Pairs.{◌▸◌}
 use Rattle.array_tables.specs.declared.tag_table.operation.Operation.{Operation}

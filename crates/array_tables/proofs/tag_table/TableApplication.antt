@@ -4,7 +4,7 @@ use Rattle.never_heap.specs.Histories.{HistoryItem}
 use Rattle.never_heap.specs.Licensed.{NoFulls}
 use Rattle.never_heap.specs.Runs.{IsRun}
 use Rattle.array_tables.specs.operations.Linearizations.{Call, calls_of, replies_in, traces_of, IsLinearization}
-use Rattle.array_tables.specs.operations.SoFar.{IsRunSoFar, IsLinearizationSoFar}
+use Rattle.array_tables.specs.operations.RunPrefixes.{IsRunSoFar, IsLinearizationSoFar}
 use Rattle.array_tables.proofs.operations.Applied.{applied, as_many_replies}
 use Rattle.array_tables.proofs.operations.LinearizedRuns.{linearized, linearized_so_far}
 use Rattle.array_tables.specs.declared.tag_table.operation.Operation.{Operation}

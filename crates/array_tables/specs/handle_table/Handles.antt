@@ -14,8 +14,8 @@ use Rattle.never_heap.specs.declared.Command.TheVariants as commands
 use Rattle.never_heap.specs.declared.Reply.{Reply}
 use Rattle.never_heap.specs.declared.Reply.TheVariants as replies
 
--- A deed is an operation that says whose handle it is about: that of make j of thread t, counted from
--- 0. A see or a drop is about the last make of h before it in its thread.
+-- A deed is an operation that says whose handle it is about: that of make j of thread t, counted
+-- from 0. A see or a drop is about the last make of h before it in its thread.
 pub data Deed : Type 0 where
   Make : (t j h i x : ℕ) → Deed
   See : (t j h i : ℕ) → Deed
@@ -52,8 +52,8 @@ shown (Some c) = Some (id c.0 c.1, c.2)
 abbrev pub slot_at : List Slot → ℕ → Slot
 slot_at slots i = slice_index_or slots i None
 
--- A make asks for a free slot; a see and a drop ask whether the slot holds their handle; a take and an
--- evict show the slot.
+-- A make asks for a free slot; a see and a drop ask whether the slot holds their handle; a take and
+-- an evict show the slot.
 abbrev pub answer : Deed → List Slot → Answer
 answer (Make t j h i x) slots = Matched (is_free (slot_at slots i))
 answer (See t j h i) slots = Matched (holds (slot_at slots i) t j)
@@ -251,13 +251,13 @@ CanStand slots before (said.Drop h i) = (h < 8) × (i < slots) × (slot_of h bef
 CanStand slots before (said.Take i) = i < slots
 CanStand slots before (said.Evict i) = i < slots
 
--- operations of which each can stand behind those before it
+-- operations of which each may come after those before it
 abbrev pub AreInTurn : ℕ → List Operation → List Operation → Type 0
 AreInTurn slots before [] = Unit {0}
 AreInTurn slots before (op ∷ ops) =
     CanStand slots before op × AreInTurn slots (before ++ op ∷ []) ops
 
--- a thread's script: at most 14,000 operations, each of which can stand
+-- a thread's script: at most 14,000 operations, each of which may come
 pub record IsScriptInRange (slots : ℕ) (ops : List Operation) : Type 0 where
   pub few : length ops ≤ 14000
   pub each : AreInTurn slots [] ops
@@ -289,7 +289,7 @@ box_commands number h x =
 abbrev pub shown_commands : List Command
 shown_commands = commands.Get 2 1 1 ∷ commands.Get 3 1 0 ∷ commands.Get 3 3 0 ∷ []
 
--- the commands of thread t's next operation, behind n makes, and of its next operations
+-- the commands of thread t's next operation, after n makes, and of its next operations
 abbrev pub commands_of : ℕ → ℕ → Operation → List Command
 commands_of t n (said.Make h i x) =
     box_commands (id t n) h x ++ commands.Nil 2 ∷ commands.Cas 0 i 2 (register_of_h h) ∷ []
@@ -339,7 +339,7 @@ outcome_of (Drop t j h i) a = if is_matched a then outcomes.Dropped else outcome
 outcome_of (Take i) a = shown_as (found_in a)
 outcome_of (Evict i) a = shown_as (found_in a)
 
--- what an operation of thread t, behind n makes, came to by these replies
+-- what an operation of thread t, after n makes, came to by these replies
 abbrev pub outcome_told : ℕ → ℕ → Operation → List Reply → Outcome
 outcome_told t n (said.Make h i x) rs =
     if is_yes (reply_at rs 8) then outcomes.Made t (n + 1) else outcomes.Taken

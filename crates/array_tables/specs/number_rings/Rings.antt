@@ -14,7 +14,7 @@ use Rattle.never_heap.specs.declared.Reply.TheVariants as replies
 
 -- ---- what a thread does
 
--- put a number at a place, or look what stands there
+-- put a number at a place, or look what is there
 pub data Operation : Type 0 where
   Keep : (i v : ℕ) → Operation
   Recall : (i : ℕ) → Operation
@@ -76,7 +76,7 @@ empty_cells n = replicate n None
 -- ---- the commands that it is made of
 
 -- A command of an operation, with what it is for. A keep makes a record of the number and stores it
--- at its place; a recall fetches the record that stands there, and tells its number.
+-- at its place; a recall fetches the record that is there, and tells its number.
 pub data Row : Type 0 where
   Make : (i v : ℕ) → Row
   SetNumber : (i v : ℕ) → Row
@@ -137,7 +137,7 @@ numbers_told [] = []
 numbers_told (a ∷ []) = []
 numbers_told (a ∷ b ∷ rs) = with_number (number_of b) (numbers_told rs)
 
--- those that are told behind the four replies to each of so many keeps
+-- those that are told after the four replies to each of so many keeps
 abbrev pub recalled : ℕ → List Reply → List ℕ
 recalled k rs = numbers_told (drop (4 * k) rs)
 

@@ -9,7 +9,7 @@ use Rattle.never_heap.specs.LiveBlocks.{live_blocks}
 use Rattle.never_heap.specs.Steps.{step}
 use Rattle.array_tables.specs.operations.Linearizations.{seen_next}
 
--- where a thread stands: the rows that it has left, the replies that it got in its operation, and
+-- where a thread is: the rows that it has left, the replies that it got in its operation, and
 -- the answer that is decided and not yet told
 pub record Progress (Row Answer : Type 0) : Type 0 where
   pub todo : List Row

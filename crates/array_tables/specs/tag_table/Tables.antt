@@ -35,9 +35,9 @@ answer op table = slice_index_or table (place_of op) None
 abbrev pub empty_table : ℕ → List Tag
 empty_table n = replicate n None
 
--- A command of an operation, with what it is for. A write makes a record, fills it, and publishes it
--- by an exchange with its place; a clear publishes nil; a read fetches what is published. Each then
--- tells what it got. No row writes in a record that is published.
+-- A command of an operation, with what it is for. A write makes a record, fills it, and publishes
+-- it by an exchange with its place; a clear publishes nil; a read fetches what is published. Each
+-- then tells what it got. No row writes in a record that is published.
 pub data Row : Type 0 where
   Make : (i v q : ℕ) → Row
   SetValue : (i v q : ℕ) → Row
@@ -123,7 +123,7 @@ pair_commands v q =
 abbrev pub shown_commands : List Command
 shown_commands = commands.Get 2 1 0 ∷ commands.Get 3 1 1 ∷ []
 
--- where the two telling replies stand among those of an operation; they are its last ones
+-- where the two telling replies are among those of an operation; they are its last ones
 abbrev pub told_from : Operation → ℕ
 told_from (Write i v q) = 6
 told_from (Clear i) = 2

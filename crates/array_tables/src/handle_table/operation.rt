@@ -48,7 +48,7 @@ pub fn made_by(op: &Operation) -> u64
     }
 }
 
-/// Adds the commands of a thread's next operation, behind so many makes.
+/// Adds the commands of a thread's next operation, after so many makes.
 fn add(trace: &mut Vec<Command>, thread: u32, made: u64, op: &Operation) -> Result<(), OutOfMemory>
     requires named { handle_of op.now < 8 }
     requires few { made < 2 ^ 63 }
@@ -70,7 +70,7 @@ fn add(trace: &mut Vec<Command>, thread: u32, made: u64, op: &Operation) -> Resu
     }
 }
 
-/// The id of the handle of a thread's next make, behind so many.
+/// The id of the handle of a thread's next make, after so many.
 fn id_of(thread: u32, made: u64) -> u64
     requires { made < 2 ^ 63 }
     ensures { result ≡ handles.id thread made }

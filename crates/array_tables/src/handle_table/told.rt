@@ -56,7 +56,7 @@ fn size_of(op: &Operation) -> usize
     }
 }
 
-/// What a thread's next operation came to, behind so many makes, where a log begins with its
+/// What a thread's next operation came to, after so many makes, where a log begins with its
 /// entries.
 fn outcome_of(thread: u32, made: u64, op: &Operation, log: &[Entry]) -> Outcome
     requires entries { handles.size_of op.now ≤ length log.now }
@@ -84,7 +84,7 @@ fn outcome_of(thread: u32, made: u64, op: &Operation, log: &[Entry]) -> Outcome
     }
 }
 
-/// The log behind the entries of an operation that it begins with.
+/// The log after the entries of an operation that it begins with.
 fn behind<'a>(op: &Operation, log: &'a [Entry]) -> &'a [Entry]
     requires { handles.size_of op.now ≤ length log.now }
     ensures { result.now ≡ drop (handles.size_of op.now) log.now }

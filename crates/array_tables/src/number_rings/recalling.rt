@@ -42,7 +42,7 @@ fn push_told(numbers: &mut Vec<u64>, reply: Reply) -> Result<(), OutOfMemory>
     Ok(())
 }
 
-/// The log behind so many entries.
+/// The log after so many entries.
 fn behind(log: &[Entry], count: usize) -> &[Entry]
     requires { count ≤ length log.now }
     ensures { result.now ≡ drop count log.now }

@@ -18,7 +18,7 @@ fn pair(value: Reply, quality: Reply) -> Option<(u64, u64)>
     }
 }
 
-/// Where the two telling entries of an operation stand among its entries.
+/// Where the two telling entries of an operation are among its entries.
 fn told_at(op: &Operation) -> usize
     ensures { result ≡ told_from op.now }
 {
@@ -38,7 +38,7 @@ fn answer_of(op: &Operation, log: &[Entry]) -> Option<(u64, u64)>
     pair(log[at].reply, log[at + 1].reply)
 }
 
-/// The log behind the entries of an operation that it begins with.
+/// The log after the entries of an operation that it begins with.
 fn behind<'a>(op: &Operation, log: &'a [Entry]) -> &'a [Entry]
     requires { told_from op.now + 2 ≤ length log.now }
     ensures { result.now ≡ drop (told_from op.now + 2) log.now }

@@ -1,5 +1,5 @@
 use Rattle.block_store.specs.Widths.{payloads}
-use Rattle.block_store.proofs.Registers.{many}
+use Rattle.block_store.proofs.Lemmas.{many}
 use Rattle.array_trees.proofs.Arrays.{by_levels, depth_is, tree_layout, tree_is_way}
 use Rattle.array_trees.proofs.array_layouts.Goals as goal
 

@@ -1,15 +1,15 @@
 -- What an ended run shows.
 use Rattle.std.proofs.Common.{ℕ, ◌-◌, ◌*◌, ◌≡◌, ◌≤◌, List, map, refl, sym, ◌∙◌, subst}
 use Rattle.atom_board.specs.Mutators.{ClosedState, MutatorState, IsFinishedBy}
-pub use Rattle.heap_system.proofs.LoggedTraces.{traces_logged}
+pub use Rattle.heap_system.proofs.history.LoggedTraces.{traces_logged}
 use Rattle.block_store.specs.declared.Config.{Config}
 use Rattle.never_heap.specs.declared.Command.{Command}
 use Rattle.never_heap.specs.declared.Entry.{Entry}
-use Rattle.never_heap.specs.Given.{given}
+use Rattle.never_heap.specs.GivenBlocks.{given}
 use Rattle.never_heap.specs.Histories.{starts_in, work_in}
 use Rattle.never_heap.specs.Licensed.{StartsSmall, NoFulls}
 use Rattle.rate_plan.specs.Rates.{IsRate}
-use Rattle.heap_invariant.specs.cycle_tally.Kept.{most_given}
+use Rattle.heap_invariant.specs.cycle_tally.TallyInvariant.{most_given}
 use Rattle.trace_text.specs.Jobs.{Job}
 use Rattle.heap_system.specs.Machines.{Run, IsAfterTurns}
 use Rattle.heap_system.specs.Costs.{units_so_far}

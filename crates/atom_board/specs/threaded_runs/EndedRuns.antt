@@ -3,12 +3,12 @@ use Rattle.std.specs.Prelude.{ℕ, ◌-◌, ◌*◌, ◌≡◌, ◌≤◌, List,
 use Rattle.atom_board.specs.Mutators.{ClosedState}
 use Rattle.never_heap.specs.declared.Command.{Command}
 use Rattle.never_heap.specs.declared.Entry.{Entry}
-use Rattle.never_heap.specs.Given.{given}
+use Rattle.never_heap.specs.GivenBlocks.{given}
 use Rattle.never_heap.specs.Histories.{HistoryItem, parts, starts_in, work_in}
 use Rattle.never_heap.specs.Licensed.{StartsSmall, NoFulls}
 use Rattle.never_heap.specs.Runs.{IsRun}
 use Rattle.rate_plan.specs.Rates.{IsRate}
-use Rattle.heap_invariant.specs.cycle_tally.Kept.{most_given}
+use Rattle.heap_invariant.specs.cycle_tally.TallyInvariant.{most_given}
 use Rattle.heap_system.specs.Serials.{AreOfThreads, AreFew}
 use Rattle.heap_system.specs.Systems.{IsFinished, units_of}
 use Rattle.trace_text.specs.Jobs.{Job}

@@ -19,7 +19,7 @@ enum Change {
     Remove,
 }
 
-/// What stands in place of a byte, or in front of it: no character, a line feed, a space, a byte of
+/// What is in place of a byte, or in front of it: no character, a line feed, a space, a byte of
 /// no text, and digits that change a number or the version.
 const CHANGES: [Change; 15] = [
     Change::Replace(0),
@@ -80,8 +80,8 @@ fn without_starts(alloc: Global, order: &[u8]) -> Result<Vec<u8>, AllocError> {
     Ok(lines)
 }
 
-/// That the checker accepts the order of a job of one thread, and that the job's run wrote the lines
-/// of this order.
+/// That the checker accepts the order of a job of one thread, and that the job's run wrote the
+/// lines of this order.
 fn is_a_run(
     rt: &(impl Abort + Threads + Wait + Sync),
     alloc: Global,

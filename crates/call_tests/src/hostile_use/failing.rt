@@ -32,7 +32,7 @@ const ASKED: [Asked; 9] = [
 ];
 
 /// The first lines of a text, as many as have at most so many bytes together and of which none is
-/// the line of that number or one behind it.
+/// the line of that number or one after it.
 fn front(text: &[u8], lines: u64, room: usize) -> &[u8] {
     let mut count = 0;
     let mut length = 0;

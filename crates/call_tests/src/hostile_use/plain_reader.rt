@@ -21,7 +21,7 @@ const WORDS: [(&[u8], &[u8]); 10] = [
 /// Those that are words of version 2 alone.
 const WIDE_WORDS: [(&[u8], &[u8]); 3] = [(b"swap", b"rnr"), (b"cas", b"rnrr"), (b"idle", b"u")];
 
-/// The names in a header, each with the least and the largest number behind it.
+/// The names in a header, each with the least and the largest number after it.
 const NAMES: [(&[u8], u64, u64); 5] = [
     (b"threads", 1, 16),
     (b"blocks", 1, 65_535),
@@ -64,7 +64,7 @@ fn number(piece: &[u8]) -> Option<u64> {
     Some(value)
 }
 
-/// The number that stands at a place of a line.
+/// The number that is at a place of a line.
 fn number_at(pieces: &[Vec<u8>], place: usize) -> Option<u64> {
     match pieces.get(place) {
         Some(piece) => number(piece.as_slice()),
@@ -72,7 +72,7 @@ fn number_at(pieces: &[Vec<u8>], place: usize) -> Option<u64> {
     }
 }
 
-/// Whether this piece stands at a place of a line.
+/// Whether this piece is at a place of a line.
 fn is_at(pieces: &[Vec<u8>], place: usize, wanted: &[u8]) -> bool {
     match pieces.get(place) {
         Some(piece) => piece.as_slice() == wanted,
@@ -112,7 +112,7 @@ struct Place {
     threads: u64,
     /// How many blocks the largest object may take.
     object: u64,
-    /// How many lines `thread` there were, and how many commands behind the last of them.
+    /// How many lines `thread` there were, and how many commands after the last of them.
     begun: u64,
     commands: u64,
     /// Whether the line `end` was read.

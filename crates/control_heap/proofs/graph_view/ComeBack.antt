@@ -1,4 +1,4 @@
--- Commands from a small graph on, of which some may be answered full: behind two cycles the heap
+-- Commands from a small graph on, of which some may be answered full: after two cycles the heap
 -- shows the graph that they left.
 use Rattle.std.proofs.Common.{◌≡◌, ℕ, ◌+◌, ◌-◌, ◌*◌, ◌<◌, ◌≤◌, max, List, [], ◌∷◌, ◌++◌, append_assoc, append-nil, refl, sym, ap, ◌∙◌, subst, arith}
 use Rattle.block_store.specs.declared.Config.{Config}
@@ -8,16 +8,14 @@ use Rattle.never_heap.specs.declared.Reply.{Reply}
 use Rattle.never_heap.specs.Cycles.{graph_at}
 use Rattle.never_heap.specs.Graphs.{Graph, start_graph}
 use Rattle.never_heap.specs.Histories.{HistoryItem, Did, after, replay, replay_from, starts_in}
-use Rattle.never_heap.proofs.HistoryGrowth.{starts_append, replay_append}
+use Rattle.never_heap.proofs.Lemmas.{replay_append, starts_append}
 use Rattle.heap_system.specs.Machines.{Run}
-use Rattle.heap_system.proofs.LawsOf.{laws_of}
-use Rattle.heap_system.proofs.RunTally.{RunTallied, run_tallied}
-use Rattle.heap_system.proofs.TalliesOf.{tallies_of}
+use Rattle.heap_system.proofs.Lemmas.{RunTallied, laws_of, run_tallied, tallies_of}
 use Rattle.control_heap.specs.Controls.{Control, Stands, Answers, units}
 use Rattle.control_heap.specs.WayBack.{AllDone, StartsSmallFrom}
 use Rattle.control_heap.proofs.Pace.{Onward, onward_on}
 use Rattle.control_heap.proofs.WayBacks.{command_at, few_cycles, paced}
-use Rattle.control_heap.specs.graph_view.Shown.{IsSmall, StaySmall, Leaves, Shows, AllStaySmall, graph_at_last, graph_told}
+use Rattle.control_heap.specs.graph_view.ShownGraph.{IsSmall, StaySmall, Leaves, Shows, AllStaySmall, graph_at_last, graph_told}
 use Rattle.control_heap.proofs.graph_view.GraphAnswers.{HasOne, one_entry, own_items, small_append, small_behind, small_last, told_is}
 
 module _ (c : Config) (rate : ℕ) (planned : IsRate c rate) where

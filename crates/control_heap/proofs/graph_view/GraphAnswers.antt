@@ -11,9 +11,7 @@ use Rattle.never_heap.specs.Graphs.{Graph, start_graph}
 use Rattle.never_heap.specs.Histories.{HistoryItem, Started, Did, is_full, after, replay, replay_from, IsAnswered, Legal, LegalFrom, part, starts_in}
 use Rattle.never_heap.specs.Licensed.{Licensed, NoFulls, StartsSmall}
 use Rattle.never_heap.specs.Steps.{makes_object, step}
-use Rattle.never_heap.proofs.CycleGrowth.{graph_at_more}
-use Rattle.never_heap.proofs.HistoryGrowth.{starts_append, replay_append, legal_back}
-use Rattle.never_heap.proofs.StepAnswers.{answered_by_step}
+use Rattle.never_heap.proofs.Lemmas.{answered_by_step, graph_at_more, legal_back, replay_append, starts_append}
 use Rattle.heap_system.specs.Alone.{after_alone}
 use Rattle.heap_system.specs.Machines.{Run}
 use Rattle.control_heap.specs.Controls.{Control, Stands, Answers, HasAnswered, entries_in}
@@ -23,7 +21,7 @@ use Rattle.control_heap.specs.Growth.{run_grown}
 use Rattle.control_heap.specs.WayBack.{StartsSmallFrom}
 use Rattle.control_heap.proofs.Items.{Added, added_alone}
 use Rattle.control_heap.proofs.WayBacks.{licensed_behind, none_from}
-use Rattle.control_heap.specs.graph_view.Shown.{IsSmall, StaySmall, Shows, HasMetNoFull, Leaves, Follows, Goes, graph_told}
+use Rattle.control_heap.specs.graph_view.ShownGraph.{IsSmall, StaySmall, Shows, HasMetNoFull, Leaves, Follows, Goes, graph_told}
 
 pub small_append : (c : Config) (g : Graph) (h k : List HistoryItem) → StaySmall c g h
     → StaySmall c (replay_from g h) k → StaySmall c g (h ++ k)
@@ -55,7 +53,7 @@ pub starts_small : (c : Config) (h : List HistoryItem) → StaySmall c (start_gr
     → StartsSmall c h
 starts_small c h s z l m = small_start c (start_graph c) h z l m s
 
--- the items before a start that comes behind a history
+-- the items before a start that comes after a history
 before_behind : (h k : List HistoryItem) (y z : ℕ) → 1 ≤ z → y ≡ starts_in h + z
     → before_start y (h ++ k) ≡ h ++ before_start z k
 before_behind [] k y z some e = ap (λ x. before_start x k) (let s : y ≡ z = omega arith in s)
@@ -65,7 +63,7 @@ before_behind (Started ∷ h) k y z some e =
     (ap (λ x. Started ∷ x) (before_behind h k (y - 1) z some (omega (arith, e, some))))
 before_behind (Did x ∷ h) k y z some e = ap (λ is. Did x ∷ is) (before_behind h k y z some e)
 
--- each start behind a history is small, where the items behind it stay so
+-- each start after a history is small, where the items after it stay so
 pub small_behind : (c : Config) (g : Graph) (h k : List HistoryItem) (y : ℕ)
     → replay c h ≡ g → StaySmall c g k → starts_in h < y → y ≤ starts_in (h ++ k)
     → IsSmall c (graph_at c (h ++ k) y)
@@ -220,7 +218,7 @@ small_after c g e s t = elim (cases_Bool (is_full e.reply)) [
   | inr n ↦ rw n t
 ]
 
--- the graph behind the one entry
+-- the graph after the one entry
 pub told_is : (g : Graph) (k : Command) (a : Reply) (e : Entry) → e.thread ≡ 0 → e.command ≡ k
     → e.reply ≡ a → after g (Did e) ≡ graph_told g k a
 told_is g k a e thread command reply =

@@ -9,8 +9,8 @@ use Rattle.never_heap.specs.declared.Reply.TheVariants.{Stored}
 use Rattle.control_heap.specs.Controls.{Control, HasAnswered}
 use Rattle.control_heap.specs.declared.control.Refused.{Refused}
 use Rattle.control_heap.specs.WayBack.{AllDone}
-use Rattle.control_heap.specs.graph_view.Asked.{HasDone, HasDoneAll, HasReplied, RefusesOne, last_told}
-use Rattle.control_heap.specs.graph_view.Shown.{AllFollow, Follows, IsSmall, Leads, last_reply}
+use Rattle.control_heap.specs.graph_view.RunsOfCommands.{HasDone, HasDoneAll, HasReplied, RefusesOne, last_told}
+use Rattle.control_heap.specs.graph_view.ShownGraph.{AllFollow, Follows, IsSmall, Leads, last_reply}
 
 module _ (R : Control → Graph → Type 0) (old now new : Control) (ks : List Command) where
   leads_next : (same : now.config ≡ old.config) (reply a : Reply) (k : Command) (rest : List Command)

@@ -8,13 +8,13 @@ use Rattle.never_heap.specs.declared.Entry.{Entry}
 use Rattle.never_heap.specs.Bounds.{IsCommandInBounds}
 use Rattle.never_heap.specs.Histories.{HistoryItem, Started, Did, work_in}
 use Rattle.never_heap.specs.RightWork.{RightWork, units_owed}
-use Rattle.never_heap.proofs.HistoryGrowth.{work_append}
+use Rattle.never_heap.proofs.Lemmas.{work_append}
 use Rattle.heap_system.specs.Lives.{sum_after}
 use Rattle.heap_system.specs.Machines.{Run}
 use Rattle.control_heap.specs.Controls.{Control, Stands, Answers, entries_in, units}
 use Rattle.control_heap.specs.declared.control.Refused.{Refused}
 use Rattle.control_heap.specs.declared.control.Refused.TheVariants.{OutOfBounds, NoLifeLeft}
-use Rattle.control_heap.specs.graph_view.Asked.{HasDone, HasDoneAll, RefusesOne, HasRoomFor, HasUsed}
+use Rattle.control_heap.specs.graph_view.RunsOfCommands.{HasDone, HasDoneAll, RefusesOne, HasRoomFor, HasUsed}
 
 work_none : (is : List HistoryItem) → entries_in is ≡ [] → work_in is ≡ 0
 work_none [] e = refl

@@ -198,7 +198,7 @@ fn drawing_of(alloc: Global, c: &Config, words: &Words) -> Result<String, OutOfM
 impl ControlHeap {
     /// What the registers reach, as a text for a person: a line for the registers, and one for
     /// each object, such as `3: record 2 [7, ->5]`. An object's number is the serial of its name;
-    /// the shared array has the number 0. Objects stand in the order in which a search by levels
+    /// the shared array has the number 0. Objects are in the order in which a search by levels
     /// finds them. No command is executed and nothing changes; the time grows with the graph. No
     /// clause says what the text is: tests do.
     ///

@@ -174,7 +174,7 @@ fn split(alloc: Global, group: Group) -> (Group, Result<Box<Owned>, AttachRefusa
 }
 
 // The first of the workers, and the others.
-#[tactic(auto, using(shared_heap::proofs::Crews::taken_first))]
+#[tactic(auto, using(shared_heap::proofs::AllWorkers::taken_first))]
 fn first_and_rest(workers: Vec<Worker>) -> (Worker, Vec<Worker>)
     requires { 0 < length workers.items }
     ensures { result.0 ∷ result.1.items ≡ workers.items }

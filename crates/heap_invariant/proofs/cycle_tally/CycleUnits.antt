@@ -9,17 +9,16 @@ use Rattle.never_heap.specs.declared.Reply.{Reply}
 use Rattle.never_heap.specs.declared.Reply.TheVariants.{Full}
 use Rattle.never_heap.specs.Histories.{HistoryItem, Started, Did}
 use Rattle.never_heap.specs.Cycles.{graph_at}
-use Rattle.never_heap.specs.Given.{given}
+use Rattle.never_heap.specs.GivenBlocks.{given}
 use Rattle.never_heap.specs.LiveBlocks.{live_blocks}
 use Rattle.never_heap.specs.Taken.{taken_by, blocks_if_new}
-use Rattle.never_heap.proofs.CycleGrowth.{graph_at_more, given_more, given_past, given_nought}
+use Rattle.never_heap.proofs.Lemmas.{given_more, given_nought, given_past, graph_at_more}
 use Rattle.block_store.specs.Counts.{changed, total}
-use Rattle.block_store.proofs.Functions.{changed_both, bit_le}
-use Rattle.block_store.proofs.Totals.{total_ones}
+use Rattle.block_store.proofs.Lemmas.{bit_le, changed_both, total_ones}
 use Rattle.work_account.proofs.Balances.{all_given, whole_paid}
 use Rattle.heap_invariant.specs.cycle_tally.Tallies.{Spending, Tally, units_now, given_now}
 use Rattle.heap_invariant.specs.cycle_tally.Entries.{entries_in, InThreads}
-use Rattle.heap_invariant.specs.cycle_tally.Kept.{most_given, SpendingKept, live_before, TallyKept}
+use Rattle.heap_invariant.specs.cycle_tally.TallyInvariant.{most_given, SpendingKept, live_before, TallyKept}
 
 -- plain arithmetic
 pub one_less : (z m : ℕ) → 1 ≤ z → z * m ≡ (z - 1) * m + m

@@ -5,20 +5,18 @@ use Rattle.std.proofs.lemmas.Nat.{le-div}
 use Rattle.block_store.specs.declared.Config.{Config}
 use Rattle.rate_plan.specs.Rates.{KeepsUp, ceiling}
 use Rattle.never_heap.specs.declared.Entry.{Entry}
-use Rattle.never_heap.specs.Given.{given}
+use Rattle.never_heap.specs.GivenBlocks.{given}
 use Rattle.never_heap.specs.Licensed.{IsLicensedReply}
 use Rattle.never_heap.specs.Taken.{taken_by}
 use Rattle.never_heap.specs.Steps.{blocks_of}
-use Rattle.never_heap.proofs.CycleGrowth.{taken_none}
-use Rattle.never_heap.proofs.NoFullRuns.{needs_no_licence}
+use Rattle.never_heap.proofs.Lemmas.{needs_no_licence, taken_none}
 use Rattle.block_store.specs.Counts.{changed, total}
 use Rattle.work_account.specs.Accounts.{published, refused, given_in}
-use Rattle.block_store.proofs.Functions.{changed_both, total_changed}
-use Rattle.block_store.proofs.Totals.{total_below}
+use Rattle.block_store.proofs.Lemmas.{changed_both, total_below, total_changed}
 use Rattle.work_account.proofs.Balances.{published_sound, refused_sound, given_more_in}
 use Rattle.heap_invariant.specs.cycle_tally.Tallies.{Spending, Tally, given_now, reserved_now}
 use Rattle.heap_invariant.specs.cycle_tally.Events.{Credit, Reserve, Publish, Refuse, Answer, apply, Guard}
-use Rattle.heap_invariant.specs.cycle_tally.Kept.{most_given, live_before, TallyKept}
+use Rattle.heap_invariant.specs.cycle_tally.TallyInvariant.{most_given, live_before, TallyKept}
 use Rattle.heap_invariant.proofs.cycle_tally.OneThreadEvents.{goes, stays, decided}
 use Rattle.heap_invariant.proofs.cycle_tally.CycleUnits.{floor_ceiling, taken_full, all_given_now}
 
@@ -44,7 +42,7 @@ module _ (c : Config) (rate : ℕ) (black : ℕ → ℕ) (some : 0 < rate) (s : 
         entered = o.entered;
         present = o.present;
         asked = o.asked;
-        told = o.told;
+        requested = o.requested;
         within = o.within;
         owed = o.owed;
         claimed = o.claimed;
@@ -69,14 +67,14 @@ module _ (c : Config) (rate : ℕ) (black : ℕ → ℕ) (some : 0 < rate) (s : 
       let more : given_in s.cycle (published w0.asked w0.balance)
       ≡ given_in s.cycle w0.balance + w0.asked =
       given_more_in s.cycle w0.asked w0.balance (o.present g.1) in
-      let none_idled : w0.idled ≡ 0 = o.told.none g.5.untold in
+      let none_idled : w0.idled ≡ 0 = o.requested.none g.5.untold in
       decided c rate black some s k t w e g.0 g.3
       (record {
         sound = published_sound rate c.object w0.asked w0.balance g.5.paid o.sound;
         entered = o.entered;
         present = o.present;
         asked = o.asked;
-        told = o.told;
+        requested = o.requested;
         within = omega arith;
         owed = omega (arith, none_idled);
         claimed = λ h. absurd (omega (arith, g.2));
@@ -107,7 +105,7 @@ module _ (c : Config) (rate : ℕ) (black : ℕ → ℕ) (some : 0 < rate) (s : 
         entered = o.entered;
         present = o.present;
         asked = o.asked;
-        told = record { apart = o.told.apart; none = λ _. refl; few = o.told.few };
+        requested = record { apart = o.requested.apart; none = λ _. refl; few = o.requested.few };
         within = o.within;
         owed = omega (arith, o.owed);
         claimed = λ h. (let q = o.claimed h in (q.0, q.1, omega (arith, q.2)));
@@ -171,7 +169,7 @@ module _ (c : Config) (rate : ℕ) (black : ℕ → ℕ) (some : 0 < rate) (s : 
       let w0 : Spending = s.threads t in
       let w : Spending = record w0 { balance = refused w0.balance } in
       let o = k.each t g.0 in
-      let none_idled : w0.idled ≡ 0 = o.told.none g.5.untold in
+      let none_idled : w0.idled ≡ 0 = o.requested.none g.5.untold in
       let taken : taken_by c.width e ≡ 0 = taken_full e.reply _ (blocks_of c.width e.command) g.7 in
       decided c rate black some s k t w e g.0 g.3
       (record {
@@ -179,7 +177,7 @@ module _ (c : Config) (rate : ℕ) (black : ℕ → ℕ) (some : 0 < rate) (s : 
         entered = o.entered;
         present = o.present;
         asked = o.asked;
-        told = o.told;
+        requested = o.requested;
         within = omega arith;
         owed = omega (arith, none_idled);
         claimed = λ h. absurd (omega (arith, g.2));

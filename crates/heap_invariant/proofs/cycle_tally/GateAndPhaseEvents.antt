@@ -5,19 +5,17 @@ use Rattle.block_store.specs.declared.Config.{Config}
 use Rattle.block_store.specs.Phases.{bit}
 use Rattle.never_heap.specs.Histories.{Started, work_in}
 use Rattle.never_heap.specs.Cycles.{graph_at}
-use Rattle.never_heap.specs.Given.{given}
+use Rattle.never_heap.specs.GivenBlocks.{given}
 use Rattle.never_heap.specs.LiveBlocks.{live_blocks}
-use Rattle.never_heap.proofs.HistoryGrowth.{starts_append, work_append}
-use Rattle.never_heap.proofs.CycleGrowth.{right_work_more, licensed_more, graph_at_more, given_ended, given_none}
+use Rattle.never_heap.proofs.Lemmas.{given_ended, given_none, graph_at_more, licensed_more, right_work_more, starts_append, work_append}
 use Rattle.block_store.specs.Counts.{total}
 use Rattle.work_account.specs.Accounts.{entered, units_in, given_in}
-use Rattle.block_store.proofs.Functions.{total_none}
-use Rattle.block_store.proofs.Totals.{total_least, total_nought}
+use Rattle.block_store.proofs.Lemmas.{total_least, total_none, total_nought}
 use Rattle.work_account.proofs.Balances.{entered_sound, paid_entered, cycle_entered, units_entered, given_entered, units_later, given_later}
 use Rattle.heap_invariant.specs.cycle_tally.Tallies.{Spending, Tally, claims, given_now, made_of}
 use Rattle.heap_invariant.specs.cycle_tally.Events.{Enter, Leave, SetCursor, Flip, Start, Clear, Next, with_thread, apply, Guard}
 use Rattle.heap_invariant.specs.cycle_tally.Entries.{entries_in}
-use Rattle.heap_invariant.specs.cycle_tally.Kept.{most_work, SpendingKept, live_before, TallyKept}
+use Rattle.heap_invariant.specs.cycle_tally.TallyInvariant.{most_work, SpendingKept, live_before, TallyKept}
 use Rattle.heap_invariant.proofs.cycle_tally.Sums.{no_claims}
 use Rattle.heap_invariant.proofs.cycle_tally.OneThreadEvents.{goes, stays}
 use Rattle.heap_invariant.proofs.cycle_tally.CycleUnits.{one_less, entries_started, in_threads_more, scanned_one, few_units, all_given_now, given_then}
@@ -59,7 +57,7 @@ module _ (c : Config) (rate : ℕ) (black : ℕ → ℕ) (some : 0 < rate) (s : 
         entered = omega arith;
         present = λ _. z;
         asked = o.asked;
-        told = o.told;
+        requested = o.requested;
         within = omega (arith, o.within);
         owed = omega (arith, o.owed);
         claimed = λ h. (let q = o.claimed h in (q.0, refl, omega (arith, q.2)));
@@ -77,7 +75,7 @@ module _ (c : Config) (rate : ℕ) (black : ℕ → ℕ) (some : 0 < rate) (s : 
         sound = o.sound;
         entered = o.entered;
         asked = o.asked;
-        told = o.told;
+        requested = o.requested;
         within = o.within;
         owed = o.owed;
         present = λ h. absurd (let q : false ≡ true = h in cc);
@@ -90,13 +88,13 @@ module _ (c : Config) (rate : ℕ) (black : ℕ → ℕ) (some : 0 < rate) (s : 
       → TallyKept c rate black (apply c rate black s (Next t y u))
   asks t y u g =
       let o = k.each t g.0 in
-      moved t g.0 (record (s.threads t) { asked = y; told = u })
+      moved t g.0 (record (s.threads t) { asked = y; requested = u })
       (record {
         sound = o.sound;
         entered = o.entered;
         present = o.present;
         asked = g.4;
-        told = record { apart = g.5; none = λ _. omega (arith, g.3); few = g.6 };
+        requested = record { apart = g.5; none = λ _. omega (arith, g.3); few = g.6 };
         within = omega (arith, g.3);
         owed = omega (arith, g.3);
         claimed = λ h. absurd (omega (arith, g.1));
@@ -115,7 +113,7 @@ module _ (c : Config) (rate : ℕ) (black : ℕ → ℕ) (some : 0 < rate) (s : 
         entered = o.entered;
         present = o.present;
         asked = o.asked;
-        told = o.told;
+        requested = o.requested;
         within = o.within;
         owed = o.owed;
         reserved = o.reserved;
@@ -188,7 +186,7 @@ module _ (c : Config) (rate : ℕ) (black : ℕ → ℕ) (some : 0 < rate) (s : 
         each = λ t tl. (let o = k.each t tl in record {
           sound = o.sound;
           asked = o.asked;
-          told = o.told;
+          requested = o.requested;
           within = o.within;
           owed = o.owed;
           claimed = o.claimed;

@@ -8,10 +8,10 @@ use Rattle.never_heap.specs.declared.Reply.{Reply}
 use Rattle.never_heap.specs.declared.Reply.TheVariants.{Full}
 use Rattle.never_heap.specs.declared.TheConstants.{MOST_UNITS}
 use Rattle.never_heap.specs.Cycles.{graph_at}
-use Rattle.never_heap.specs.Given.{given}
+use Rattle.never_heap.specs.GivenBlocks.{given}
 use Rattle.never_heap.specs.Histories.{HistoryItem, is_full}
 use Rattle.never_heap.specs.LiveBlocks.{live_blocks}
-use Rattle.never_heap.specs.RightWork.{units_told}
+use Rattle.never_heap.specs.RightWork.{requested_units}
 use Rattle.never_heap.specs.Steps.{blocks_of}
 use Rattle.never_heap.specs.Taken.{taken_by}
 use Rattle.heap_invariant.specs.cycle_tally.Tallies.{Spending, Tally, made_of, due_of}
@@ -125,10 +125,10 @@ module _ (c : Config) (rate : ℕ) (black : ℕ → ℕ) where
   abbrev decides : ℕ → Spending → Entry → Bool
   decides t w e =
       eqb e.thread t && (eqb (blocks_of c.width e.command) w.asked
-      && (eqb (units_told e.command) w.told && eqb e.work (made_of w)))
+      && (eqb (requested_units e.command) w.requested && eqb e.work (made_of w)))
 
   abbrev all_paid : Spending → Bool
-  all_paid w = eqb w.balance.paid (rate * w.asked) && eqb w.told 0
+  all_paid w = eqb w.balance.paid (rate * w.asked) && eqb w.requested 0
 
   all_paid_is : (w : Spending) → all_paid w ≡ true → IsAllPaid rate w
   all_paid_is w h =
@@ -139,7 +139,7 @@ module _ (c : Config) (rate : ℕ) (black : ℕ → ℕ) where
   decides_is t w e h =
       let p = flat4 (both _ _ (eqb-true _ _) (both _ _ (eqb-true _ _) (both _ _ (eqb-true _ _)
       (eqb-true _ _))) h) in
-      record { thread = p.0; blocks = p.1; told = p.2; work = p.3 }
+      record { thread = p.0; blocks = p.1; requested = p.2; work = p.3 }
 
   abbrev may : Tally → Event → Bool
   may s (Enter t) = ltb t c.threads
@@ -181,7 +181,7 @@ module _ (c : Config) (rate : ℕ) (black : ℕ → ℕ) where
   may s (Answer t e) =
       let w = s.threads t in
       ltb t c.threads && (decides t w e && (eqb w.asked 0 && (not (is_full e.reply)
-      && eqb (made_of w) w.told)))
+      && eqb (made_of w) w.requested)))
   may s (Next t k u) =
       let w = s.threads t in
       ltb t c.threads && (leb w.high w.low && (eqb w.reserved 0 && (eqb (made_of w) 0

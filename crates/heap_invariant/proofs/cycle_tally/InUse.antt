@@ -10,22 +10,15 @@ use Rattle.block_store.specs.Registers.{registers_end}
 use Rattle.never_heap.specs.Graphs.{Graph, start_graph, object_of, has_name, same_name}
 use Rattle.never_heap.specs.Histories.{HistoryItem, Started, Did, replay, replay_from, starts_in, Legal, LegalFrom}
 use Rattle.never_heap.specs.Cycles.{before_start, after_start, graph_at}
-use Rattle.never_heap.specs.Given.{given}
+use Rattle.never_heap.specs.GivenBlocks.{given}
 use Rattle.never_heap.specs.LiveBlocks.{object_blocks, live_of, live_blocks}
 use Rattle.never_heap.specs.Reach.{reachable, names}
 use Rattle.never_heap.specs.Taken.{taken_in}
-use Rattle.never_heap.proofs.ReachSteps.{reachable_named}
-use Rattle.never_heap.proofs.UnchangedBySteps.{replay_shape, threads_of_replay}
-use Rattle.never_heap.proofs.Sums.{sum_same, all_named}
-use Rattle.never_heap.proofs.StartGraph.{threads_of_start}
-use Rattle.never_heap.proofs.NameLists.{same_itself, any_of_names}
-use Rattle.never_heap.proofs.CycleGrowth.{replay_parts}
-use Rattle.never_heap.proofs.LiveBlocksBound.{live_sum}
+use Rattle.never_heap.proofs.Lemmas.{all_named, any_of_names, blocks_at, length_blocks, length_these, listed, live_sum, reachable_named, replay_parts, replay_shape, same_itself, sum_same, these, threads_of_replay, threads_of_start, times_blocks, times_these}
 use Rattle.block_store.specs.Counts.{times, total}
-use Rattle.block_store.proofs.Totals.{times_append}
+use Rattle.block_store.proofs.Lemmas.{times_append}
 use Rattle.heap_invariant.specs.cycle_tally.InUse.{IsBlockOfThese, IsCovered, count_free}
 use Rattle.heap_invariant.specs.cycle_tally.Entries.{InThreads}
-use Rattle.heap_invariant.proofs.cycle_tally.BlockLists.{listed, these, length_these, times_these, blocks_at, length_blocks, times_blocks}
 use Rattle.heap_invariant.proofs.cycle_tally.MadeNames.{made_from, in_made, legal_rest, threads_rest, starts_rest, taken_first, same_blocks, made_taken}
 
 legal_from : (c : Config) (h : List HistoryItem) → Legal c h

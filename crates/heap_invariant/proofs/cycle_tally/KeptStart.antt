@@ -7,13 +7,13 @@ use Rattle.block_store.specs.Colours.{is_free}
 use Rattle.never_heap.specs.Graphs.{Graph, object_of, has_name}
 use Rattle.never_heap.specs.Histories.{replay}
 use Rattle.never_heap.specs.Cycles.{graph_at}
-use Rattle.never_heap.specs.Given.{given}
+use Rattle.never_heap.specs.GivenBlocks.{given}
 use Rattle.never_heap.specs.LiveBlocks.{live_blocks, object_blocks}
 use Rattle.never_heap.specs.Reach.{reachable}
 use Rattle.heap_invariant.specs.name_invariant.Building.{IsBuilt}
 use Rattle.heap_invariant.specs.name_invariant.Colouring.{IsDark}
 use Rattle.heap_invariant.specs.name_invariant.States.{KeptState}
-use Rattle.heap_invariant.specs.name_invariant.Kept.{IsKept}
+use Rattle.heap_invariant.specs.name_invariant.Invariant.{Invariant}
 use Rattle.heap_invariant.specs.name_invariant.Events.KeptEvent.{Start}
 use Rattle.heap_invariant.specs.name_invariant.Events.{Guard}
 use Rattle.heap_invariant.proofs.name_invariant.ReachedBlocks.{marked_is}
@@ -21,7 +21,7 @@ use Rattle.heap_invariant.specs.cycle_tally.Entries.{InThreads}
 use Rattle.heap_invariant.specs.cycle_tally.InUse.{ReachedOrMade, IsCovered, count_free}
 use Rattle.heap_invariant.proofs.cycle_tally.InUse.{few_in_use}
 
-module _ (c : Config) (s : KeptState) (k : IsKept c s) (may : Guard c s Start) where
+module _ (c : Config) (s : KeptState) (k : Invariant c s) (may : Guard c s Start) where
   -- a name was reachable at the start of cycle z, or is one of g alone
   abbrev InGraph : Graph → ℕ → Name → Type 0
   InGraph g z a =

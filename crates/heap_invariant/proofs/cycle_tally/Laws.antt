@@ -8,19 +8,19 @@ use Rattle.block_store.specs.Phases.{bit}
 use Rattle.rate_plan.specs.Rates.{KeepsUp}
 use Rattle.never_heap.specs.Histories.{HistoryItem, Started, starts_in, work_in}
 use Rattle.never_heap.specs.Cycles.{graph_at}
-use Rattle.never_heap.specs.Given.{given}
+use Rattle.never_heap.specs.GivenBlocks.{given}
 use Rattle.never_heap.specs.Licensed.{Licensed}
 use Rattle.never_heap.specs.LiveBlocks.{live_blocks}
 use Rattle.never_heap.specs.RightWork.{RightWork}
-use Rattle.never_heap.proofs.CycleGrowth.{given_nought}
+use Rattle.never_heap.proofs.Lemmas.{given_nought}
 use Rattle.block_store.specs.Counts.{total}
 use Rattle.work_account.specs.Accounts.{Balance, opened, IsSound, units_in, given_in}
-use Rattle.block_store.proofs.Functions.{total_none, bit_le}
+use Rattle.block_store.proofs.Lemmas.{bit_le, total_none}
 use Rattle.work_account.proofs.Balances.{opened_sound}
 use Rattle.heap_invariant.specs.cycle_tally.Tallies.{Spending, Tally, claims, units, given_now, made_of, made_now}
 use Rattle.heap_invariant.specs.cycle_tally.Events.{Event, apply, run, Guarded}
 use Rattle.heap_invariant.specs.cycle_tally.Entries.{entries_in, InThreads}
-use Rattle.heap_invariant.specs.cycle_tally.Kept.{most_work, SpendingKept, live_before, TallyKept}
+use Rattle.heap_invariant.specs.cycle_tally.TallyInvariant.{most_work, SpendingKept, live_before, TallyKept}
 use Rattle.heap_invariant.specs.cycle_tally.InitialHeaps.{Opened}
 use Rattle.heap_invariant.specs.cycle_tally.Bounds.{AsksNothing, Bound}
 use Rattle.heap_invariant.proofs.cycle_tally.Sums.{no_claims}
@@ -70,7 +70,7 @@ module _ (c : Config) (rate : ℕ) (black : ℕ → ℕ) (some : 0 < rate) where
               ap (λ (b : Balance). b.cycle) i.balance in omega (arith, o.cycle));
           present = λ h. absurd (both_ways _ i.inside h);
           asked = i.asked;
-          told = i.told;
+          requested = i.requested;
           within = omega (arith, paid t tl);
           owed = omega (arith, paid t tl, i.idled);
           claimed = λ h. absurd (omega (arith, i.claimed));
@@ -119,7 +119,7 @@ module _ (c : Config) (rate : ℕ) (black : ℕ → ℕ) (some : 0 < rate) where
   one_few z w k =
       let product : rate * w.asked ≤ rate * c.object =
       mul-le rate w.asked rate c.object (omega arith) k.asked in
-      omega (arith, k.owed, k.told.few)
+      omega (arith, k.owed, k.requested.few)
 
   made_few : (n z : ℕ) (s : Tally) → ((t : ℕ) → t < n → SpendingKept c rate z (s.threads t))
       → made_now n s ≤ n * most_work c rate

@@ -20,11 +20,7 @@ use Rattle.never_heap.specs.Cycles.{before_start, after_start}
 use Rattle.never_heap.specs.LiveBlocks.{blocks_of_kind, object_blocks}
 use Rattle.never_heap.specs.Taken.{taken_by, taken_in, blocks_if_new}
 use Rattle.never_heap.specs.Steps.{step, made, makes_object, blocks_of}
-use Rattle.never_heap.proofs.GraphMoves.{object_with_register, has_name_with_register}
-use Rattle.never_heap.proofs.FieldStores.{object_with_object, has_name_with_object, has_name_with_field}
-use Rattle.never_heap.proofs.StepChanges.{Change, none, store, put, swap, make, change_of, has_field, with_object_threads, threads_put}
-use Rattle.never_heap.proofs.UnchangedBySteps.{replay_shape, threads_of_replay}
-use Rattle.never_heap.proofs.NameLists.{same_itself, one_name}
+use Rattle.never_heap.proofs.Lemmas.{Change, change_of, has_field, has_name_with_field, has_name_with_object, has_name_with_register, make, none, object_with_object, object_with_register, one_name, put, replay_shape, same_itself, store, swap, threads_of_replay, threads_put, with_object_threads}
 use Rattle.heap_invariant.specs.cycle_tally.Entries.{InThreads}
 
 -- the names that an entry makes, and those that a history makes
@@ -172,11 +168,11 @@ module _ (w : Width) where
       (m.0, ap (object_blocks w) m.1 ∙ ap (array_blocks w) (length-replicate f values.Nil), refl)
   made_blocks g t _ there e = absurd cc
 
-  -- the blocks of a name after an entry and the items behind it
+  -- the blocks of a name after an entry and the items after it
   abbrev sizes : Graph → Entry → List HistoryItem → Name → ℕ
   sizes g e h a = object_blocks w (object_of (replay_from (after g (Did e)) h) a)
 
-  -- the blocks of the names that the items behind an entry make
+  -- the blocks of the names that the items after an entry make
   abbrev rest_sum : Graph → Entry → List HistoryItem → ℕ
   rest_sum g e h = sum_by (sizes g e h) (made_from (after g (Did e)) h)
 

@@ -7,10 +7,10 @@ use Rattle.block_store.specs.declared.Config.{Config}
 use Rattle.block_store.specs.Phases.{bit}
 use Rattle.block_store.specs.Counts.{total}
 use Rattle.work_account.specs.Accounts.{units_in}
-use Rattle.block_store.proofs.Functions.{total_part, bit_le, bit_one}
+use Rattle.block_store.proofs.Lemmas.{bit_le, bit_one, total_part}
 use Rattle.heap_invariant.specs.cycle_tally.Tallies.{Spending, Tally, claims, made_of, due_of, with_made}
 use Rattle.heap_invariant.specs.cycle_tally.Events.{Paint, Scan, Claim, Pass, apply, Guard}
-use Rattle.heap_invariant.specs.cycle_tally.Kept.{SpendingKept, TallyKept}
+use Rattle.heap_invariant.specs.cycle_tally.TallyInvariant.{SpendingKept, TallyKept}
 use Rattle.heap_invariant.proofs.cycle_tally.Sums.{rises, made_more, made_cycle, made_units, made_given, made_told, made_sound, made_within, full_is_full, no_claims, claims_within, claims_below, claims_above}
 use Rattle.heap_invariant.proofs.cycle_tally.OneThreadEvents.{goes, stays}
 
@@ -54,15 +54,15 @@ module _ (c : Config) (rate : ℕ) (black : ℕ → ℕ) (some : 0 < rate) (s : 
       let one : made_of (with_made (s.threads t)) ≡ made_of (s.threads t) + 1 =
       made_more (s.threads t) in
       subst (SpendingKept c rate s.cycle) (sym is) (record {
-        sound = made_sound rate c.object w0 o.told less product o.sound;
+        sound = made_sound rate c.object w0 o.requested less product o.sound;
         entered = omega (arith, o.entered);
         present = λ _. cycle ∙ o.present inside;
         asked = o.asked;
-        told = made_told w0 o.told;
-        within = made_within rate w0 o.told less o.within;
+        requested = made_told w0 o.requested;
+        within = made_within rate w0 o.requested less o.within;
         owed = omega arith;
         claimed = λ h. (let q = cl h in (q.0, inside, omega (arith, q.1)));
-        reserved = λ h. absurd (let q = o.reserved h in full_is_full rate w0 o.told h q.1 q.2 less);
+        reserved = λ h. absurd (let q = o.reserved h in full_is_full rate w0 o.requested h q.1 q.2 less);
       })
 
   pub scans_one : (t x : ℕ) → Guard c rate black s (Scan t x)
@@ -110,7 +110,7 @@ module _ (c : Config) (rate : ℕ) (black : ℕ → ℕ) (some : 0 < rate) (s : 
         entered = o.entered;
         present = o.present;
         asked = o.asked;
-        told = o.told;
+        requested = o.requested;
         within = o.within;
         owed = o.owed;
         reserved = o.reserved;

@@ -4,19 +4,18 @@ use Rattle.std.proofs.lemmas.Nat.{mul-le}
 use Rattle.block_store.specs.declared.Config.{Config}
 use Rattle.block_store.specs.Counts.{changed, total}
 use Rattle.block_store.specs.Phases.{bit}
-use Rattle.block_store.proofs.Functions.{total_changed, changed_here, changed_else}
+use Rattle.block_store.proofs.Lemmas.{changed_else, changed_here, total_changed}
 use Rattle.never_heap.specs.declared.Entry.{Entry}
-use Rattle.never_heap.specs.Given.{given}
+use Rattle.never_heap.specs.GivenBlocks.{given}
 use Rattle.never_heap.specs.Histories.{Did, work_in}
 use Rattle.never_heap.specs.Licensed.{IsLicensedReply}
 use Rattle.never_heap.specs.Steps.{blocks_of}
 use Rattle.never_heap.specs.Taken.{taken_by}
-use Rattle.never_heap.proofs.CycleGrowth.{right_work_more, licensed_more}
-use Rattle.never_heap.proofs.HistoryGrowth.{starts_append, work_append}
+use Rattle.never_heap.proofs.Lemmas.{licensed_more, right_work_more, starts_append, work_append}
 use Rattle.work_account.specs.Accounts.{units_in, given_in}
 use Rattle.heap_invariant.specs.cycle_tally.Entries.{entries_in}
 use Rattle.heap_invariant.specs.cycle_tally.Events.{Decides, with_thread, ordered}
-use Rattle.heap_invariant.specs.cycle_tally.Kept.{most_work, SpendingKept, TallyKept}
+use Rattle.heap_invariant.specs.cycle_tally.TallyInvariant.{most_work, SpendingKept, TallyKept}
 use Rattle.heap_invariant.specs.cycle_tally.Tallies.{Spending, Tally, claims, units_now, made_of, due_of}
 use Rattle.heap_invariant.proofs.cycle_tally.CycleUnits.{one_more, entries_more, in_threads_more, given_here, given_then, base_same, each_changed}
 
@@ -153,10 +152,10 @@ module _ (c : Config) (rate : ℕ) (black : ℕ → ℕ) (some : 0 < rate) (s : 
       let o = k.each t tl in
       let product : rate * (s.threads t).asked ≤ rate * c.object =
       mul-le rate (s.threads t).asked rate c.object (omega arith) o.asked in
-      cheaper_by (work_in s.order) e.work (rate * (s.threads t).asked + (s.threads t).told)
+      cheaper_by (work_in s.order) e.work (rate * (s.threads t).asked + (s.threads t).requested)
       (most_work c rate) (entries_in s.order * most_work c rate) _ _
       (work_more e) (q ∙ r) (omega (arith, d.work, o.owed))
-      (omega (arith, o.told.few)) k.cheap
+      (omega (arith, o.requested.few)) k.cheap
 
   pub decided : (t : ℕ) (w : Spending) (e : Entry) → t < c.threads
       → Decides c t (s.threads t) e → SpendingKept c rate s.cycle w → Settles c rate s t w e
@@ -188,8 +187,8 @@ module _ (c : Config) (rate : ℕ) (black : ℕ → ℕ) (some : 0 < rate) (s : 
         cheap = cheaper t e tl d;
         entries = in_threads_more c.threads s.order (Did e) k.entries (omega (arith, d.thread), tt);
         right = right_work_more c.width rate s.order (Did e) k.right
-            (d.work ∙ q.whole ∙ ap (λ z. rate * z + (s.threads t).told) (sym d.blocks)
-            ∙ ap (λ z. rate * blocks_of c.width e.command + z) (sym d.told));
+            (d.work ∙ q.whole ∙ ap (λ z. rate * z + (s.threads t).requested) (sym d.blocks)
+            ∙ ap (λ z. rate * blocks_of c.width e.command + z) (sym d.requested));
         licensed = licensed_more c s.order (Did e) k.licensed q.licensed;
       }
 

@@ -4,7 +4,7 @@ use Rattle.block_store.specs.declared.Config.{Config}
 use Rattle.rate_plan.specs.Rates.{KeepsUp}
 use Rattle.heap_invariant.specs.cycle_tally.Tallies.{Tally}
 use Rattle.heap_invariant.specs.cycle_tally.Events.{Event, Enter, Leave, SetCursor, Flip, Start, Paint, Scan, Claim, Pass, Clear, Credit, Reserve, Publish, Refuse, Answer, Next, apply, Guard}
-use Rattle.heap_invariant.specs.cycle_tally.Kept.{TallyKept}
+use Rattle.heap_invariant.specs.cycle_tally.TallyInvariant.{TallyKept}
 use Rattle.heap_invariant.proofs.cycle_tally.GateAndPhaseEvents.{enters, leaves, asks, clears, cursor_set, flips, begins}
 use Rattle.heap_invariant.proofs.cycle_tally.MarkAndSweepEvents.{paints, scans_one, claims_more, passes_one}
 use Rattle.heap_invariant.proofs.cycle_tally.DecisionEvents.{credits, reserves, gives, answers, refuses}

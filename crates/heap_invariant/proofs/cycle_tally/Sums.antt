@@ -5,7 +5,7 @@ use Rattle.block_store.specs.Phases.{bit}
 use Rattle.block_store.specs.Counts.{changed, total}
 use Rattle.work_account.specs.Accounts.{IsSound, units_in, given_in}
 use Rattle.heap_invariant.specs.cycle_tally.Tallies.{Spending, claims, made_of, due_of, with_made}
-use Rattle.heap_invariant.specs.cycle_tally.Kept.{IsTold}
+use Rattle.heap_invariant.specs.cycle_tally.TallyInvariant.{IsRequested}
 use Rattle.work_account.proofs.Balances.{unit_sound, idle_sound}
 
 -- a count of blocks, from 1 on, that rises at one of them
@@ -32,58 +32,58 @@ rises (suc n) f y pos low = elim (cases_eq y (suc n)) [
 
 -- a unit more for the command in hand
 pub made_more : (w : Spending) → made_of (with_made w) ≡ made_of w + 1
-made_more w = elim (cases_eq w.told 0) [
-  | inl e ↦ rw (eq-eqb w.told 0 e) (omega arith)
-  | inr ne ↦ rw (ne_eqb w.told 0 ne) (omega arith)
+made_more w = elim (cases_eq w.requested 0) [
+  | inl e ↦ rw (eq-eqb w.requested 0 e) (omega arith)
+  | inr ne ↦ rw (ne_eqb w.requested 0 ne) (omega arith)
 ]
 
 pub made_cycle : (w : Spending) → (with_made w).balance.cycle ≡ w.balance.cycle
-made_cycle w = elim (cases_eq w.told 0) [
-  | inl e ↦ rw (eq-eqb w.told 0 e) refl
-  | inr ne ↦ rw (ne_eqb w.told 0 ne) refl
+made_cycle w = elim (cases_eq w.requested 0) [
+  | inl e ↦ rw (eq-eqb w.requested 0 e) refl
+  | inr ne ↦ rw (ne_eqb w.requested 0 ne) refl
 ]
 
 pub made_units : (z : ℕ) (w : Spending) → w.balance.cycle ≡ z
     → units_in z (with_made w).balance ≡ units_in z w.balance + 1
-made_units z w here = elim (cases_eq w.told 0) [
-  | inl e ↦ rw (eq-eqb w.told 0 e) (rw (eq-eqb w.balance.cycle z here) refl)
-  | inr ne ↦ rw (ne_eqb w.told 0 ne) (rw (eq-eqb w.balance.cycle z here) refl)
+made_units z w here = elim (cases_eq w.requested 0) [
+  | inl e ↦ rw (eq-eqb w.requested 0 e) (rw (eq-eqb w.balance.cycle z here) refl)
+  | inr ne ↦ rw (ne_eqb w.requested 0 ne) (rw (eq-eqb w.balance.cycle z here) refl)
 ]
 
 pub made_given : (z : ℕ) (w : Spending)
     → given_in z (with_made w).balance ≡ given_in z w.balance
-made_given z w = elim (cases_eq w.told 0) [
-  | inl e ↦ rw (eq-eqb w.told 0 e) refl
-  | inr ne ↦ rw (ne_eqb w.told 0 ne) refl
+made_given z w = elim (cases_eq w.requested 0) [
+  | inl e ↦ rw (eq-eqb w.requested 0 e) refl
+  | inr ne ↦ rw (ne_eqb w.requested 0 ne) refl
 ]
 
 -- a told command has made units outside the account, and another none
-pub made_told : (w : Spending) → IsTold w.asked w.told w.idled
-    → IsTold w.asked w.told (with_made w).idled
-made_told w k = elim (cases_eq w.told 0) [
-  | inl e ↦ rw (eq-eqb w.told 0 e) k
-  | inr ne ↦ rw (ne_eqb w.told 0 ne)
+pub made_told : (w : Spending) → IsRequested w.asked w.requested w.idled
+    → IsRequested w.asked w.requested (with_made w).idled
+made_told w k = elim (cases_eq w.requested 0) [
+  | inl e ↦ rw (eq-eqb w.requested 0 e) k
+  | inr ne ↦ rw (ne_eqb w.requested 0 ne)
       (record { apart = k.apart; none = λ e. absurd (ne e); few = k.few })
 ]
 
-pub made_sound : (rate object : ℕ) (w : Spending) → IsTold w.asked w.told w.idled
+pub made_sound : (rate object : ℕ) (w : Spending) → IsRequested w.asked w.requested w.idled
     → made_of w < due_of rate w → rate * w.asked ≤ rate * object
     → IsSound rate object w.balance → IsSound rate object (with_made w).balance
-made_sound rate object w k less few sound = elim (cases_eq w.told 0) [
-  | inl e ↦ rw (eq-eqb w.told 0 e) (unit_sound rate object w.balance (omega arith) sound)
-  | inr ne ↦ rw (ne_eqb w.told 0 ne) (idle_sound rate object w.balance sound)
+made_sound rate object w k less few sound = elim (cases_eq w.requested 0) [
+  | inl e ↦ rw (eq-eqb w.requested 0 e) (unit_sound rate object w.balance (omega arith) sound)
+  | inr ne ↦ rw (ne_eqb w.requested 0 ne) (idle_sound rate object w.balance sound)
 ]
 
-pub made_within : (rate : ℕ) (w : Spending) → IsTold w.asked w.told w.idled
+pub made_within : (rate : ℕ) (w : Spending) → IsRequested w.asked w.requested w.idled
     → made_of w < due_of rate w → w.balance.paid ≤ rate * w.asked
     → (with_made w).balance.paid ≤ rate * w.asked
-made_within rate w k less low = elim (cases_eq w.told 0) [
-  | inl e ↦ rw (eq-eqb w.told 0 e) (omega arith)
-  | inr ne ↦ rw (ne_eqb w.told 0 ne) low
+made_within rate w k less low = elim (cases_eq w.requested 0) [
+  | inl e ↦ rw (eq-eqb w.requested 0 e) (omega arith)
+  | inr ne ↦ rw (ne_eqb w.requested 0 ne) low
 ]
 
 -- an allocation that has paid all makes no unit more
-pub full_is_full : (rate : ℕ) (w : Spending) → IsTold w.asked w.told w.idled
+pub full_is_full : (rate : ℕ) (w : Spending) → IsRequested w.asked w.requested w.idled
     → (w.reserved ≡ 0 → ⊥) → w.reserved ≡ w.asked → w.balance.paid ≡ rate * w.asked
     → made_of w < due_of rate w → ⊥
 full_is_full rate w k some is paid less = elim k.apart [

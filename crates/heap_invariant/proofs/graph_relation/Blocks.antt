@@ -7,12 +7,11 @@ use Rattle.block_store.specs.declared.Name.{Name}
 use Rattle.block_store.specs.declared.Value.{Value}
 use Rattle.block_store.specs.declared.Value.TheVariants.{Nil}
 use Rattle.never_heap.specs.Graphs.{Object, same_name, field_of, set_field}
-use Rattle.never_heap.proofs.GraphMoves.{get_or_set}
-use Rattle.never_heap.proofs.NameLists.{one_name}
+use Rattle.never_heap.proofs.Lemmas.{get_or_set, one_name}
 use Rattle.object_lists.specs.Parts.{Part, Link, Field, Blank}
 use Rattle.heap_invariant.specs.graph_relation.Layouts.{layout_blocks, layout_part, object_blocks, object_part, object_slot}
 use Rattle.heap_invariant.specs.graph_relation.Words.{Agrees, BlockWords, value_word, part_word, kind_word, with_payload}
-use Rattle.heap_invariant.specs.graph_relation.Shown.{heads, BlockShows, Written, Numbered}
+use Rattle.heap_invariant.specs.graph_relation.GraphOfWords.{heads, BlockShows, Written, Numbered}
 use Rattle.heap_invariant.proofs.graph_relation.Names.{apart, true≢false}
 use Rattle.heap_invariant.proofs.graph_relation.ObjectLayouts.{object_layout}
 
@@ -68,7 +67,7 @@ module _ (W : Width) (head : Name → ℕ) (w : BlockWords) (a : Name) (object :
   part_set : (o j : ℕ) → object_part W (set_field object i v) o j ≡ object_part W object o j
   part_set o j = ap (λ n. layout_part W object.kind n o j) (length-set object.fields i v)
 
-  -- a block of the object itself after the store, where no other ordinal stands at the field's
+  -- a block of the object itself after the store, where no other ordinal is at the field's
   -- block
   own_block : (o : ℕ) → (block_of (object_slot W object i).0 ≡ block_of o
       → (object_slot W object i).0 ≡ o) → BlockShows W head w a object block_of o

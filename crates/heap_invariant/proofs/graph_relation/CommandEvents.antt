@@ -14,13 +14,13 @@ use Rattle.block_store.specs.declared.Value.TheVariants.{Nil, Int, Ref}
 use Rattle.block_store.specs.Configs.{IsInBounds}
 use Rattle.block_store.specs.Payloads.{target}
 use Rattle.block_store.specs.Shapes.{shape_of}
-use Rattle.block_store.proofs.PayloadWords.{target-reference, target-number, target-nil}
+use Rattle.block_store.proofs.Lemmas.{target-nil, target-number, target-reference}
 use Rattle.never_heap.specs.Graphs.{Graph, Object, ObjectKind, Record, Array, start_graph, object_of, field_of, register_of, same_name, set_field, with_register, with_field}
-use Rattle.never_heap.proofs.NameLists.{one_name}
+use Rattle.never_heap.proofs.Lemmas.{one_name}
 use Rattle.object_lists.specs.Parts.{Part, Link, Field}
 use Rattle.heap_invariant.specs.graph_relation.Layouts.{layout_blocks, layout_part, object_blocks, object_part, object_slot, kind_shape, shape_part}
 use Rattle.heap_invariant.specs.graph_relation.Words.{value_word, part_word, with_payload}
-use Rattle.heap_invariant.specs.graph_relation.Shown.{IsValueOf, heads, Shows, every_name}
+use Rattle.heap_invariant.specs.graph_relation.GraphOfWords.{IsValueOf, heads, Shows, every_name}
 use Rattle.array_trees.specs.InitialHeaps.{opening_blocks}
 use Rattle.heap_invariant.specs.graph_relation.InitialHeaps.{opening_at}
 use Rattle.heap_invariant.specs.graph_relation.Events.{ObjectLoad, ValueLoad, Loading, unloaded, late, value_in, with_load, is_pending, pending_registers, IsPrompt, GraphState, Event, object_at, value_at, expected_at, register_word_in, apply, HasObject, HasValue, HasExpected, IsAtField, IsAtLink, IsConstant, Guard, run, Guarded, ObjectIs, ValueIs, LoadIs, Follows, opening_state}

@@ -9,19 +9,17 @@ use Rattle.block_store.specs.declared.Value.{Value}
 use Rattle.block_store.specs.declared.Value.TheVariants.{Ref}
 use Rattle.block_store.specs.Payloads.{reference_word}
 use Rattle.never_heap.specs.Graphs.{Graph, ObjectKind, object_of, has_name, same_name, with_register, with_field, with_object, next_name}
-use Rattle.never_heap.proofs.GraphMoves.{has_name_with_register}
-use Rattle.never_heap.proofs.FieldStores.{has_name_with_field, has_name_with_object}
-use Rattle.never_heap.proofs.NameLists.{same_itself}
+use Rattle.never_heap.proofs.Lemmas.{has_name_with_field, has_name_with_object, has_name_with_register, same_itself}
 use Rattle.heap_invariant.specs.graph_relation.Layouts.{object_slot}
 use Rattle.heap_invariant.specs.graph_relation.Words.{Agrees, BlockWords, value_word, with_payload}
-use Rattle.heap_invariant.specs.graph_relation.Shown.{IsValueOf, heads, Shows, every_name}
+use Rattle.heap_invariant.specs.graph_relation.GraphOfWords.{IsValueOf, heads, Shows, every_name}
 use Rattle.heap_invariant.specs.graph_relation.Made.{new_object, with_blocks, and_name, IsMade}
 use Rattle.heap_invariant.proofs.graph_relation.Stores.{register_store, register_pending, field_store, same_names, words_change}
 use Rattle.heap_invariant.proofs.graph_relation.Publish.{publish, fresh_head}
 
 module _ (W : Width) (n m : ℕ) (K : Name → Type 0) (g : Graph) (at : Name → ℕ → ℕ)
     (w : BlockWords) (pending : ℕ → ℕ → Bool) (shows : Shows W n m K g at w pending) where
-  -- Only words behind block m change.
+  -- Only words after block m change.
   pub words_behind : (u : BlockWords) → registers_end W n ≤ m
       → ((x : ℕ) → 0 < x → x ≤ m → Agrees W w u x) → Shows W n m K g at u pending
   words_behind u room same =

@@ -6,12 +6,12 @@ use Rattle.block_store.specs.declared.Shape.{Shape}
 use Rattle.block_store.specs.declared.Value.TheVariants.{Ref}
 use Rattle.block_store.specs.WideOwners.{wide_of}
 use Rattle.block_store.specs.Payloads.{payload_of, target}
-use Rattle.block_store.proofs.PayloadWords.{target-reference}
+use Rattle.block_store.proofs.Lemmas.{target-reference}
 use Rattle.never_heap.specs.Graphs.{Graph, object_of, field_of, register_of}
 use Rattle.never_heap.specs.Steps.{same_value}
 use Rattle.heap_invariant.specs.graph_relation.Layouts.{kind_shape}
 use Rattle.heap_invariant.specs.graph_relation.Words.{value_word}
-use Rattle.heap_invariant.specs.graph_relation.Shown.{IsValueOf, heads}
+use Rattle.heap_invariant.specs.graph_relation.GraphOfWords.{IsValueOf, heads}
 use Rattle.heap_invariant.specs.graph_relation.Read.{value_payload}
 use Rattle.heap_invariant.specs.graph_relation.Events.{ObjectLoad, ValueLoad, GraphState, object_at, expected_at, pending_registers, HasExpected, IsAtField, ObjectIs, ValueIs, Follows}
 use Rattle.heap_invariant.proofs.graph_relation.ObjectLayouts.{object_layout}

@@ -5,14 +5,13 @@ use Rattle.block_store.specs.declared.Width.{Width}
 use Rattle.block_store.specs.declared.Name.{Name}
 use Rattle.block_store.specs.declared.Value.{Value}
 use Rattle.block_store.specs.declared.Value.TheVariants.{Nil, Int, Ref}
-use Rattle.block_store.proofs.WideWords.{one_wide}
+use Rattle.block_store.proofs.Lemmas.{one_wide}
 use Rattle.never_heap.specs.Graphs.{Object, same_name}
-use Rattle.never_heap.proofs.GraphMoves.{same_from}
-use Rattle.never_heap.proofs.NameLists.{same_itself, one_name}
+use Rattle.never_heap.proofs.Lemmas.{one_name, same_from, same_itself}
 use Rattle.never_heap.specs.Steps.{same_value}
 use Rattle.heap_invariant.specs.graph_relation.Layouts.{object_blocks}
 use Rattle.heap_invariant.specs.graph_relation.Words.{BlockWords, value_word}
-use Rattle.heap_invariant.specs.graph_relation.Shown.{IsValueOf, Written, Numbered}
+use Rattle.heap_invariant.specs.graph_relation.GraphOfWords.{IsValueOf, Written, Numbered}
 
 pub true≢false : (true ≡ false) → ⊥
 true≢false e = cc

@@ -3,7 +3,7 @@ use Rattle.std.proofs.Common.{ℕ, ◌≤◌, length, arith}
 use Rattle.block_store.specs.declared.Width.{Width}
 use Rattle.block_store.specs.declared.Width.TheVariants.{Four, Eight}
 use Rattle.block_store.specs.Widths.{payloads}
-use Rattle.block_store.proofs.Registers.{many}
+use Rattle.block_store.proofs.Lemmas.{many}
 use Rattle.object_lists.specs.Layouts.{IsLayout}
 use Rattle.object_lists.proofs.Lists.{record_layout}
 use Rattle.array_trees.specs.Trees.{leaves}

@@ -13,7 +13,7 @@ use Rattle.block_store.specs.Payloads.{reference_word}
 use Rattle.block_store.specs.Registers.{root_block, register_block, register_slot, registers_end, register_ordinal}
 use Rattle.block_store.specs.Shapes.{array_word}
 use Rattle.block_store.specs.Widths.{payloads, register_blocks}
-use Rattle.block_store.proofs.Registers.{root_low, thread_of, ordinal_of, arrays_small, many}
+use Rattle.block_store.proofs.Lemmas.{arrays_small, many, ordinal_of, root_low, thread_of}
 use Rattle.object_lists.specs.Parts.{Part, Link, Field, Blank, link_below}
 use Rattle.array_trees.specs.Trees.{array_blocks}
 use Rattle.array_trees.specs.Levels.{array_part, array_slot}
@@ -22,10 +22,10 @@ use Rattle.array_trees.proofs.Arrays.{tree_layout}
 use Rattle.array_trees.proofs.Counts.{few_shared}
 use Rattle.array_trees.proofs.RegisterArrays.{array_of, slot_of, root_of}
 use Rattle.never_heap.specs.Graphs.{Object, Array, shared_name, start_graph, object_of, field_of, register_of, has_name}
-use Rattle.never_heap.proofs.StartGraph.{threads_of_start, name_of_start, object_of_start, has_shared, register_of_start, registers_of_start}
+use Rattle.never_heap.proofs.Lemmas.{has_shared, name_of_start, object_of_start, register_of_start, registers_of_start, threads_of_start}
 use Rattle.heap_invariant.specs.graph_relation.Layouts.{object_blocks}
 use Rattle.heap_invariant.specs.graph_relation.Words.{value_word, part_word}
-use Rattle.heap_invariant.specs.graph_relation.Shown.{IsValueOf, heads, BlockShows, Shows, root_word, every_name, none_pending}
+use Rattle.heap_invariant.specs.graph_relation.GraphOfWords.{IsValueOf, heads, BlockShows, Shows, root_word, every_name, none_pending}
 use Rattle.heap_invariant.specs.graph_relation.Made.{new_object}
 use Rattle.heap_invariant.specs.graph_relation.InitialHeaps.{opening_at, shared_block, register_word, shared_word, opening_words}
 use Rattle.heap_invariant.proofs.graph_relation.Publish.{field_of_new, blocks_of_new}
@@ -52,7 +52,7 @@ module _ (c : Config) (inside : IsInBounds c) where
   ordinal_is : (e o : ℕ) → e + 1 + o - (e + 1) ≡ o
   ordinal_is e o = omega arith
 
-  -- what stands at ordinal o of the shared array
+  -- what is at ordinal o of the shared array
   shared_at : (o a d : ℕ) → o < array_blocks c.width c.shared
       → cond (leb (registers_end c.width c.threads + 1 + o) (registers_end c.width c.threads)) a
       (cond (leb (registers_end c.width c.threads + 1 + o) (opening_blocks c)) d 0) ≡ d

@@ -7,12 +7,11 @@ use Rattle.block_store.specs.declared.Width.{Width}
 use Rattle.block_store.specs.declared.Name.{Name}
 use Rattle.block_store.specs.declared.Value.TheVariants.{Nil}
 use Rattle.never_heap.specs.Graphs.{Graph, Object, ObjectKind, nils, object_of, field_of, register_of, mutator_at, same_name, with_object, next_name}
-use Rattle.never_heap.proofs.FieldStores.{object_with_object, has_name_with_object, registers_with_object}
-use Rattle.never_heap.proofs.NameLists.{same_itself, one_name, same_parts, not_next}
+use Rattle.never_heap.proofs.Lemmas.{has_name_with_object, not_next, object_with_object, one_name, registers_with_object, same_itself, same_parts}
 use Rattle.object_lists.specs.Parts.{Part, Link, Field, Blank, link_in}
 use Rattle.heap_invariant.specs.graph_relation.Layouts.{layout_blocks, layout_part, object_blocks, object_part}
 use Rattle.heap_invariant.specs.graph_relation.Words.{BlockWords, value_word, part_word, kind_word}
-use Rattle.heap_invariant.specs.graph_relation.Shown.{IsValueOf, heads, BlockShows, Written, Shows}
+use Rattle.heap_invariant.specs.graph_relation.GraphOfWords.{IsValueOf, heads, BlockShows, Written, Shows}
 use Rattle.heap_invariant.specs.graph_relation.Made.{new_object, with_blocks, and_name, IsMade, link_word, IsWritten}
 use Rattle.heap_invariant.proofs.graph_relation.Names.{value_stays, word_stays}
 use Rattle.heap_invariant.proofs.graph_relation.RegisterBlocks.{registers_renamed, registers_stay}
@@ -28,7 +27,7 @@ pub blocks_of_new : (W : Width) (k : ObjectKind) (n : ℕ)
     → object_blocks W (new_object k n) ≡ layout_blocks W k n
 blocks_of_new W k n = ap (layout_blocks W k) (length-replicate n Nil)
 
--- its words are the same wherever the other objects stand
+-- its words are the same wherever the other objects are
 pub part_of_new : (head other : Name → ℕ) (block_of : ℕ → ℕ) (k : ObjectKind) (n : ℕ) (p : Part)
     → part_word head block_of (field_of (new_object k n)) p
     ≡ part_word other block_of (field_of (new_object k n)) p

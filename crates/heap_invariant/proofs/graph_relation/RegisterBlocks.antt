@@ -8,9 +8,9 @@ use Rattle.block_store.specs.declared.TheConstants.{REGISTERS}
 use Rattle.block_store.specs.declared.Width.{Width}
 use Rattle.block_store.specs.Widths.{payloads}
 use Rattle.block_store.specs.Registers.{root_block, register_block, register_slot, registers_end}
-use Rattle.block_store.proofs.Registers.{one_register, not_root, register_low, register_some, slot_low, root_low, root_some, arrays_small}
+use Rattle.block_store.proofs.Lemmas.{arrays_small, not_root, one_register, register_low, register_some, root_low, root_some, slot_low}
 use Rattle.heap_invariant.specs.graph_relation.Words.{BlockWords, value_word, with_payload}
-use Rattle.heap_invariant.specs.graph_relation.Shown.{IsValueOf, RegisterShows, Registers}
+use Rattle.heap_invariant.specs.graph_relation.GraphOfWords.{IsValueOf, RegisterShows, Registers}
 use Rattle.heap_invariant.proofs.graph_relation.Names.{value_stays, word_stays, true≢false}
 use Rattle.heap_invariant.proofs.graph_relation.Blocks.{payload_other, payload_here}
 

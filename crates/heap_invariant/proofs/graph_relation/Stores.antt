@@ -3,7 +3,7 @@
 use Rattle.std.proofs.Common.{◌≡◌, ℕ, ◌<◌, ◌≤◌, inl, inr, Bool, true, false, cond, ◌&&◌, eqb, length, set, get_or, refl, sym, ap, ◌∙◌, subst, arith, eq-eqb, ne_eqb}
 use Rattle.std.proofs.lemmas.Bool.{cases_eq, cases_Bool}
 use Rattle.std.proofs.lemmas.List.{length-set}
-use Rattle.block_store.proofs.Registers.{register_low}
+use Rattle.block_store.proofs.Lemmas.{register_low}
 use Rattle.block_store.specs.Registers.{register_block, register_slot, registers_end}
 use Rattle.block_store.specs.Widths.{payloads}
 use Rattle.block_store.specs.declared.TheConstants.{REGISTERS}
@@ -12,12 +12,10 @@ use Rattle.block_store.specs.declared.Name.{Name}
 use Rattle.block_store.specs.declared.Value.{Value}
 use Rattle.block_store.specs.declared.Value.TheVariants.{Nil}
 use Rattle.never_heap.specs.Graphs.{Graph, Object, object_of, field_of, register_of, mutator_at, same_name, with_register, with_field, set_field}
-use Rattle.never_heap.proofs.GraphMoves.{get_or_set, object_with_register, has_name_with_register, register_with_register, sixteen_with_register}
-use Rattle.never_heap.proofs.FieldStores.{object_with_field, has_name_with_field, registers_with_field, threads_with_field}
-use Rattle.never_heap.proofs.NameLists.{one_name}
+use Rattle.never_heap.proofs.Lemmas.{get_or_set, has_name_with_field, has_name_with_register, object_with_field, object_with_register, one_name, register_with_register, registers_with_field, sixteen_with_register, threads_with_field}
 use Rattle.heap_invariant.specs.graph_relation.Layouts.{layout_blocks, object_blocks, object_slot}
 use Rattle.heap_invariant.specs.graph_relation.Words.{Agrees, BlockWords, value_word, with_payload}
-use Rattle.heap_invariant.specs.graph_relation.Shown.{IsValueOf, heads, Placed, Numbered, Closed, IsSized, Shows}
+use Rattle.heap_invariant.specs.graph_relation.GraphOfWords.{IsValueOf, heads, Placed, Numbered, Closed, IsSized, Shows}
 use Rattle.heap_invariant.proofs.graph_relation.Names.{true≢false, value_stays}
 use Rattle.heap_invariant.proofs.graph_relation.Blocks.{other_block, payload_other, field_written, others_written}
 use Rattle.heap_invariant.proofs.graph_relation.RegisterBlocks.{registers_stored, registers_stay, registers_fewer, registers_renamed}
@@ -84,7 +82,7 @@ module _ (W : Width) (n m : ℕ) (K : Name → Type 0) (g : Graph) (at : Name �
         (λ x j some xl jl. refl) (λ t r tn rl e. (more t r tn rl e, refl)) shows.registers;
   }
 
-  -- There is room behind the last block.
+  -- There is room after the last block.
   pub later_last : (l : ℕ) → m ≤ l → Shows W n l K g at w pending
   later_last l more = record {
     sized = shows.sized;

@@ -13,17 +13,15 @@ use Rattle.block_store.specs.declared.Shape.TheVariants as shapes
 use Rattle.block_store.specs.WideOwners.{wide_of}
 use Rattle.block_store.specs.Payloads.{payload_of, reference_word}
 use Rattle.block_store.specs.Shapes.{shape_of}
-use Rattle.block_store.proofs.WideWords.{read_wide}
-use Rattle.block_store.proofs.PayloadWords.{payload-code, one_reference, one_number, number-reference, number_positive, reference_positive}
-use Rattle.block_store.proofs.ShapeWords.{shape-code}
+use Rattle.block_store.proofs.Lemmas.{number-reference, number_positive, one_number, one_reference, payload-code, read_wide, reference_positive, shape-code}
 use Rattle.never_heap.specs.Graphs.{Graph, ObjectKind, Record, Array, object_of, field_of, register_of}
 use Rattle.never_heap.specs.Steps.{same_value}
-use Rattle.never_heap.proofs.NameLists.{one_name}
+use Rattle.never_heap.proofs.Lemmas.{one_name}
 use Rattle.object_lists.specs.Parts.{Link}
 use Rattle.object_lists.specs.Layouts.{IsWay}
 use Rattle.heap_invariant.specs.graph_relation.Layouts.{kind_shape, object_blocks, object_part, object_slot}
 use Rattle.heap_invariant.specs.graph_relation.Words.{BlockWords, value_word, part_word, kind_word}
-use Rattle.heap_invariant.specs.graph_relation.Shown.{IsValueOf, heads, Shows}
+use Rattle.heap_invariant.specs.graph_relation.GraphOfWords.{IsValueOf, heads, Shows}
 use Rattle.heap_invariant.specs.graph_relation.Read.{value_payload}
 use Rattle.heap_invariant.proofs.graph_relation.ObjectLayouts.{object_layout, few_fields}
 use Rattle.heap_invariant.proofs.graph_relation.Names.{apart, same_as_itself, values_one}

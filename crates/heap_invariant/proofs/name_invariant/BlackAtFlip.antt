@@ -10,12 +10,13 @@ use Rattle.block_store.specs.Colours.{is_free, is_grey, black_word}
 use Rattle.block_store.specs.Payloads.{target, reference_word}
 use Rattle.block_store.specs.Registers.{root_block, register_block, register_slot, register_thread, register_ordinal}
 use Rattle.block_store.specs.Widths.{payloads, register_blocks}
-use Rattle.block_store.proofs.Registers.{ordinal_low, thread_low, block_is, arrays_small, wide, register_low, register_some, slot_low}
+use Rattle.block_store.proofs.Lemmas.{arrays_small, ordinal_low, register_low, register_some, slot_low, thread_low, wide}
+use Rattle.block_store.proofs.Registers.{block_is}
 use Rattle.never_heap.specs.Graphs.{Graph, object_of, field_of, register_of}
-use Rattle.never_heap.proofs.ReachableNames.{field_there}
+use Rattle.never_heap.proofs.Lemmas.{field_there}
 use Rattle.heap_invariant.specs.graph_relation.Layouts.{object_blocks, object_slot}
 use Rattle.heap_invariant.specs.graph_relation.Words.{BlockWords, value_word}
-use Rattle.heap_invariant.specs.graph_relation.Shown.{IsValueOf, heads, Closed, Shows}
+use Rattle.heap_invariant.specs.graph_relation.GraphOfWords.{IsValueOf, heads, Closed, Shows}
 use Rattle.heap_invariant.proofs.graph_relation.ObjectLayouts.{object_layout}
 use Rattle.heap_invariant.proofs.graph_relation.WordReads.{field_read, link_read, register_read}
 use Rattle.heap_invariant.specs.name_invariant.Colouring.{IfRefers, IsDark, IsColoured, IsRegisterBlock, NotRoot, Belongs, IsTricolour, SweepColours}

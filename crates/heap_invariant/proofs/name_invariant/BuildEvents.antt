@@ -12,8 +12,7 @@ use Rattle.heap_invariant.specs.graph_relation.Made.{IsWritten}
 use Rattle.heap_invariant.specs.graph_relation.Words.{Agrees, BlockWords, with_payload}
 use Rattle.heap_invariant.proofs.graph_relation.Blocks.{other_block}
 use Rattle.block_store.specs.Counts.{changed}
-use Rattle.block_store.proofs.Functions.{changed_both}
-use Rattle.block_store.proofs.ColourWords.{black_solid}
+use Rattle.block_store.proofs.Lemmas.{black_solid, changed_both}
 use Rattle.heap_invariant.specs.name_invariant.Building.{Build, build_blocks, build_owner, build_shape, build_payload, with_owner, with_shape, IsBegun, IsBuild}
 use Rattle.heap_invariant.specs.name_invariant.Events.{collected}
 use Rattle.heap_invariant.proofs.name_invariant.Colours.{differ, changed_here, changed_else}
@@ -173,7 +172,7 @@ module _ (W : Width) (n m cycle : ℕ) (colour : ℕ → ℕ) (w : BlockWords) (
           ];
         }))
 
-    -- Its colour is written. No other ordinal stands at its block.
+    -- Its colour is written. No other ordinal is at its block.
     pub writes_colour : b.step ≡ payloads W + 2 → ((p : ℕ) → p < o → b.held o ≡ b.held p → ⊥)
         → IsBuild W n m cycle (changed colour (b.held o) (black_word cycle)) w
         (record b { left = o; step = 0 })

@@ -6,14 +6,12 @@ use Rattle.block_store.specs.declared.Name.{Name}
 use Rattle.block_store.specs.declared.Width.{Width}
 use Rattle.block_store.specs.Colours.{is_free, black_word}
 use Rattle.block_store.specs.Registers.{root_block, register_block, register_slot, registers_end}
-use Rattle.block_store.proofs.Registers.{register_low, register_some, slot_low}
+use Rattle.block_store.proofs.Lemmas.{changed_both, not_free_black, register_low, register_some, slot_low}
 use Rattle.block_store.specs.Widths.{payloads}
-use Rattle.block_store.proofs.ColourWords.{not_free_black}
-use Rattle.block_store.proofs.Functions.{changed_both}
 use Rattle.never_heap.specs.Graphs.{Graph, ObjectKind, next_name}
 use Rattle.heap_invariant.specs.graph_relation.Layouts.{layout_part}
 use Rattle.heap_invariant.specs.graph_relation.Words.{Agrees, BlockWords, with_payload}
-use Rattle.heap_invariant.specs.graph_relation.Shown.{Shows}
+use Rattle.heap_invariant.specs.graph_relation.GraphOfWords.{Shows}
 use Rattle.heap_invariant.specs.graph_relation.Events.{pending_registers}
 use Rattle.heap_invariant.proofs.graph_relation.Blocks.{other_block}
 use Rattle.heap_invariant.proofs.graph_relation.ObjectLayouts.{layout_laws}
@@ -24,12 +22,12 @@ use Rattle.block_store.specs.Counts.{changed}
 use Rattle.heap_invariant.specs.name_invariant.States.{KeptState, sizes, Known, Kept}
 use Rattle.heap_invariant.specs.name_invariant.Events.{apply, build_at, held_at, reserved, collected, with_words, with_build, IsBuilding, HasAll, IsFreeBlock, Guard}
 use Rattle.heap_invariant.specs.name_invariant.Events.KeptEvent.{Reserve, Collect, WriteOwner, WriteShape, WritePayload, WriteColour}
-use Rattle.heap_invariant.specs.name_invariant.Kept.{IsKept}
+use Rattle.heap_invariant.specs.name_invariant.Invariant.{Invariant}
 use Rattle.heap_invariant.proofs.name_invariant.Colours.{differ, changed_here, changed_else, dark_solid, painted_at, painted_built, blackened}
 use Rattle.heap_invariant.proofs.name_invariant.HeldBlocks.{some_case, build_rewritten, build_recoloured}
 use Rattle.heap_invariant.proofs.name_invariant.BuildEvents.{other_owner, other_shape, begins, collects, in_hand, writes_owner, writes_shape, writes_payload, writes_colour}
 use Rattle.heap_invariant.proofs.name_invariant.WordTargets.{refers_same, refers_link, behind_roots}
-use Rattle.heap_invariant.proofs.name_invariant.Older.{older_words}
+use Rattle.heap_invariant.proofs.name_invariant.PendingRegisters.{older_words}
 use Rattle.heap_invariant.proofs.name_invariant.KeptStates.{shown, build_of, title_of, once_not_held}
 
 -- other words at blocks that are not dark
@@ -47,7 +45,7 @@ sweep_same W n cycle K blocks at colour payload other shaded same k = record {
       (same x j d jl) (k.darks x j d jl);
 }
 
-module _ (c : Config) (s : KeptState) (k : IsKept c s) where
+module _ (c : Config) (s : KeptState) (k : Invariant c s) where
   abbrev g : Graph
   g = s.seen.graph
 
@@ -113,7 +111,7 @@ module _ (c : Config) (s : KeptState) (k : IsKept c s) where
       → (s.sweep ≡ true → SweepColours c.width c.threads s.cycle (Kept s) (sizes c s) s.at s.colour
       u.payload
       s.shaded)
-      → IsKept c (with_build (with_words s u) t b)
+      → Invariant c (with_build (with_words s u) t b)
   rebuilt t b u title new others more shows registers sweeping = record {
     ordered = k.ordered;
     follows = record { shows = shows; loads = k.follows.loads };
@@ -137,7 +135,7 @@ module _ (c : Config) (s : KeptState) (k : IsKept c s) where
   }
 
   pub reserves : (t : ℕ) (kind : ObjectKind) (size : ℕ) → Guard c s (Reserve t kind size)
-      → IsKept c (apply c s (Reserve t kind size))
+      → Invariant c (apply c s (Reserve t kind size))
   reserves t kind size q = rebuilt t (reserved c s t kind size) w refl
       (begins c.width c.threads c.blocks s.cycle s.colour w (next_name g t) kind size q.3 q.2 q.4)
       (λ v d vn _ is. build_of c s k v d vn is)
@@ -159,7 +157,7 @@ module _ (c : Config) (s : KeptState) (k : IsKept c s) where
     same_build d is = let z : Some d ≡ Some own = sym is ∙ building.1 in cc
 
     pub collects_block : (x : ℕ) → own.collected < build_blocks c.width own → IsFreeBlock c s x
-        → IsKept c (apply c s (Collect t x))
+        → Invariant c (apply c s (Collect t x))
     collects_block x more free = rebuilt t (collected own x) w title
         (collects c.width c.threads c.blocks s.cycle s.colour w own mine x more free.0 free.1
         free.2)
@@ -184,8 +182,8 @@ module _ (c : Config) (s : KeptState) (k : IsKept c s) where
       abbrev done : Build
       done = record (build_at s t) { left = o; step = 0 }
 
-      hand_free : is_free (s.colour (held_at s t o)) ≡ true
-      hand_free = in_hand c.width c.threads c.blocks s.cycle s.colour w own mine o next all
+      private_is_free : is_free (s.colour (held_at s t o)) ≡ true
+      private_is_free = in_hand c.width c.threads c.blocks s.cycle s.colour w own mine o next all
 
       hand_held : o < own.collected
       hand_held = omega (arith, mine.few_left)
@@ -194,18 +192,18 @@ module _ (c : Config) (s : KeptState) (k : IsKept c s) where
       hand_behind = mine.behind o hand_held
 
       hand_not_kept : (a : Name) (p : ℕ) → Kept s a → p < sizes c s a → held_at s t o ≡ s.at a p → ⊥
-      hand_not_kept a p ka pl e = differ _ (subst (λ z. is_free (s.colour z) ≡ true) e hand_free)
+      hand_not_kept a p ka pl e = differ _ (subst (λ z. is_free (s.colour z) ≡ true) e private_is_free)
           (k.painted.solid a p ka pl)
 
       others_away : (v : ℕ) (d : Build) → v < c.threads → (t ≡ v → ⊥) → s.builds v ≡ Some d
           → NotHeld d (held_at s t o)
-      others_away v d vn ne is = once_not_held c s k t o (held_at s t o) hand_free once v d vn ne is
+      others_away v d vn ne is = once_not_held c s k t o (held_at s t o) private_is_free once v d vn ne is
 
       -- One word of the block is written.
       word_written : (u : BlockWords) (words : ℕ)
           → ((y : ℕ) → (held_at s t o ≡ y → ⊥) → Agrees c.width w u y)
           → IsBuild c.width c.threads c.blocks s.cycle s.colour u (record own { step = words })
-          → IsKept c (with_build (with_words s u) t (record own { step = words }))
+          → Invariant c (with_build (with_words s u) t (record own { step = words }))
       word_written u words same new = rebuilt t (record own { step = words }) u title new
           (λ v d vn ne is. build_rewritten c.width c.threads c.blocks s.cycle s.colour w d
           (build_of c s k v d vn is) u
@@ -225,20 +223,20 @@ module _ (c : Config) (s : KeptState) (k : IsKept c s) where
           (λ sweep. sweep_same c.width c.threads s.cycle (Kept s) (sizes c s) s.at s.colour
           w.payload u.payload
           s.shaded
-          (λ x j d jl. (same x (λ e. differ _ (subst (λ z. is_free (s.colour z) ≡ true) e hand_free)
+          (λ x j d jl. (same x (λ e. differ _ (subst (λ z. is_free (s.colour z) ≡ true) e private_is_free)
           (dark_solid s.cycle _ d))).payloads j jl) (k.sweeping sweep))
 
-      pub owner_written : own.step ≡ 0 → IsKept c (apply c s (WriteOwner t o))
+      pub owner_written : own.step ≡ 0 → Invariant c (apply c s (WriteOwner t o))
       owner_written step = word_written (with_owner w (held_at s t o) (build_owner own o)) 1
           (λ y ne. other_owner c.width w (held_at s t o) (build_owner own o) y ne)
           (writes_owner c.width c.threads c.blocks s.cycle s.colour w own mine o next all step)
 
-      pub shape_written : own.step ≡ 1 → IsKept c (apply c s (WriteShape t o))
+      pub shape_written : own.step ≡ 1 → Invariant c (apply c s (WriteShape t o))
       shape_written step = word_written (with_shape w (held_at s t o) (build_shape own)) 2
           (λ y ne. other_shape c.width w (held_at s t o) (build_shape own) y ne)
           (writes_shape c.width c.threads c.blocks s.cycle s.colour w own mine o next all step)
 
-      pub payload_written : (j : ℕ) → own.step ≡ j + 2 → IsKept c (apply c s (WritePayload t o j))
+      pub payload_written : (j : ℕ) → own.step ≡ j + 2 → Invariant c (apply c s (WritePayload t o j))
       payload_written j step = word_written
           (with_payload w (held_at s t o) j (build_payload c.width own o j)) (j + 3)
           (λ y ne. other_block c.width w (held_at s t o) j (build_payload c.width own o j) y ne)
@@ -261,7 +259,7 @@ module _ (c : Config) (s : KeptState) (k : IsKept c s) where
                 (mine.behind p (omega (arith, on.2))),
           ))))
 
-      pub colour_written : own.step ≡ payloads c.width + 2 → IsKept c (apply c s (WriteColour t o))
+      pub colour_written : own.step ≡ payloads c.width + 2 → Invariant c (apply c s (WriteColour t o))
       colour_written step =
           let built : IsBuilt c.width c.threads (changed s.builds t (Some done)) (held_at s t o) =
           record {
@@ -322,6 +320,6 @@ module _ (c : Config) (s : KeptState) (k : IsKept c s) where
             });
             sweeping = λ sweep. blackened c.width c.threads s.cycle (Kept s) (sizes c s) s.at
                 s.colour w.payload
-                s.shaded (k.sweeping sweep) (held_at s t o) hand_free
+                s.shaded (k.sweeping sweep) (held_at s t o) private_is_free
                 (λ j jl. refers_own j step jl);
           }

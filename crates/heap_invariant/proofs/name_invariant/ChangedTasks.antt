@@ -2,7 +2,7 @@
 use Rattle.std.proofs.Common.{◌≡◌, ℕ, Option, List, refl, ◌∙◌}
 use Rattle.block_store.specs.Counts.{changed}
 use Rattle.block_store.specs.Heaps.{Heap}
-use Rattle.block_store.proofs.Functions.{changed_map, changed_self}
+use Rattle.block_store.proofs.Lemmas.{changed_map, changed_self}
 use Rattle.never_heap.specs.Graphs.{Graph}
 use Rattle.never_heap.specs.Histories.{HistoryItem}
 use Rattle.heap_invariant.specs.graph_relation.Events.{Loading}

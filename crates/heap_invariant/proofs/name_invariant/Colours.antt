@@ -7,12 +7,10 @@ use Rattle.block_store.specs.Colours.{is_free, is_grey, black_word, white_word}
 use Rattle.block_store.specs.Payloads.{target}
 use Rattle.block_store.specs.Registers.{root_block}
 use Rattle.block_store.specs.Widths.{payloads}
-use Rattle.block_store.proofs.ColourWords.{free_grey, black_grey, white_grey, white_black, black_solid}
-use Rattle.block_store.proofs.Registers.{one_root}
-use Rattle.block_store.proofs.Functions.{changed_both}
+use Rattle.block_store.proofs.Lemmas.{black_grey, black_solid, changed_both, free_grey, one_root, white_black, white_grey}
 use Rattle.heap_invariant.specs.name_invariant.Colouring.{IfRefers, IsDark, IsColoured, IsRegisterBlock, NotRoot, IsBlockOf, Belongs, IsShadedRoot, SweepColours}
 use Rattle.block_store.specs.Counts.{changed}
-use Rattle.heap_invariant.specs.name_invariant.Kept.{IsPainted}
+use Rattle.heap_invariant.specs.name_invariant.Invariant.{IsPainted}
 use Rattle.heap_invariant.proofs.name_invariant.WordTargets.{root_in}
 
 pub differ : (b : Bool) → b ≡ true → b ≡ false → ⊥

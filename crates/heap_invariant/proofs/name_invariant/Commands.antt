@@ -5,15 +5,12 @@ use Rattle.block_store.specs.declared.Name.{Name}
 use Rattle.block_store.specs.declared.TheConstants.{REGISTERS}
 use Rattle.block_store.specs.declared.Value.{Value}
 use Rattle.block_store.specs.Registers.{register_block}
-use Rattle.block_store.proofs.Registers.{register_low, register_some}
+use Rattle.block_store.proofs.Lemmas.{register_low, register_some}
 use Rattle.never_heap.specs.declared.Entry.{Entry}
 use Rattle.never_heap.specs.Graphs.{Graph, mutator_at, object_of, field_of, register_of, has_name, count_of, next_name, with_register, with_field, start_graph}
 use Rattle.never_heap.specs.Histories.{HistoryItem, Did, IsAnswered, after, starts_in}
 use Rattle.never_heap.specs.Reach.{reachable}
-use Rattle.never_heap.proofs.CycleGrowth.{graph_at_more}
-use Rattle.never_heap.proofs.HistoryGrowth.{replay_more, legal_history_more, starts_append}
-use Rattle.never_heap.proofs.GraphMoves.{objects_with, object_with_register, has_name_with_register}
-use Rattle.never_heap.proofs.FieldStores.{has_name_with_field, count_with_field, threads_with_field}
+use Rattle.never_heap.proofs.Lemmas.{count_with_field, graph_at_more, has_name_with_field, has_name_with_register, legal_history_more, object_with_register, objects_with, replay_more, starts_append, threads_with_field}
 use Rattle.heap_invariant.specs.graph_relation.Layouts.{object_blocks}
 use Rattle.heap_invariant.specs.graph_relation.Words.{BlockWords, value_word, with_payload}
 use Rattle.heap_invariant.specs.graph_relation.Events as commanded
@@ -28,11 +25,11 @@ use Rattle.heap_invariant.specs.name_invariant.Colouring.{IfRefers, IsBlockOf, B
 use Rattle.heap_invariant.specs.name_invariant.States.{KeptState, sizes, Known, Kept, IsKeptBlock}
 use Rattle.heap_invariant.specs.name_invariant.Events.{apply, served, leaves_graph, Guard}
 use Rattle.heap_invariant.specs.name_invariant.Events.KeptEvent.{Serve, Decide, Answer}
-use Rattle.heap_invariant.specs.name_invariant.Kept.{IsOrdered, IsOlder, IsPainted, IsKept}
+use Rattle.heap_invariant.specs.name_invariant.Invariant.{IsOrdered, IsOlder, IsPainted, Invariant}
 use Rattle.heap_invariant.proofs.name_invariant.Colours.{differ, payload_written}
 use Rattle.heap_invariant.proofs.name_invariant.HeldBlocks.{some_case, some_more, build_rewritten}
 use Rattle.heap_invariant.proofs.name_invariant.WordTargets.{refers_value, refers_more}
-use Rattle.heap_invariant.proofs.name_invariant.Older.{older_served, older_decided, older_answered}
+use Rattle.heap_invariant.proofs.name_invariant.PendingRegisters.{older_served, older_decided, older_answered}
 use Rattle.heap_invariant.proofs.name_invariant.KeptStates.{shown, build_of, belongs_not_held, kept_black, loaded_kept, value_is}
 
 -- a decided command is the order's last item
@@ -54,7 +51,7 @@ entered c g h order cycle L entry answered is k = record {
     same : (x : ℕ) → x + 0 ≡ x
     same x = omega arith
 
-module _ (c : Config) (s : KeptState) (k : IsKept c s) where
+module _ (c : Config) (s : KeptState) (k : Invariant c s) where
   abbrev g : Graph
   g = s.seen.graph
 
@@ -207,7 +204,7 @@ module _ (c : Config) (s : KeptState) (k : IsKept c s) where
       (Known s)
       → ((u r : ℕ) → u < c.threads → r < REGISTERS → pending_registers now.loads u r ≡ true
       → IsOlder c order now.words (Kept s) s.at u r)
-      → IsKept c (record s { seen = now; order = order })
+      → Invariant c (record s { seen = now; order = order })
   moved now order m follows ordered older =
       let same : sizes c s ≡ (λ a. object_blocks c.width (object_of now.graph a)) = λ i a. sym
       (m.blocks a) i in
@@ -252,18 +249,18 @@ module _ (c : Config) (s : KeptState) (k : IsKept c s) where
   graph_left (ExchangeField t a i j) is = absurd (differ false is refl)
   graph_left (Finish t) is = refl
 
-  pub serves : (e : Event) → Guard c s (Serve e) → IsKept c (apply c s (Serve e))
+  pub serves : (e : Event) → Guard c s (Serve e) → Invariant c (apply c s (Serve e))
   serves e q = moved (served c s e) s.order (served_moves e q.0) (follows_on e q.0)
       (subst (λ (g : Graph). IsOrdered c g s.order s.cycle (Known s)) (sym (graph_left e q.1))
       k.ordered) (older_served c s k e q.0 q.1)
 
   pub decides : (e : Event) (entry : Entry) → Guard c s (Decide e entry)
-      → IsKept c (apply c s (Decide e entry))
+      → Invariant c (apply c s (Decide e entry))
   decides e entry q = moved (served c s e) (s.order ++ Did entry ∷ []) (served_moves e q.0)
       (follows_on e q.0) (entered c g (served c s e).graph s.order s.cycle
       (Known s) entry q.1.2 q.3 k.ordered) (older_decided c s k e entry q.0 q.1 q.2)
 
-  pub answers : (entry : Entry) → Guard c s (Answer entry) → IsKept c (apply c s (Answer entry))
+  pub answers : (entry : Entry) → Guard c s (Answer entry) → Invariant c (apply c s (Answer entry))
   answers entry q = moved s.seen (s.order ++ Did entry ∷ []) (still w unwritten) k.follows
       (entered c g g s.order s.cycle (Known s) entry q.0.2 (sym q.1) k.ordered)
       (older_answered c s k entry q.0)

@@ -13,8 +13,7 @@ use Rattle.block_store.specs.Registers.{root_block, registers_end}
 use Rattle.block_store.specs.Widths.{payloads}
 use Rattle.block_store.specs.declared.Shape.TheVariants as shapes
 use Rattle.block_store.specs.Shapes.{record_word, shape_of}
-use Rattle.block_store.proofs.ColourWords.{free-black, free-white}
-use Rattle.block_store.proofs.Registers.{root_first}
+use Rattle.block_store.proofs.Lemmas.{free-black, free-white, root_first}
 use Rattle.array_trees.specs.Levels.{tree_depth}
 use Rattle.array_trees.specs.InitialHeaps.{opening_blocks}
 use Rattle.array_trees.specs.Trees.{tree}
@@ -523,7 +522,7 @@ putting Eight = putting_on Eight (built Eight) refl (λ e. omega arith) refl
     (at_first Eight (state_at Eight (built Eight) (put_events Eight) 3)
     refl refl refl refl) (inl refl, refl)
 
--- the states behind each of the commands
+-- the states after each of the commands
 abbrev started : Width → KeptState
 started W = run (one_thread W) (stored W) start_events
 

@@ -8,15 +8,13 @@ use Rattle.block_store.specs.declared.TheConstants.{REGISTERS}
 use Rattle.block_store.specs.declared.Value.TheVariants.{Nil, Ref}
 use Rattle.block_store.specs.Colours.{is_free, is_grey, black_word, white_word}
 use Rattle.block_store.specs.Registers.{registers_end}
-use Rattle.block_store.proofs.ColourWords.{white-next, black-next}
+use Rattle.block_store.proofs.Lemmas.{black-next, white-next}
 use Rattle.never_heap.specs.Graphs.{Graph, Mutator, start_graph, no_mutator, mutator_at, object_of, field_of, register_of}
 use Rattle.never_heap.specs.Histories.{Started}
 use Rattle.never_heap.specs.Cycles.{graph_at}
 use Rattle.never_heap.specs.Reach.{reachable}
-use Rattle.never_heap.proofs.CycleGrowth.{graph_at_next}
-use Rattle.never_heap.proofs.HistoryGrowth.{replay_more, legal_history_more, starts_append}
-use Rattle.never_heap.proofs.ReachableNames.{reachable_closed, reachable_least}
-use Rattle.heap_invariant.specs.graph_relation.Shown.{IsValueOf, Closed}
+use Rattle.never_heap.proofs.Lemmas.{graph_at_next, legal_history_more, reachable_closed, reachable_least, replay_more, starts_append}
+use Rattle.heap_invariant.specs.graph_relation.GraphOfWords.{IsValueOf, Closed}
 use Rattle.heap_invariant.specs.graph_relation.Events.{Loading, is_pending, pending_registers}
 use Rattle.heap_invariant.proofs.graph_relation.Stores.{fewer_names}
 use Rattle.heap_invariant.specs.graph_relation.Words.{BlockWords}
@@ -25,13 +23,13 @@ use Rattle.heap_invariant.specs.name_invariant.Colouring.{IsDark, IsColoured, Is
 use Rattle.heap_invariant.specs.name_invariant.States.{KeptState, sizes, Kept, IsKnownBlock, IsKeptBlock}
 use Rattle.heap_invariant.specs.name_invariant.Events.{apply, IsAlone}
 use Rattle.heap_invariant.specs.name_invariant.Events.KeptEvent.{Flip, Start}
-use Rattle.heap_invariant.specs.name_invariant.Kept.{IsKept}
+use Rattle.heap_invariant.specs.name_invariant.Invariant.{Invariant}
 use Rattle.heap_invariant.proofs.name_invariant.Colours.{differ}
 use Rattle.heap_invariant.proofs.name_invariant.WordTargets.{root_in}
 use Rattle.heap_invariant.proofs.name_invariant.KeptStates.{shown, known_is_kept}
 use Rattle.heap_invariant.proofs.name_invariant.BlackAtFlip.{value_kept, flip_closed, flip_colours}
 
--- a reference stands in a register of a thread that there is
+-- a reference is in a register of a thread that there is
 pub register_there : (n : ℕ) (g : Graph) → length g.mutators ≡ n
     → ((t : ℕ) → t < n → length (mutator_at g t).registers ≡ REGISTERS) → (t r : ℕ) (a : Name)
     → register_of g t r ≡ Ref a → (t < n) × (r < REGISTERS)
@@ -47,7 +45,7 @@ register_there n g threads sixteen t r a e = elim (cases_lt t (length g.mutators
       ]
 ]
 
-module _ (c : Config) (s : KeptState) (k : IsKept c s) where
+module _ (c : Config) (s : KeptState) (k : Invariant c s) where
   abbrev g : Graph
   g = s.seen.graph
 
@@ -71,7 +69,7 @@ module _ (c : Config) (s : KeptState) (k : IsKept c s) where
         ∙ b.builds_it in cc
 
     pub flips : s.sweep ≡ false → ((x : ℕ) → is_grey (s.colour x) ≡ false)
-        → IsTricolour c.width s.cycle s.colour w.payload → IsKept c (apply c s Flip)
+        → IsTricolour c.width s.cycle s.colour w.payload → Invariant c (apply c s Flip)
     flips mark none tricolour = record {
       ordered = k.ordered;
       older = λ t r tn rl is. absurd (differ _ is (no_late t r tn rl));
@@ -160,7 +158,7 @@ module _ (c : Config) (s : KeptState) (k : IsKept c s) where
     started_marked sweep passed x (inr black) = absurd (passed x (black ∙ black-next s.cycle))
 
     pub starts : s.sweep ≡ true → ((x : ℕ) → s.colour x ≢ white_word s.cycle)
-        → ((t : ℕ) → t < c.threads → s.shaded t ≡ true) → IsKept c (apply c s Start)
+        → ((t : ℕ) → t < c.threads → s.shaded t ≡ true) → Invariant c (apply c s Start)
     starts sweep passed shaded = record {
       ordered = record {
         legal = legal_history_more c s.order Started k.ordered.legal tt;

@@ -7,13 +7,11 @@ use Rattle.block_store.specs.declared.Value.{Value}
 use Rattle.block_store.specs.declared.Width.{Width}
 use Rattle.block_store.specs.Colours.{is_free, is_grey, black_word}
 use Rattle.block_store.specs.Registers.{root_block}
-use Rattle.block_store.proofs.WideWords.{one_wide}
-use Rattle.block_store.proofs.Functions.{changed_both}
-use Rattle.block_store.proofs.ColourWords.{black_grey, black_solid}
+use Rattle.block_store.proofs.Lemmas.{black_grey, black_solid, changed_both, one_wide}
 use Rattle.never_heap.specs.Graphs.{Graph, next_name, same_name}
-use Rattle.never_heap.proofs.NameLists.{not_next}
+use Rattle.never_heap.proofs.Lemmas.{not_next}
 use Rattle.heap_invariant.specs.graph_relation.Words.{BlockWords, value_word}
-use Rattle.heap_invariant.specs.graph_relation.Shown.{IsValueOf, heads, Shows}
+use Rattle.heap_invariant.specs.graph_relation.GraphOfWords.{IsValueOf, heads, Shows}
 use Rattle.heap_invariant.specs.graph_relation.Events.{pending_registers, value_at, HasValue, ValueIs}
 use Rattle.heap_invariant.proofs.graph_relation.Names.{is_same}
 use Rattle.heap_invariant.specs.name_invariant.Building.{Build, build_blocks, IsBuild, IsBuilt, NotHeld, IsHeldOnce}
@@ -21,7 +19,7 @@ use Rattle.heap_invariant.specs.name_invariant.Colouring.{IfRefers, IsDark, IsCo
 use Rattle.block_store.specs.Counts.{changed}
 use Rattle.heap_invariant.specs.name_invariant.States.{KeptState, sizes, Known, Kept, IsKnownBlock, IsKeptBlock}
 use Rattle.heap_invariant.specs.name_invariant.Events.{with_colour, loaded_word}
-use Rattle.heap_invariant.specs.name_invariant.Kept.{IsKept}
+use Rattle.heap_invariant.specs.name_invariant.Invariant.{Invariant}
 use Rattle.heap_invariant.proofs.name_invariant.Colours.{differ, painted_at}
 use Rattle.heap_invariant.proofs.name_invariant.HeldBlocks.{some_is, some_case, held_is, not_held_array, build_recoloured}
 use Rattle.heap_invariant.proofs.name_invariant.WordTargets.{refers_same, kept_value_refers, block_behind, behind_roots}
@@ -39,7 +37,7 @@ belongs_more W n K L blocks at x more (inr b) = inr
       is = b.is;
     })
 
-module _ (c : Config) (s : KeptState) (k : IsKept c s) where
+module _ (c : Config) (s : KeptState) (k : Invariant c s) where
   abbrev g : Graph
   g = s.seen.graph
 
@@ -165,7 +163,7 @@ module _ (c : Config) (s : KeptState) (k : IsKept c s) where
       → ((t : ℕ) (b : Build) → t < c.threads → s.builds t ≡ Some b → NotHeld b x)
       → (s.sweep ≡ true → SweepColours c.width c.threads s.cycle (Kept s) (sizes c s) s.at
       (changed s.colour x v) w.payload shaded)
-      → IsKept c (record (with_colour s x v) { shaded = shaded })
+      → Invariant c (record (with_colour s x v) { shaded = shaded })
   recoloured x v shaded fits arrays solid marked dark away sweeping = record {
     ordered = k.ordered;
     follows = k.follows;
@@ -191,7 +189,7 @@ module _ (c : Config) (s : KeptState) (k : IsKept c s) where
 
   -- A scan has read something, or goes on.
   pub scanned : (t y : ℕ) → (y ≢ 0 → IsKnownBlock c s y)
-      → IsKept c (record s { scans = changed s.scans t y })
+      → Invariant c (record s { scans = changed s.scans t y })
   scanned t y is = record {
     ordered = k.ordered;
     follows = k.follows;

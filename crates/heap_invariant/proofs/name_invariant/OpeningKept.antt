@@ -8,21 +8,19 @@ use Rattle.block_store.specs.declared.Width.{Width}
 use Rattle.block_store.specs.Colours.{is_free, white_word}
 use Rattle.block_store.specs.Configs.{IsInBounds}
 use Rattle.block_store.specs.Registers.{root_block, registers_end, register_thread, register_ordinal}
-use Rattle.block_store.proofs.Registers.{block_is, thread_low, ordinal_low}
-use Rattle.block_store.proofs.ColourWords.{white_solid}
+use Rattle.block_store.proofs.Lemmas.{ordinal_low, thread_low, white_solid}
+use Rattle.block_store.proofs.Registers.{block_is}
 use Rattle.array_trees.specs.InitialHeaps.{opening_blocks}
 use Rattle.never_heap.specs.Graphs.{start_graph, shared_name, has_name}
 use Rattle.never_heap.specs.Reach.{reachable}
-use Rattle.never_heap.proofs.ReachableNames.{reachable_closed, reachable_within}
-use Rattle.never_heap.proofs.ReachSteps.{sound_start}
-use Rattle.never_heap.proofs.StartGraph.{name_of_start, register_of_start}
-use Rattle.heap_invariant.specs.graph_relation.Shown.{Shows, every_name, none_pending}
+use Rattle.never_heap.proofs.Lemmas.{name_of_start, reachable_closed, reachable_within, register_of_start, sound_start}
+use Rattle.heap_invariant.specs.graph_relation.GraphOfWords.{Shows, every_name, none_pending}
 use Rattle.heap_invariant.specs.graph_relation.InitialHeaps.{opening_at, opening_words}
 use Rattle.heap_invariant.proofs.graph_relation.Names.{name_one}
 use Rattle.heap_invariant.proofs.graph_relation.OpeningWords.{opening_shows}
 use Rattle.heap_invariant.proofs.graph_relation.Stores.{later_last, same_names}
 use Rattle.heap_invariant.specs.name_invariant.Colouring.{IsDark, IsColoured, IsRegisterBlock}
-use Rattle.heap_invariant.specs.name_invariant.Kept.{IsKept}
+use Rattle.heap_invariant.specs.name_invariant.Invariant.{Invariant}
 use Rattle.heap_invariant.specs.name_invariant.InitialHeaps.{OpeningColours, opening_kept}
 use Rattle.heap_invariant.proofs.name_invariant.Colours.{differ, dark_solid, dark_not_white}
 use Rattle.heap_invariant.proofs.name_invariant.WordTargets.{root_apart, root_in, behind_roots}
@@ -101,7 +99,7 @@ module _ (c : Config) (inside : IsInBounds c) (room : opening_blocks c ≤ c.blo
   marked _ (inr (root t tn)) d = root_in W n t tn
   marked _ (inr (white x w)) d = absurd (dark_not_white 1 _ d w)
 
-  pub opening_is_kept : IsKept c (opening_kept c colour)
+  pub opening_is_kept : Invariant c (opening_kept c colour)
   opening_is_kept = record {
     ordered = record {
       legal = tt;

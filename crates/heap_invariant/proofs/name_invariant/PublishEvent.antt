@@ -9,24 +9,17 @@ use Rattle.block_store.specs.Colours.{is_free, black_word}
 use Rattle.block_store.specs.Configs.{IsInBounds}
 use Rattle.block_store.specs.Payloads.{reference_word}
 use Rattle.block_store.specs.Registers.{register_block, register_slot}
-use Rattle.block_store.proofs.Registers.{register_low}
-use Rattle.block_store.proofs.Functions.{changed_both}
-use Rattle.block_store.proofs.ColourWords.{black_solid}
+use Rattle.block_store.proofs.Lemmas.{black_solid, changed_both, register_low}
 use Rattle.never_heap.specs.declared.Reply.TheVariants as replies
 use Rattle.never_heap.specs.Graphs.{Graph, Object, ObjectKind, Record, Array, start_graph, mutator_at, object_of, register_of, has_name, same_name, count_of, next_name, with_register, with_object}
 use Rattle.never_heap.specs.Histories.{HistoryItem, Started, Did, IsAnswered, after, replay_from}
 use Rattle.never_heap.specs.Cycles.{before_start, graph_at}
 use Rattle.never_heap.specs.Reach.{reachable}
-use Rattle.never_heap.proofs.CycleGrowth.{graph_at_more}
-use Rattle.never_heap.proofs.GraphMoves.{objects_with, object_with_register, has_name_with_register}
-use Rattle.never_heap.proofs.FieldStores.{object_with_object, count_with_object, has_name_with_object, registers_with_object}
-use Rattle.never_heap.proofs.UnchangedBySteps.{next_is_new, replay_names}
-use Rattle.never_heap.proofs.StepChanges.{with_object_threads}
-use Rattle.never_heap.proofs.NameLists.{same_itself, one_name, not_next}
+use Rattle.never_heap.proofs.Lemmas.{count_with_object, graph_at_more, has_name_with_object, has_name_with_register, next_is_new, not_next, object_with_object, object_with_register, objects_with, one_name, registers_with_object, replay_names, same_itself, with_object_threads}
 use Rattle.heap_invariant.specs.graph_relation.Layouts.{object_blocks, kind_shape}
 use Rattle.heap_invariant.specs.graph_relation.Made.{new_object, with_blocks, and_name, IsMade, IsWritten}
 use Rattle.heap_invariant.specs.graph_relation.Words.{BlockWords, value_word, with_payload}
-use Rattle.heap_invariant.specs.graph_relation.Shown.{IsValueOf, heads, Shows}
+use Rattle.heap_invariant.specs.graph_relation.GraphOfWords.{IsValueOf, heads, Shows}
 use Rattle.heap_invariant.specs.graph_relation.Events.{is_pending, ValueLoad, Loading, unloaded, pending_registers, ObjectIs, ValueIs, LoadIs}
 use Rattle.heap_invariant.proofs.graph_relation.Blocks.{other_block}
 use Rattle.heap_invariant.proofs.graph_relation.Names.{word_stays}
@@ -40,11 +33,11 @@ use Rattle.block_store.specs.Counts.{changed}
 use Rattle.heap_invariant.specs.name_invariant.States.{KeptState, sizes, Known, Kept, IsKnownBlock, with_name}
 use Rattle.heap_invariant.specs.name_invariant.Events.{apply, build_at, made_entry, making, published, IsBuilding, HasAll}
 use Rattle.heap_invariant.specs.name_invariant.Events.KeptEvent.{Publish}
-use Rattle.heap_invariant.specs.name_invariant.Kept.{IsOrdered, IsOlder, IsKept}
+use Rattle.heap_invariant.specs.name_invariant.Invariant.{IsOrdered, IsOlder, Invariant}
 use Rattle.heap_invariant.proofs.name_invariant.Colours.{differ, changed_else, payload_written}
 use Rattle.heap_invariant.proofs.name_invariant.HeldBlocks.{some_case, some_more, not_held_array, build_rewritten}
 use Rattle.heap_invariant.proofs.name_invariant.WordTargets.{refers_block, behind_roots}
-use Rattle.heap_invariant.proofs.name_invariant.Older.{older_words, older_item, older_names, not_own, other_register}
+use Rattle.heap_invariant.proofs.name_invariant.PendingRegisters.{older_words, older_item, older_names, not_own, other_register}
 use Rattle.heap_invariant.proofs.name_invariant.KeptStates.{shown, build_of, title_of}
 use Rattle.heap_invariant.proofs.name_invariant.Commands.{entered}
 
@@ -84,7 +77,7 @@ graph_new : (g : Graph) (t d size work : ℕ) (kind : ObjectKind)
 graph_new g t d size work Record = refl
 graph_new g t d size work Array = refl
 
-module _ (c : Config) (inside : IsInBounds c) (s : KeptState) (k : IsKept c s) (t d work : ℕ)
+module _ (c : Config) (inside : IsInBounds c) (s : KeptState) (k : Invariant c s) (t d work : ℕ)
     (building : IsBuilding c s t) (all : HasAll c s t) (ready : (build_at s t).left ≡ 0)
     (small : d < REGISTERS) (idle : s.seen.loads t ≡ unloaded) where
   abbrev g : Graph
@@ -416,7 +409,7 @@ module _ (c : Config) (inside : IsInBounds c) (s : KeptState) (k : IsKept c s) (
         (λ a ka. ap (λ (f : ℕ → ℕ). f 0) (place_old a (kept_name a ka)))
   ]
 
-  pub publishes : IsKept c (apply c s (Publish t d work))
+  pub publishes : Invariant c (apply c s (Publish t d work))
   publishes = record {
     ordered = ordered;
     follows = record { shows = shown_new; loads = loads_now };

@@ -15,14 +15,14 @@ use Rattle.heap_invariant.specs.name_invariant.Colouring.{IfRefers, IsDark, IsCo
 use Rattle.heap_invariant.specs.name_invariant.States.{KeptState, sizes, Known, Kept, IsKnownBlock, IsKeptBlock}
 use Rattle.heap_invariant.specs.name_invariant.Events.{Guard, apply, build_at, held_at}
 use Rattle.heap_invariant.specs.name_invariant.Events.KeptEvent.{Flip, Start, WriteColour}
-use Rattle.heap_invariant.specs.name_invariant.Kept.{IsKept}
+use Rattle.heap_invariant.specs.name_invariant.Invariant.{Invariant}
 use Rattle.heap_invariant.specs.name_invariant.Reached.{Reached, IsReachedBlock, ReachedOrMade, IsReachedOrMade, IsColouredOf}
 use Rattle.heap_invariant.proofs.name_invariant.Colours.{differ}
 use Rattle.heap_invariant.proofs.name_invariant.WordTargets.{refers_same, refers_more, refers_link}
 use Rattle.heap_invariant.proofs.name_invariant.KeptStates.{belongs_more, build_of, belongs_not_held}
 use Rattle.heap_invariant.proofs.name_invariant.FlipAndStart.{reached_kept, flips}
 
-module _ (c : Config) (s : KeptState) (k : IsKept c s) where
+module _ (c : Config) (s : KeptState) (k : Invariant c s) where
   abbrev w : BlockWords
   w = s.seen.words
 
@@ -96,7 +96,7 @@ module _ (c : Config) (s : KeptState) (k : IsKept c s) where
   flipped_black x q b = black (belongs_more c.width c.threads (Reached s) (Kept (apply c s Flip))
       (sizes c s) s.at x (reached_kept c (apply c s Flip) (flipped q)) b)
     where
-      flipped : Guard c s Flip → IsKept c (apply c s Flip)
+      flipped : Guard c s Flip → Invariant c (apply c s Flip)
       flipped q = flips c s k q.1 q.0 q.2 q.3
 
       dark : IsDark s.cycle (s.colour x) → s.colour x ≡ black_word s.cycle

@@ -5,7 +5,7 @@ use Rattle.block_store.specs.Configs.{IsInBounds}
 use Rattle.heap_invariant.specs.name_invariant.States.{KeptState}
 use Rattle.heap_invariant.specs.name_invariant.Events.{KeptEvent, apply, Guard, run, Guarded}
 use Rattle.heap_invariant.specs.name_invariant.Events.KeptEvent.{Serve, Decide, Answer, ReadWord, ShadeRead, PassRead, Blacken, ShadeLoaded, Flip, Free, ShadeRoot, Start, Reserve, Collect, WriteOwner, WriteShape, WritePayload, WriteColour, Publish}
-use Rattle.heap_invariant.specs.name_invariant.Kept.{IsKept}
+use Rattle.heap_invariant.specs.name_invariant.Invariant.{Invariant}
 use Rattle.heap_invariant.proofs.name_invariant.KeptStates.{scanned}
 use Rattle.heap_invariant.proofs.name_invariant.ColourEvents.{reads_word, shades_read, blackens, shades_loaded, frees, shades_root}
 use Rattle.heap_invariant.proofs.name_invariant.FlipAndStart.{flips, starts}
@@ -14,8 +14,8 @@ use Rattle.heap_invariant.proofs.name_invariant.Builders.{reserves, collects_blo
 use Rattle.heap_invariant.proofs.name_invariant.PublishEvent.{publishes}
 
 module _ (c : Config) (inside : IsInBounds c) where
-  pub step_kept : (s : KeptState) (e : KeptEvent) → IsKept c s → Guard c s e
-      → IsKept c (apply c s e)
+  pub step_kept : (s : KeptState) (e : KeptEvent) → Invariant c s → Guard c s e
+      → Invariant c (apply c s e)
   step_kept s (Serve e) k q = serves c s k e q
   step_kept s (Decide e entry) k q = decides c s k e entry q
   step_kept s (Answer entry) k q = answers c s k entry q
@@ -37,7 +37,7 @@ module _ (c : Config) (inside : IsInBounds c) where
   step_kept s (WriteColour t o) k q = colour_written c s k t q.building o q.all q.next q.once q.step
   step_kept s (Publish t d work) k q = publishes c inside s k t d work q.0 q.1 q.2 q.3 q.4
 
-  pub run_kept : (es : List KeptEvent) (s : KeptState) → IsKept c s → Guarded c s es
-      → IsKept c (run c s es)
+  pub run_kept : (es : List KeptEvent) (s : KeptState) → Invariant c s → Guarded c s es
+      → Invariant c (run c s es)
   run_kept [] s k q = k
   run_kept (e ∷ es) s k q = run_kept es (apply c s e) (step_kept s e k q.0) q.1

@@ -10,14 +10,14 @@ use Rattle.block_store.specs.declared.Width.TheVariants.{Four, Eight}
 use Rattle.block_store.specs.Payloads.{target, reference_word}
 use Rattle.block_store.specs.Registers.{root_block, register_block, register_slot, registers_end, register_thread, register_ordinal}
 use Rattle.block_store.specs.Widths.{payloads, register_blocks}
-use Rattle.block_store.proofs.PayloadWords.{target-reference, target-number, target-nil}
-use Rattle.block_store.proofs.Registers.{root_low, root_some, ordinal_of, ordinal_low, thread_low, block_is, arrays_small}
+use Rattle.block_store.proofs.Lemmas.{arrays_small, ordinal_low, ordinal_of, root_low, root_some, target-nil, target-number, target-reference, thread_low}
+use Rattle.block_store.proofs.Registers.{block_is}
 use Rattle.object_lists.specs.Parts.{Part, Link, Field, Blank, link_in}
 use Rattle.never_heap.specs.Graphs.{Graph, object_of, field_of}
 use Rattle.heap_invariant.specs.graph_relation.Layouts.{object_blocks, object_part}
 use Rattle.heap_invariant.specs.graph_relation.Made.{link_word}
 use Rattle.heap_invariant.specs.graph_relation.Words.{BlockWords, value_word, part_word}
-use Rattle.heap_invariant.specs.graph_relation.Shown.{IsValueOf, heads, Shows, root_word, RegisterShows}
+use Rattle.heap_invariant.specs.graph_relation.GraphOfWords.{IsValueOf, heads, Shows, root_word, RegisterShows}
 use Rattle.heap_invariant.proofs.graph_relation.ObjectLayouts.{object_layout}
 use Rattle.heap_invariant.specs.name_invariant.Colouring.{IfRefers, IsRegisterBlock, NotRoot, IsBlockOf, Belongs}
 
@@ -66,7 +66,7 @@ refers_here P word x e some k =
     let t : target word ≡ x = ap target e ∙ target-reference x in
     subst P t (k (λ z. some (sym t ∙ z)))
 
--- the register at a payload of a block behind the root
+-- the register at a payload of a block after the root
 pub register_here : (W : Width) (t o j : ℕ) → 0 < o → o < register_blocks W → j < payloads W
     → (r : ℕ) × (r < REGISTERS) × (register_block W t r ≡ root_block W t + o)
     × (register_slot W r ≡ j)
@@ -94,7 +94,7 @@ pub array_in : (W : Width) (n t o : ℕ) → t < n → o < register_blocks W
     → IsRegisterBlock W n (root_block W t + o)
 array_in W n t o tn low = (omega (arith, root_some W t), omega (arith, root_low W n t tn))
 
--- a block behind the register arrays is the first of none
+-- a block after the register arrays is the first of none
 pub behind_roots : (W : Width) (n x : ℕ) → registers_end W n < x → NotRoot W n x
 behind_roots W n x behind t tn e = omega (arith, (root_in W n t tn).1)
 

@@ -2,19 +2,19 @@
 use Rattle.std.specs.Prelude.{ℕ, ◌+◌, ◌-◌, ◌*◌, ◌<◌, ◌≤◌, ◌≡◌, true}
 use Rattle.block_store.specs.declared.Config.{Config}
 use Rattle.never_heap.specs.Histories.{starts_in, work_in}
-use Rattle.never_heap.specs.Given.{given}
+use Rattle.never_heap.specs.GivenBlocks.{given}
 use Rattle.never_heap.specs.Licensed.{Licensed}
 use Rattle.never_heap.specs.RightWork.{RightWork}
 use Rattle.work_account.specs.Accounts.{IsSound}
 use Rattle.heap_invariant.specs.cycle_tally.Tallies.{Tally, units, made_now}
 use Rattle.heap_invariant.specs.cycle_tally.Events.{IsEmpty}
 use Rattle.heap_invariant.specs.cycle_tally.Entries.{entries_in, InThreads}
-use Rattle.heap_invariant.specs.cycle_tally.Kept.{most_given, most_work}
+use Rattle.heap_invariant.specs.cycle_tally.TallyInvariant.{most_given, most_work}
 
 -- no thread asks for a block or is told of a unit, so that none is made for what is not decided yet
 abbrev pub AsksNothing : Config → Tally → Type 0
 AsksNothing c s =
-    (t : ℕ) → t < c.threads → ((s.threads t).asked ≡ 0) × ((s.threads t).told ≡ 0)
+    (t : ℕ) → t < c.threads → ((s.threads t).asked ≡ 0) × ((s.threads t).requested ≡ 0)
 
 -- the sweep has come to the end, and nobody is inside
 pub record IsSwept (c : Config) (s : Tally) : Type 0 where

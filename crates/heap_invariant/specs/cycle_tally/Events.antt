@@ -6,10 +6,10 @@ use Rattle.never_heap.specs.declared.Reply.TheVariants.{Full}
 use Rattle.never_heap.specs.declared.TheConstants.{MOST_UNITS}
 use Rattle.never_heap.specs.Histories.{HistoryItem, Started, Did, is_full}
 use Rattle.never_heap.specs.Cycles.{graph_at}
-use Rattle.never_heap.specs.Given.{given}
+use Rattle.never_heap.specs.GivenBlocks.{given}
 use Rattle.never_heap.specs.LiveBlocks.{live_blocks}
 use Rattle.never_heap.specs.Taken.{taken_by}
-use Rattle.never_heap.specs.RightWork.{units_told}
+use Rattle.never_heap.specs.RightWork.{requested_units}
 use Rattle.never_heap.specs.Steps.{blocks_of}
 use Rattle.work_account.specs.Accounts.{Balance, entered, published, refused}
 use Rattle.heap_invariant.specs.cycle_tally.Tallies.{Spending, Tally, units_now, made_of, due_of, with_made}
@@ -49,13 +49,13 @@ ordered s i = record s { order = s.order ++ i ∷ [] }
 pub record Decides (c : Config) (t : ℕ) (w : Spending) (e : Entry) : Type 0 where
   pub thread : e.thread ≡ t
   pub blocks : blocks_of c.width e.command ≡ w.asked
-  pub told : units_told e.command ≡ w.told
+  pub requested : requested_units e.command ≡ w.requested
   pub work : e.work ≡ made_of w
 
 -- all that an allocation owes is paid
 pub record IsAllPaid (rate : ℕ) (w : Spending) : Type 0 where
   pub paid : w.balance.paid ≡ rate * w.asked
-  pub untold : w.told ≡ 0
+  pub untold : w.requested ≡ 0
 
 -- the blocks in use at a start are at most those that were live at the last one and those given
 -- since
@@ -116,7 +116,7 @@ module _ (c : Config) (rate : ℕ) (black : ℕ → ℕ) where
       (Did e)
   apply s (Refuse t e) = ordered (with_balance s t (refused (s.threads t).balance)) (Did e)
   apply s (Answer t e) = ordered (with_thread s t (record (s.threads t) { idled = 0 })) (Did e)
-  apply s (Next t k u) = with_thread s t (record (s.threads t) { asked = k; told = u })
+  apply s (Next t k u) = with_thread s t (record (s.threads t) { asked = k; requested = u })
 
   abbrev pub Guard : Tally → Event → Type 0
   Guard s (Enter t) = t < c.threads
@@ -153,7 +153,7 @@ module _ (c : Config) (rate : ℕ) (black : ℕ → ℕ) where
   Guard s (Answer t e) =
       let w = s.threads t in
       (t < c.threads) × Decides c t w e × (w.asked ≡ 0) × (is_full e.reply ≡ false)
-      × (made_of w ≡ w.told)
+      × (made_of w ≡ w.requested)
   Guard s (Next t k u) =
       let w = s.threads t in
       (t < c.threads) × NoClaim w × (w.reserved ≡ 0) × (made_of w ≡ 0) × (k ≤ c.object)

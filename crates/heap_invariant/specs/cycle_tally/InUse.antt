@@ -22,7 +22,7 @@ ReachedOrMade c h a =
     (reachable (graph_then c h) a ≡ true)
     ⊎ ((has_name (replay c h) a ≡ true) × (has_name (graph_then c h) a ≡ false))
 
--- Block x is that of an ordinal of the object of such a name. The ordinals of objects stand `at`
+-- Block x is that of an ordinal of the object of such a name. The ordinals of objects are `at`
 -- their blocks.
 pub record IsBlockOfThese (c : Config) (h : List HistoryItem) (at : Name → ℕ → ℕ) (x : ℕ) : Type 0
   where

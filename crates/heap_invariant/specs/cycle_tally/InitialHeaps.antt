@@ -7,14 +7,14 @@ use Rattle.never_heap.specs.Histories.{Started}
 use Rattle.never_heap.specs.LiveBlocks.{live_blocks}
 use Rattle.work_account.specs.Accounts.{opened}
 use Rattle.heap_invariant.specs.cycle_tally.Tallies.{Spending, Tally}
-use Rattle.heap_invariant.specs.cycle_tally.Kept.{IsTold}
+use Rattle.heap_invariant.specs.cycle_tally.TallyInvariant.{IsRequested}
 
 -- a thread before its first command, which asks for at most one object
 pub record IsNew (c : Config) (w : Spending) : Type 0 where
   pub inside : w.inside ≡ false
   pub balance : w.balance ≡ opened
   pub asked : w.asked ≤ c.object
-  pub told : IsTold w.asked w.told w.idled
+  pub requested : IsRequested w.asked w.requested w.idled
   pub idled : w.idled ≡ 0
   pub claimed : w.high ≤ w.low
   pub reserved : w.reserved ≡ 0
@@ -32,8 +32,8 @@ pub record Opened (c : Config) (s : Tally) : Type 0 where
 
 -- the tally of the opening heap, with these colours, where each thread first asks for so many
 -- blocks, or is told of so many units
-abbrev pub opening_tally : Config → (colour asked told : ℕ → ℕ) → Tally
-opening_tally c colour asked told = record {
+abbrev pub opening_tally : Config → (colour asked requested : ℕ → ℕ) → Tally
+opening_tally c colour asked requested = record {
   cycle = 1;
   sweep = false;
   cursor = c.blocks + 1;
@@ -44,7 +44,7 @@ opening_tally c colour asked told = record {
     inside = false;
     balance = opened;
     asked = asked t;
-    told = told t;
+    requested = requested t;
     idled = 0;
     low = 0;
     high = 0;

@@ -11,7 +11,7 @@ pub record Spending : Type 0 where
   pub inside : Bool  -- whether it is inside the gate
   pub balance : Balance  -- its account
   pub asked : ℕ  -- the blocks of the command in hand, or next; 0 where it allocates nothing
-  pub told : ℕ  -- the units that it is told to make; 0 where it is no idle
+  pub requested : ℕ  -- the units that it is told to make; 0 where it is no idle
   pub idled : ℕ  -- the units made for an idle in hand
   pub low : ℕ  -- the blocks claimed and not yet passed are those from low on and below high
   pub high : ℕ
@@ -46,13 +46,13 @@ made_of w = w.balance.paid + w.idled
 
 -- and all that it owes
 abbrev pub due_of : ℕ → Spending → ℕ
-due_of rate w = rate * w.asked + w.told
+due_of rate w = rate * w.asked + w.requested
 
 -- a unit is paid, or made for an idle
 abbrev pub with_made : Spending → Spending
 with_made w = record w {
-  balance = if w.told == 0 then with_unit w.balance else with_idle w.balance;
-  idled = if w.told == 0 then w.idled else w.idled + 1;
+  balance = if w.requested == 0 then with_unit w.balance else with_idle w.balance;
+  idled = if w.requested == 0 then w.idled else w.idled + 1;
 }
 
 -- the blocks given in this cycle, those reserved, and the units made for what is not decided yet,

@@ -15,7 +15,7 @@ use Rattle.never_heap.specs.Graphs.{Graph, start_graph, object_of, field_of, reg
 use Rattle.object_lists.specs.Parts.{Link, Field}
 use Rattle.heap_invariant.specs.graph_relation.Layouts.{object_blocks, kind_shape, shape_part}
 use Rattle.heap_invariant.specs.graph_relation.Words.{BlockWords, value_word, with_payload, with_register_word}
-use Rattle.heap_invariant.specs.graph_relation.Shown.{heads, Shows}
+use Rattle.heap_invariant.specs.graph_relation.GraphOfWords.{heads, Shows}
 use Rattle.never_heap.specs.Steps.{swapped}
 use Rattle.heap_invariant.specs.graph_relation.InitialHeaps.{opening_words}
 

@@ -1,4 +1,4 @@
--- The words of the opening heap, by block: each thread's register array, and behind these the
+-- The words of the opening heap, by block: each thread's register array, and after these the
 -- shared array.
 use Rattle.std.specs.Prelude.{ℕ, ◌+◌, ◌-◌, nat_le, if◌then◌else◌}
 use Rattle.block_store.specs.declared.Config.{Config}
@@ -14,7 +14,7 @@ use Rattle.array_trees.specs.InitialHeaps.{opening_blocks}
 use Rattle.never_heap.specs.Graphs.{start_graph, shared_name, register_of}
 use Rattle.heap_invariant.specs.graph_relation.Words.{BlockWords, part_word}
 
--- the shared array stands behind the register blocks, in the order of its ordinals
+-- the shared array comes after the register blocks, in the order of its ordinals
 abbrev pub opening_at : Width → ℕ → Name → ℕ → ℕ
 opening_at W n a o = registers_end W n + 1 + o
 
@@ -34,8 +34,8 @@ shared_word c o j =
     part_word (shared_block c) (opening_at c.width c.threads (shared_name c.threads)) (λ i. Nil)
     (array_part c.width c.shared o j)
 
--- what stands at block x: one thing in the register arrays, another in the shared array, and 0
--- behind it
+-- what is at block x: one thing in the register arrays, another in the shared array, and 0
+-- after it
 abbrev pub by_block : Config → ℕ → ℕ → ℕ → ℕ
 by_block c x registers shared =
     if nat_le x (registers_end c.width c.threads) then registers

@@ -14,12 +14,12 @@ pub use Rattle.never_heap.specs.LiveBlocks.{object_blocks}
 abbrev pub layout_blocks : Width → ObjectKind → ℕ → ℕ
 layout_blocks W k n = blocks_of_kind W k n
 
--- what stands at payload j of ordinal o
+-- what is at payload j of ordinal o
 abbrev pub layout_part : Width → ObjectKind → ℕ → ℕ → ℕ → Part
 layout_part W Record n o j = record_part W n o j
 layout_part W Array n o j = array_part W n o j
 
--- the ordinal and the payload where field i stands
+-- the ordinal and the payload where field i is
 abbrev pub layout_slot : Width → ObjectKind → ℕ → ℕ → ℕ × ℕ
 layout_slot W Record n i = record_slot W i
 layout_slot W Array n i = array_slot W n i
@@ -31,7 +31,7 @@ object_part W o = layout_part W o.kind (length o.fields)
 abbrev pub object_slot : Width → Object → ℕ → ℕ × ℕ
 object_slot W o = layout_slot W o.kind (length o.fields)
 
--- the shape of an object of this kind and length, and what stands in the blocks of a shape
+-- the shape of an object of this kind and length, and what is in the blocks of a shape
 abbrev pub kind_shape : ObjectKind → ℕ → Shape
 kind_shape Record n = shapes.List n
 kind_shape Array n = shapes.Tree n

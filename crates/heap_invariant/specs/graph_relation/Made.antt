@@ -10,7 +10,7 @@ use Rattle.object_lists.specs.Parts.{link_in}
 use Rattle.never_heap.specs.Graphs.{Graph, Object, ObjectKind, nil_object, count_of, same_name, next_name}
 use Rattle.heap_invariant.specs.graph_relation.Layouts.{layout_blocks, layout_part}
 use Rattle.heap_invariant.specs.graph_relation.Words.{BlockWords, kind_word}
-use Rattle.heap_invariant.specs.graph_relation.Shown.{BlockShows}
+use Rattle.heap_invariant.specs.graph_relation.GraphOfWords.{BlockShows}
 
 -- an object of n nils
 abbrev pub new_object : ObjectKind → ℕ → Object
@@ -25,7 +25,7 @@ abbrev pub and_name : (Name → Type 0) → Name → Name → Type 0
 and_name K a b = (same_name a b ≡ true) ⊎ K b
 
 -- The blocks show the object that thread t makes next, one of n nils: its name and its ordinals
--- have owner words, and each of its blocks shows its part, behind the register blocks and at block
+-- have owner words, and each of its blocks shows its part, after the register blocks and at block
 -- m at the latest.
 pub record IsMade (W : Width) (threads m : ℕ) (g : Graph) (w : BlockWords) (t : ℕ)
     (k : ObjectKind) (n : ℕ) (block_of : ℕ → ℕ) : Type 0 where

@@ -9,11 +9,11 @@ use Rattle.block_store.specs.Payloads.{reference_word}
 use Rattle.never_heap.specs.Graphs.{Graph, ObjectKind, object_of, has_name, with_register, with_object, next_name}
 use Rattle.heap_invariant.specs.graph_relation.Layouts.{object_blocks}
 use Rattle.heap_invariant.specs.graph_relation.Words.{BlockWords, value_word, with_register_word}
-use Rattle.heap_invariant.specs.graph_relation.Shown.{IsValueOf, heads, Shows, named}
+use Rattle.heap_invariant.specs.graph_relation.GraphOfWords.{IsValueOf, heads, Shows, named}
 use Rattle.heap_invariant.specs.graph_relation.Made.{new_object, with_blocks, IsMade}
 
 -- the width of the blocks, how many threads there are, the last block, the kept names, the graph,
--- where the ordinals of objects stand, the words, and which registers are pending
+-- where the ordinals of objects are, the words, and which registers are pending
 pub record Snapshot : Type 0 where
   pub width : Width
   pub threads : ℕ
@@ -38,7 +38,7 @@ IsKeptValue s v = IsValueOf (named s.kept) v
 abbrev pub word_of : Snapshot → Value → ℕ
 word_of s v = value_word (heads s.at) v
 
--- ordinal o of the object of a kept name, and the block at which it stands
+-- ordinal o of the object of a kept name, and the block at which it is
 pub record IsBlockOf (s : Snapshot) (a : Name) (o : ℕ) : Type 0 where
   pub kept : s.kept a ≡ true
   pub ordinal : o < object_blocks s.width (object_of s.graph a)

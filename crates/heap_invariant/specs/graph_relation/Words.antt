@@ -20,7 +20,7 @@ value_word head Nil = 0
 value_word head (Int v) = number_word v
 value_word head (Ref a) = reference_word (head a)
 
--- the payload word of a part of an object, where its ordinals stand at these blocks and its fields
+-- the payload word of a part of an object, where its ordinals are at these blocks and its fields
 -- have these values
 abbrev pub part_word : (Name → ℕ) → (ℕ → ℕ) → (ℕ → Value) → Part → ℕ
 part_word head block_of field (Link o) = reference_word (block_of o)

@@ -67,7 +67,7 @@ pub record IsBegun (W : Width) (w : BlockWords) (b : Build) (o : ℕ) : Type 0 w
   pub links : (j : ℕ) → j < payloads W → j + 2 < b.step
       → w.payload (b.held o) j ≡ build_payload W b o j
 
--- Each held block lies behind the register arrays. It is Free until its words are written, and
+-- Each held block lies after the register arrays. It is Free until its words are written, and
 -- black from then on. Words are written once all blocks are held.
 pub record IsBuild (W : Width) (n m cycle : ℕ) (colour : ℕ → ℕ) (w : BlockWords) (b : Build)
     : Type 0 where

@@ -29,7 +29,7 @@ abbrev pub NotRoot : Width → ℕ → ℕ → Type 0
 NotRoot W n y = (t : ℕ) → t < n → y ≢ root_block W t
 
 -- Block x is that of an ordinal of the object of a name in K. The object of a name has `blocks` of
--- it, and its ordinals stand `at` them.
+-- it, and its ordinals are `at` them.
 pub record IsBlockOf (K : Name → Type 0) (blocks : Name → ℕ) (at : Name → ℕ → ℕ) (x : ℕ) : Type 0
   where
     pub name : Name

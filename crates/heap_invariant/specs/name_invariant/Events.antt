@@ -233,7 +233,7 @@ pub record IsWriting (c : Config) (s : KeptState) (t o words : ℕ) : Type 0 whe
   pub step : (build_at s t).step ≡ words
   pub once : IsHeldOnce c.threads s.builds t o (held_at s t o)
 
--- a Free block behind the register arrays
+-- a Free block after the register arrays
 abbrev pub IsFreeBlock : Config → KeptState → ℕ → Type 0
 IsFreeBlock c s x =
     (registers_end c.width c.threads < x) × (x ≤ c.blocks) × (is_free (s.colour x) ≡ true)

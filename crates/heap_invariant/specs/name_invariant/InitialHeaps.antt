@@ -13,7 +13,7 @@ use Rattle.heap_invariant.specs.name_invariant.Colouring.{NotRoot}
 use Rattle.heap_invariant.specs.name_invariant.States.{KeptState}
 
 -- the roots are grey, the other blocks of the register arrays and of the shared array are white,
--- and those behind them are Free
+-- and those after them are Free
 pub record OpeningColours (c : Config) (colour : ℕ → ℕ) : Type 0 where
   pub roots : (t : ℕ) → t < c.threads → is_grey (colour (root_block c.width t)) ≡ true
   pub arrays : (x : ℕ) → 0 < x → x ≤ opening_blocks c → NotRoot c.width c.threads x

@@ -10,18 +10,18 @@ use Rattle.block_store.specs.Widths.{payloads}
 use Rattle.never_heap.specs.declared.Reply.{Reply}
 use Rattle.never_heap.specs.Steps.{blocks_of}
 use Rattle.heap_machine.specs.FreeBlocks.{FreeKept}
-use Rattle.heap_machine.specs.Holdings.{Holding, free_held}
+use Rattle.heap_machine.specs.WorkInHand.{WorkInHand, free_held}
 use Rattle.heap_machine.specs.Operations.{heap_after, place_of}
 use Rattle.heap_machine.specs.declared.pass.Pass.{Pass}
 use Rattle.build_steps.specs.declared.rows.BuildRow.{BuildRow}
 use Rattle.build_steps.specs.declared.rows.BuildRow.TheVariants.{ReadCount, Reserve, TakeFree, Collect, PutRest, WriteOwner, WriteShape, WritePayload, WriteColour, Publish, Built, Refused}
 use Rattle.build_steps.specs.Fits.{BuildFits, RowFits}
-use Rattle.build_steps.specs.Rows.{BuildState, build_got, build_over, build_reply, held_got, list_of, row_got, row_holding, row_reply, row_want}
+use Rattle.build_steps.specs.Rows.{BuildState, build_got, build_over, build_reply, held_got, list_of, row_got, row_in_hand, row_reply, row_want}
 use Rattle.rate_plan.specs.solo_bound.Moves.{Spot, Lone, Terms, Moves}
 use Rattle.heap_system.specs.Parts.{Build}
 use Rattle.heap_system.specs.Locals.{build_waits, if_replied}
-use Rattle.heap_system.proofs.PartLaws.{AtPart, word_at}
-use Rattle.heap_system.proofs.SeenAndKept.{Seen}
+use Rattle.heap_system.proofs.step_rows.PartLaws.{AtPart, word_at}
+use Rattle.heap_system.proofs.invariant.SeenAndKept.{Seen}
 use Rattle.heap_system.proofs.alone.NeverDry.{all_lists, chain_of_none, chain_of_one, never_dry}
 use Rattle.heap_system.proofs.alone.LoneThread.{Alone, BuildKnows, LoneKnows, LoneLaw, build_spot, free_heads, heap_left, is_out, lone_of, paid_left, part_left, pass_left, spot_of, terms_of}
 
@@ -33,7 +33,7 @@ heads b h u = h (FreeList (list_of b.thread b.threads u))
 abbrev pub Known : BuildState → Heap → BuildRow → Type 0
 Known b h (Reserve seen) = seen ≡ h FreeCount
 Known b h (TakeFree u) = (v : ℕ) → v < u → heads b h v ≡ 0
-Known b h (Collect hand u) = (v : ℕ) → v < u + 1 → heads b h v ≡ 0
+Known b h (Collect list u) = (v : ℕ) → v < u + 1 → heads b h v ≡ 0
 Known b h _ = Unit {0}
 
 -- where it takes a list, or has the last block of one in hand, the lists are not all empty
@@ -42,10 +42,10 @@ AllEmpty b h = (v : ℕ) → v < b.threads → heads b h v ≡ 0
 
 abbrev pub Finds : BuildState → Heap → BuildRow → Type 0
 Finds b h (TakeFree u) = AllEmpty b h → ⊥
-Finds b h (Collect hand u) = length b.held + 1 < b.blocks → link (h (ColourOf hand)) ≡ 0 → AllEmpty b h → ⊥
+Finds b h (Collect list u) = length b.held + 1 < b.blocks → link (h (ColourOf list)) ≡ 0 → AllEmpty b h → ⊥
 Finds b h _ = Unit {0}
 
--- where the thread stands behind an event: at the next row, or going out
+-- where the thread comes after an event: at the next row, or going out
 abbrev pub next_spot : Width → ℕ → BuildRow → Spot
 next_spot w held Built = Spot.LeaveDone
 next_spot w held Refused = Spot.LeaveDone
@@ -94,30 +94,30 @@ module _ (c : Config) (b : BuildState) (e : Terms) (h : Heap) (threads : e.threa
   ]
 
   -- one block more is held
-  longer : (hand : ℕ) → length (b.held ++ hand ∷ []) ≡ length b.held + 1
-  longer hand = length-append b.held (hand ∷ [])
+  longer : (list : ℕ) → length (b.held ++ list ∷ []) ≡ length b.held + 1
+  longer list = length-append b.held (list ∷ [])
 
-  collects : (hand u : ℕ) → u < b.threads → length b.held < b.blocks → Known b h (Collect hand u) → Finds b h (Collect hand u) → To (Collect hand u) (length (b.held ++ hand ∷ [])) (row_got c.width b (Collect hand u) (h (ColourOf hand)))
-  collects hand u ul few known finds = elim (cases_eq (length b.held + 1) b.blocks) [
-    | inl all ↦ elim (cases_eq (link (h (ColourOf hand))) 0) [
-      | inl none ↦ rw (eq-eqb (length b.held + 1) b.blocks all, eq-eqb (link (h (ColourOf hand))) 0 none)
+  collects : (list u : ℕ) → u < b.threads → length b.held < b.blocks → Known b h (Collect list u) → Finds b h (Collect list u) → To (Collect list u) (length (b.held ++ list ∷ [])) (row_got c.width b (Collect list u) (h (ColourOf list)))
+  collects list u ul few known finds = elim (cases_eq (length b.held + 1) b.blocks) [
+    | inl all ↦ elim (cases_eq (link (h (ColourOf list))) 0) [
+      | inl none ↦ rw (eq-eqb (length b.held + 1) b.blocks all, eq-eqb (link (h (ColourOf list))) 0 none)
           (refl, tt, λ s z q. (omega (arith, blocks, few), inl (omega (arith, blocks, all), inr (b.blocks - 1, omega (arith, blocks, few), q))))
-      | inr some ↦ rw (eq-eqb (length b.held + 1) b.blocks all, ne_eqb (link (h (ColourOf hand))) 0 some)
+      | inr some ↦ rw (eq-eqb (length b.held + 1) b.blocks all, ne_eqb (link (h (ColourOf list))) 0 some)
           (refl, tt, λ s z q. (omega (arith, blocks, few), inl (omega (arith, blocks, all), inl q)))
     ]
-    | inr more ↦ elim (cases_eq (link (h (ColourOf hand))) 0) [
+    | inr more ↦ elim (cases_eq (link (h (ColourOf list))) 0) [
       | inl none ↦ elim (cases_lt (u + 1) b.threads) [
-        | inl low ↦ rw (ne_eqb (length b.held + 1) b.blocks more, eq-eqb (link (h (ColourOf hand))) 0 none, lt-ltb (u + 1) b.threads low)
-            (refl, known, λ s z q. (omega (arith, blocks, few), inr (omega (arith, blocks, few, more), inr (omega (arith, threads, low), q ∙ ap (λ n. Spot.Grab (u + 1) n) (longer hand)))))
+        | inl low ↦ rw (ne_eqb (length b.held + 1) b.blocks more, eq-eqb (link (h (ColourOf list))) 0 none, lt-ltb (u + 1) b.threads low)
+            (refl, known, λ s z q. (omega (arith, blocks, few), inr (omega (arith, blocks, few, more), inr (omega (arith, threads, low), q ∙ ap (λ n. Spot.Grab (u + 1) n) (longer list)))))
         | inr last ↦ absurd (finds (omega (arith, few, more)) none (λ v vl. known v (omega arith)))
       ]
-      | inr some ↦ rw (ne_eqb (length b.held + 1) b.blocks more, ne_eqb (link (h (ColourOf hand))) 0 some)
-          (refl, known, λ s z q. (omega (arith, blocks, few), inr (omega (arith, blocks, few, more), inl (q ∙ ap (λ n. Spot.Collect u n) (longer hand)))))
+      | inr some ↦ rw (ne_eqb (length b.held + 1) b.blocks more, ne_eqb (link (h (ColourOf list))) 0 some)
+          (refl, known, λ s z q. (omega (arith, blocks, few), inr (omega (arith, blocks, few, more), inl (q ∙ ap (λ n. Spot.Collect u n) (longer list)))))
     ]
   ]
 
-  puts : (hand : ℕ) → 1 ≤ b.blocks → To (PutRest hand) (length b.held) (row_got c.width b (PutRest hand) (word (PutRest hand)))
-  puts hand some = (refl, tt, λ s z q. (b.blocks - 1, omega (arith, blocks, some), q))
+  puts : (list : ℕ) → 1 ≤ b.blocks → To (PutRest list) (length b.held) (row_got c.width b (PutRest list) (word (PutRest list)))
+  puts list some = (refl, tt, λ s z q. (b.blocks - 1, omega (arith, blocks, some), q))
 
   writes_owner : (o : ℕ) → To (WriteOwner o) (length b.held) (row_got c.width b (WriteOwner o) (word (WriteOwner o)))
   writes_owner o = (refl, tt, λ s z q. inl (omega arith, q))
@@ -141,8 +141,8 @@ module _ (c : Config) (b : BuildState) (e : Terms) (h : Heap) (threads : e.threa
   builds_on ReadCount fits some known finds going = counts
   builds_on (Reserve seen) fits some known finds going = reserves seen known fits.0
   builds_on (TakeFree u) fits some known finds going = takes u (omega (arith, fits.0, same)) known finds
-  builds_on (Collect hand u) fits some known finds going = collects hand u (omega (arith, fits.1, same)) fits.2 known finds
-  builds_on (PutRest hand) fits some known finds going = puts hand some
+  builds_on (Collect list u) fits some known finds going = collects list u (omega (arith, fits.1, same)) fits.2 known finds
+  builds_on (PutRest list) fits some known finds going = puts list some
   builds_on (WriteOwner o) fits some known finds going = writes_owner o
   builds_on (WriteShape o) fits some known finds going = writes_shape o
   builds_on (WritePayload o j) fits some known finds going = writes_payload o j fits.1
@@ -175,13 +175,13 @@ module _ (c : Config) (s : Seen c) (b : BuildState) (at : AtPart c s (Build b)) 
 
   known_in : (h : Heap) (r : BuildRow) → BuildKnows c h s.thread r → Known b h r
   known_in h (TakeFree u) k = λ v low. sym (heads_are h v) ∙ k v low
-  known_in h (Collect hand u) k = λ v low. sym (heads_are h v) ∙ k v low
+  known_in h (Collect list u) k = λ v low. sym (heads_are h v) ∙ k v low
   known_in h (Reserve seen) k = k
   known_in h _ k = tt
 
   known_out : (h : Heap) (r : BuildRow) → Known b h r → BuildKnows c h s.thread r
   known_out h (TakeFree u) k = λ v low. heads_are h v ∙ k v low
-  known_out h (Collect hand u) k = λ v low. heads_are h v ∙ k v low
+  known_out h (Collect list u) k = λ v low. heads_are h v ∙ k v low
   known_out h (Reserve seen) k = k
   known_out h _ k = tt
 
@@ -189,25 +189,25 @@ module _ (c : Config) (s : Seen c) (b : BuildState) (at : AtPart c s (Build b)) 
   free : FreeKept (extent c) s.heap (λ t. free_held (s.holds t))
   free = s.rules.reuse.free
 
-  rest : AllEmpty b s.heap → length (free.hands s.thread) + length (s.holds s.thread).held < (s.holds s.thread).reserved → ⊥
+  rest : AllEmpty b s.heap → length (free.private_lists s.thread) + length (s.holds s.thread).held < (s.holds s.thread).reserved → ⊥
   rest dry = never_dry (extent c) s.heap (λ t. free_held (s.holds t)) free s.thread s.low
       (λ u ul ne. ap free_held (s.empty u ul (alone.others u ul ne)))
       (λ v vl. all_lists s.heap b.thread b.threads fits.thread dry v (omega (arith, vl, at.part.threads)))
 
-  in_hand : length (free.hands s.thread) ≡ 0 ⊎ (link (s.heap (ColourOf (s.holds s.thread).free_hand)) ≡ 0) → length (free.hands s.thread) ≤ 1
+  in_hand : length (free.private_lists s.thread) ≡ 0 ⊎ (link (s.heap (ColourOf (s.holds s.thread).free_list)) ≡ 0) → length (free.private_lists s.thread) ≤ 1
   in_hand (inl none) = omega (arith, none)
-  in_hand (inr last) = chain_of_one (λ x. s.heap (ColourOf x)) (s.holds s.thread).free_hand (free.hands s.thread) (free.hand_chain s.thread s.low) last
+  in_hand (inr last) = chain_of_one (λ x. s.heap (ColourOf x)) (s.holds s.thread).free_list (free.private_lists s.thread) (free.private_chain s.thread s.low) last
 
-  finds : (r : BuildRow) → s.holds s.thread ≡ row_holding b.blocks b.held r → RowFits c b.blocks b.held r → Finds b s.heap r
+  finds : (r : BuildRow) → s.holds s.thread ≡ row_in_hand b.blocks b.held r → RowFits c b.blocks b.held r → Finds b s.heap r
   finds (TakeFree u) is row = λ dry. (
-      let none : length (free.hands s.thread) ≡ 0 = chain_of_none (λ x. s.heap (ColourOf x)) (s.holds s.thread).free_hand (free.hands s.thread) (free.hand_chain s.thread s.low) (ap (λ (w : Holding). w.free_hand) is) in
-      let held : length (s.holds s.thread).held ≡ length b.held = ap (λ (w : Holding). length w.held) is in
-      let reserved : (s.holds s.thread).reserved ≡ b.blocks = ap (λ (w : Holding). w.reserved) is in
+      let none : length (free.private_lists s.thread) ≡ 0 = chain_of_none (λ x. s.heap (ColourOf x)) (s.holds s.thread).free_list (free.private_lists s.thread) (free.private_chain s.thread s.low) (ap (λ (w : WorkInHand). w.free_list) is) in
+      let held : length (s.holds s.thread).held ≡ length b.held = ap (λ (w : WorkInHand). length w.held) is in
+      let reserved : (s.holds s.thread).reserved ≡ b.blocks = ap (λ (w : WorkInHand). w.reserved) is in
       rest dry (omega (arith, none, held, reserved, row.1)))
-  finds (Collect hand u) is row = λ few last dry. (
-      let one : length (free.hands s.thread) ≤ 1 = in_hand (inr (ap (λ (w : Holding). link (s.heap (ColourOf w.free_hand))) is ∙ last)) in
-      let held : length (s.holds s.thread).held ≡ length b.held = ap (λ (w : Holding). length w.held) is in
-      let reserved : (s.holds s.thread).reserved ≡ b.blocks = ap (λ (w : Holding). w.reserved) is in
+  finds (Collect list u) is row = λ few last dry. (
+      let one : length (free.private_lists s.thread) ≤ 1 = in_hand (inr (ap (λ (w : WorkInHand). link (s.heap (ColourOf w.free_list))) is ∙ last)) in
+      let held : length (s.holds s.thread).held ≡ length b.held = ap (λ (w : WorkInHand). length w.held) is in
+      let reserved : (s.holds s.thread).reserved ≡ b.blocks = ap (λ (w : WorkInHand). w.reserved) is in
       rest dry (omega (arith, one, held, reserved, few)))
   finds _ is row = tt
 

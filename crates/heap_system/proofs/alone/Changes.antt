@@ -20,16 +20,16 @@ use Rattle.heap_system.specs.Locals.{LocalState, command_of, is_rest, is_done, e
 use Rattle.heap_system.specs.Machines.{Run, IsJob, local_at, heap_in, next, has_event, word_read}
 use Rattle.heap_system.specs.Rounds.{turns_phase, flips_or_starts}
 use Rattle.heap_system.specs.Units.{is_unit}
-use Rattle.heap_system.proofs.Always.{turn_kept}
-use Rattle.heap_system.proofs.FlipAndStart.{phase_same}
-use Rattle.heap_system.proofs.Kept.{Kept}
-use Rattle.heap_system.proofs.LawsOf.{laws_of}
-use Rattle.heap_system.proofs.KeptByTurns.{word_is, next_is}
-use Rattle.heap_system.proofs.WaitingTurns.{done_stays}
+use Rattle.heap_system.proofs.invariant.InvariantHolds.{turn_kept}
+use Rattle.heap_system.proofs.step_rows.FlipAndStart.{phase_same}
+use Rattle.heap_system.proofs.invariant.Invariant.{Kept}
+use Rattle.heap_system.proofs.step_rows.LawsOfParts.{laws_of}
+use Rattle.heap_system.proofs.invariant.InvariantByTurns.{word_is, next_is}
+use Rattle.heap_system.proofs.work.WaitingTurns.{done_stays}
 use Rattle.heap_system.proofs.alone.Runs
 use Rattle.heap_system.proofs.alone.LoneThread.{spot_of, gate_spot, lone_of, is_out}
 
--- behind a change of phase the next pass will make a unit
+-- after a change of phase the next pass will make a unit
 turned_fresh : (s z : Lone) (sweep : Bool) → Turns s z sweep → Fresh z.spot z
 turned_fresh s z sweep move = subst (λ (q : Lone). Fresh q.spot q) (sym move.1) (refl, move.0)
 
@@ -224,7 +224,7 @@ module _ (c : Config) (traces : List (List Command)) (job : IsJob c traces) (rat
   at_work (suc i) r kept work =
       at_work i (next c t r) (turn_kept c traces (laws_of c) job r kept t) (still_at_work r kept work)
 
-  -- behind a change of the phase a unit comes before the next
+  -- after a change of the phase a unit comes before the next
   unit_after : (d : ℕ) (r : Run) → Kept c traces r → AtWork r → ChangesPhase c t r 0 → ChangesPhase c t r (suc d)
       → (m : ℕ) × (m < d) × (is_unit c t (after_alone c t (next c t r) m).state ≡ true)
   unit_after d r kept (inr done) one other =

@@ -15,7 +15,7 @@ use Rattle.block_store.specs.Configs.{IsInBounds}
 use Rattle.block_store.specs.Payloads.{target}
 use Rattle.block_store.specs.Places.{extent}
 use Rattle.block_store.specs.Widths.{payloads as payloads_of}
-use Rattle.block_store.proofs.Registers.{many}
+use Rattle.block_store.proofs.Lemmas.{many}
 use Rattle.object_lists.specs.Records.{record_blocks, record_slot}
 use Rattle.array_trees.specs.Levels.{array_depth, level}
 use Rattle.array_trees.specs.Trees.{array_blocks, leaves}
@@ -51,18 +51,18 @@ errand_left (commands.Cas s i a v) = 4
 errand_left (commands.Swap s i v) = 9
 errand_left _ = 6
 
--- in a barrier, with the store behind it
+-- in a barrier, with the store after it
 abbrev pub barrier_left : GreyRow → ℕ
 barrier_left (greys.TakeOwn y) = 4
-barrier_left (greys.ShadeStored y hand) = 3
+barrier_left (greys.ShadeStored y list) = 3
 barrier_left _ = 2
 
--- and behind that store
+-- and after that store
 abbrev pub after_left : FieldStore → ℕ
 after_left (Exchanged way word) = 5
 after_left _ = 0
 
--- Behind the object's shape: the registers that are stored and compared, the way, and the errand.
+-- After the object's shape: the registers that are stored and compared, the way, and the errand.
 abbrev pub behind_shape : Config → Command → ℕ
 behind_shape c (commands.Get d s i) = most_links c i + 6
 behind_shape c (commands.Put s i v) = most_links c i + 5
@@ -168,16 +168,16 @@ module _ (c : Config) (p : Pass) where
   said_next k w (payloads.Block x) = omega arith
 
   -- a barrier comes to its store
-  stored_next : (k : Command) (y hand : ℕ) (s : FieldStore) → L k (in_barrier (marking.after_stored y hand) s) ≤ 2 + after_left s
-  stored_next k y hand s = elim (cases_Bool (eqb hand 0)) [
+  stored_next : (k : Command) (y list : ℕ) (s : FieldStore) → L k (in_barrier (marking.after_stored y list) s) ≤ 2 + after_left s
+  stored_next k y list s = elim (cases_Bool (eqb list 0)) [
     | inl q ↦ rw q (omega arith)
     | inr q ↦ rw q (omega arith)
   ]
 
   barrier_next : (k : Command) (r : GreyRow) (s : FieldStore) (n w : ℕ) → block_stored r ≢ 0 → L k (in_barrier (marking.row_got n p.threads p.cycle r w) s) < barrier_left r + after_left s
   barrier_next k (greys.TakeOwn y) s n w some = omega arith
-  barrier_next k (greys.ShadeStored y hand) s n w some = omega (arith, stored_next k y (marking.shaded_hand p.cycle y hand w) s)
-  barrier_next k (greys.PutOwn y hand) s n w some = omega arith
+  barrier_next k (greys.ShadeStored y list) s n w some = omega (arith, stored_next k y (marking.shaded_list p.cycle y list w) s)
+  barrier_next k (greys.PutOwn y list) s n w some = omega arith
   barrier_next k (greys.Shaded y) s n w some = omega arith
   barrier_next k _ s n w some = absurd (some refl)
 

@@ -6,15 +6,15 @@ use Rattle.block_store.specs.declared.PhaseWord.{PhaseWord}
 use Rattle.block_store.specs.Heaps.{Heap, put_at}
 use Rattle.block_store.specs.Phases.{is_sweep, cycle_of}
 use Rattle.block_store.specs.Places.{Phase, Cursor}
-use Rattle.block_store.proofs.PhaseWords.{phase-less}
+use Rattle.block_store.proofs.Lemmas.{phase-less}
 use Rattle.never_heap.specs.Steps.{blocks_of}
 use Rattle.heap_machine.specs.Gating.{Gating, Inside, is_outside}
 use Rattle.heap_machine.specs.declared.gate.GateRow.{GateRow}
 use Rattle.heap_machine.specs.declared.gate.GateRow.TheVariants as gates
-use Rattle.heap_machine.proofs.Gatings.{inside_some, entered_phase}
+use Rattle.heap_machine.proofs.Lemmas.{entered_phase, inside_some}
 use Rattle.rate_plan.specs.solo_bound.Moves.{Spot}
-use Rattle.heap_system.specs.Parts.{Rest, Enter, Retry, ToChange}
-use Rattle.heap_system.proofs.SeenAndKept.{Seen}
+use Rattle.heap_system.specs.Parts.{Rest, Enter, Retry, LeaveToChangePhase}
+use Rattle.heap_system.proofs.invariant.SeenAndKept.{Seen}
 use Rattle.heap_system.proofs.alone.Heads.{same_lone, open_here, has_pass}
 use Rattle.heap_system.proofs.alone.LoneThread.{ready_now, some, grey_heads, LoneStep, LoneLaw}
 
@@ -45,10 +45,10 @@ again_lone c s is alone event known = record {
   moves = (refl, refl);
 }
 
-pub idle_lone : (c : Config) → LoneLaw c ToChange
+pub idle_lone : (c : Config) → LoneLaw c LeaveToChangePhase
 idle_lone c s is alone event known =
     let same = less_inside c s (ap (λ (g : Gating). g.stand) is.gating) in
-    let pass = has_pass c s ToChange is.gating refl in
+    let pass = has_pass c s LeaveToChangePhase is.gating refl in
     record {
       goes = refl;
       out = refl;

@@ -4,11 +4,11 @@ use Rattle.std.proofs.lemmas.Bool.{cases_eq}
 use Rattle.block_store.specs.Phases.{bit, inside_of, is_closed}
 use Rattle.block_store.specs.Places.{Phase}
 use Rattle.block_store.specs.declared.Config.{Config}
-use Rattle.block_store.proofs.Functions.{total_none, bit_zero}
+use Rattle.block_store.proofs.Lemmas.{bit_zero, total_none}
 use Rattle.heap_machine.specs.Gating.{Stand, Gating, Outside, Inside, Closing, is_outside, is_inside, is_closing}
 use Rattle.heap_system.specs.Parts.{Part}
 use Rattle.heap_system.specs.Pictures.{gating, stand_of}
-use Rattle.heap_system.proofs.SeenAndKept.{Seen}
+use Rattle.heap_system.proofs.invariant.SeenAndKept.{Seen}
 use Rattle.heap_system.proofs.alone.LoneThread.{some, IsOfPass, Alone}
 use Rattle.rate_plan.specs.solo_bound.Moves.{Spot, Lone}
 
@@ -30,7 +30,7 @@ some_same f g (suc n) i same =
     let rest = some_same f g n (i + 1) (λ v low up. same v (omega arith) (omega arith)) in
     rw (first, rest) refl
 
--- behind a number that is 0
+-- after a number that is 0
 pub some_next : (f : ℕ → ℕ) (n i : ℕ) → f i ≡ 0 → 0 < n → some f i n ≡ some f (i + 1) (n - 1)
 some_next f zero i none more = absurd (omega arith)
 some_next f (suc n) i none more =

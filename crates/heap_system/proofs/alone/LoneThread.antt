@@ -1,4 +1,4 @@
--- Where a thread stands that alone has turns, what it knows of the heap there, and what one of its
+-- Where a thread is that alone has turns, what it knows of the heap there, and what one of its
 -- turns is to do.
 use Rattle.std.proofs.Common.{◌≡◌, ℕ, zero, suc, ◌+◌, ◌-◌, ◌<◌, Bool, true, false, not, cond, eqb, ltb, ◌||◌, length, is_some}
 use Rattle.block_store.specs.declared.Config.{Config}
@@ -25,10 +25,10 @@ use Rattle.build_steps.specs.Rows.{BuildState}
 use Rattle.build_steps.specs.declared.rows.BuildRow.{BuildRow}
 use Rattle.build_steps.specs.declared.rows.BuildRow.TheVariants as builds
 use Rattle.rate_plan.specs.solo_bound.Moves.{Spot, Lone, Terms, Moves}
-use Rattle.heap_system.specs.Parts.{Part, Rest, Enter, Serve, Mark, Sweep, Build, Retry, ToChange, PhaseChange, Leave}
+use Rattle.heap_system.specs.Parts.{Part, Rest, Enter, Access, Mark, Sweep, Build, Retry, LeaveToChangePhase, PhaseChange, Leave}
 use Rattle.heap_system.specs.Locals.{effect, part_want, part_got, pass_got, spent_got, waits}
-use Rattle.heap_system.proofs.PartLaws.{AtPart, PartEvent, word_at}
-use Rattle.heap_system.proofs.SeenAndKept.{Seen, errand}
+use Rattle.heap_system.proofs.step_rows.PartLaws.{AtPart, PartEvent, word_at}
+use Rattle.heap_system.proofs.invariant.SeenAndKept.{Seen, errand}
 use Rattle.heap_system.proofs.alone.FieldsLeft.{field_left}
 use Rattle.heap_system.proofs.alone.ObjectSizes.{ObjectsAreLow}
 
@@ -42,7 +42,7 @@ terms_of c k = record {
   most = field_left c k (first_row k);
 }
 
--- where the rows stand
+-- where the rows are
 abbrev pub gate_spot : GateRow → Spot
 gate_spot gates.Look = Spot.Look
 gate_spot (gates.Enter seen) = Spot.Enter
@@ -51,27 +51,27 @@ gate_spot (gates.Close p seen) = Spot.Close
 gate_spot (gates.CheckList p u) = Spot.Check u
 gate_spot (gates.SetCursor p) = Spot.SetCursor
 gate_spot (gates.Flip p) = Spot.Flip
-gate_spot (gates.ShadeRoot p u hand) = Spot.ShadeRoot u
-gate_spot (gates.PutRoots p hand) = Spot.PutRoots
+gate_spot (gates.ShadeRoot p u list) = Spot.ShadeRoot u
+gate_spot (gates.PutRoots p list) = Spot.PutRoots
 gate_spot (gates.Start p) = Spot.Start
 gate_spot _ = Spot.Over
 
 abbrev pub grey_spot : GreyRow → Spot
 grey_spot (greys.Take u) = Spot.Take u
-grey_spot (greys.Pop hand) = Spot.Pop
-grey_spot (greys.ScanWord x j hand) = Spot.Scan j
-grey_spot (greys.Shade x j y hand) = Spot.Shade j
-grey_spot (greys.Blacken x hand) = Spot.Blacken
-grey_spot (greys.Put hand) = Spot.PutGrey
+grey_spot (greys.Pop list) = Spot.Pop
+grey_spot (greys.ScanWord x j list) = Spot.Scan j
+grey_spot (greys.Shade x j y list) = Spot.Shade j
+grey_spot (greys.Blacken x list) = Spot.Blacken
+grey_spot (greys.Put list) = Spot.PutGrey
 grey_spot _ = Spot.Over
 
 abbrev pub sweep_spot : SweepRow → Spot
 sweep_spot sweeps.ReadCursor = Spot.ReadCursor
 sweep_spot (sweeps.ClaimRange x high) = Spot.Claim (high - x)
-sweep_spot (sweeps.PassBlock x high passed hand freed) = Spot.Pass (high - x) (ltb 0 freed)
+sweep_spot (sweeps.PassBlock x high passed list freed) = Spot.Pass (high - x) (ltb 0 freed)
 sweep_spot (sweeps.TakeFree x high passed) = Spot.TakeFree (high - x)
-sweep_spot (sweeps.FreeBlock x high passed hand freed) = Spot.Free (high - x)
-sweep_spot (sweeps.PutFree hand passed freed) = Spot.PutFree
+sweep_spot (sweeps.FreeBlock x high passed list freed) = Spot.Free (high - x)
+sweep_spot (sweeps.PutFree list passed freed) = Spot.PutFree
 sweep_spot (sweeps.Credit passed freed) = Spot.Credit
 sweep_spot _ = Spot.Over
 
@@ -81,8 +81,8 @@ abbrev pub build_spot : Width → ℕ → BuildRow → Spot
 build_spot w h builds.ReadCount = Spot.Count
 build_spot w h (builds.Reserve seen) = Spot.Reserve
 build_spot w h (builds.TakeFree u) = Spot.Grab u h
-build_spot w h (builds.Collect hand u) = Spot.Collect u h
-build_spot w h (builds.PutRest hand) = Spot.PutRest
+build_spot w h (builds.Collect list u) = Spot.Collect u h
+build_spot w h (builds.PutRest list) = Spot.PutRest
 build_spot w h (builds.WriteOwner o) = Spot.Write o 0
 build_spot w h (builds.WriteShape o) = Spot.Write o 1
 build_spot w h (builds.WritePayload o j) = Spot.Write o (j + 2)
@@ -93,12 +93,12 @@ build_spot w h _ = Spot.Over
 abbrev pub spot_of : Config → Part → Spot
 spot_of c Rest = Spot.Look
 spot_of c (Enter g) = gate_spot g
-spot_of c (Serve f) = Spot.Serve (field_left c f.command f.row)
+spot_of c (Access f) = Spot.Access (field_left c f.command f.row)
 spot_of c (Mark m) = grey_spot m.row
 spot_of c (Sweep s) = sweep_spot s.row
 spot_of c (Build b) = build_spot c.width (length b.held) b.row
 spot_of c Retry = Spot.Leave
-spot_of c ToChange = Spot.LeaveNone
+spot_of c LeaveToChangePhase = Spot.LeaveNone
 spot_of c (PhaseChange g) = gate_spot g
 spot_of c Leave = Spot.LeaveDone
 
@@ -164,8 +164,8 @@ GateKnows c h t q due paid (gates.CheckList p u) = (paid < due) × NoGrey c h
 GateKnows c h t q due paid (gates.SetCursor p) = paid < due
 GateKnows c h t q due paid (gates.Flip p) = paid < due
 GateKnows c h t q due paid (gates.Reopen p) = ⊥
-GateKnows c h t q due paid (gates.ShadeRoot p u hand) = (paid < due) × NoGrey c h
-GateKnows c h t q due paid (gates.PutRoots p hand) = (paid < due) × (0 < hand) × NoGrey c h
+GateKnows c h t q due paid (gates.ShadeRoot p u list) = (paid < due) × NoGrey c h
+GateKnows c h t q due paid (gates.PutRoots p list) = (paid < due) × (0 < list) × NoGrey c h
 GateKnows c h t q due paid (gates.Start p) =
     (paid < due) × (0 < h (GreyList t)) × OthersDry c h t
 GateKnows c h t q due paid _ = Unit {0}
@@ -181,7 +181,7 @@ SweepKnows h _ = Unit {0}
 abbrev pub BuildKnows : Config → Heap → ℕ → BuildRow → Type 0
 BuildKnows c h t (builds.Reserve seen) = seen ≡ h FreeCount
 BuildKnows c h t (builds.TakeFree u) = (v : ℕ) → v < u → free_heads c h t v ≡ 0
-BuildKnows c h t (builds.Collect hand u) = (v : ℕ) → v < u + 1 → free_heads c h t v ≡ 0
+BuildKnows c h t (builds.Collect list u) = (v : ℕ) → v < u + 1 → free_heads c h t v ≡ 0
 BuildKnows c h t _ = Unit {0}
 
 abbrev pub LoneKnows : Config → Heap → ℕ → Pass → ℕ → ℕ → Part → Type 0
@@ -189,7 +189,7 @@ LoneKnows c h t q due paid (Enter g) = GateKnows c h t q due paid g
 LoneKnows c h t q due paid (Mark m) = GreyKnows c h t m.row
 LoneKnows c h t q due paid (Sweep s) = SweepKnows h s.row
 LoneKnows c h t q due paid (Build b) = BuildKnows c h t b.row
-LoneKnows c h t q due paid ToChange = (paid < due) × IsDry c h q
+LoneKnows c h t q due paid LeaveToChangePhase = (paid < due) × IsDry c h q
 LoneKnows c h t q due paid (PhaseChange g) = GateKnows c h t q due paid g
 LoneKnows c h t q due paid _ = Unit {0}
 

@@ -10,12 +10,12 @@ use Rattle.block_store.specs.Widths.{payloads}
 use Rattle.heap_machine.specs.declared.pass.Pass.{Pass}
 use Rattle.grey_steps.specs.declared.rows.GreyRow.{GreyRow}
 use Rattle.grey_steps.specs.declared.rows.GreyRow.TheVariants as greys
-use Rattle.grey_steps.specs.Rows.{GreyState, list_of, after_word, shaded_hand, grey_over, grey_nothing}
+use Rattle.grey_steps.specs.Rows.{GreyState, list_of, after_word, shaded_list, grey_over, grey_nothing}
 use Rattle.grey_steps.proofs.MarkUnits.{each_list}
 use Rattle.rate_plan.specs.solo_bound.Moves.{Spot, Lone, Dealt}
 use Rattle.heap_system.specs.Parts.{Part, Mark}
 use Rattle.heap_system.specs.Locals.{if_over}
-use Rattle.heap_system.proofs.SeenAndKept.{Seen}
+use Rattle.heap_system.proofs.invariant.SeenAndKept.{Seen}
 use Rattle.heap_system.proofs.alone.Heads.{some_none, some_first, some_next, some_same, same_lone, has_pass}
 use Rattle.heap_system.proofs.alone.LoneThread.{terms_of, some, grey_heads, lone_of, NoGrey, LoneStep, LoneLaw, LoneKnows, is_out, heap_left}
 
@@ -33,10 +33,10 @@ all_none c h t low none v vl =
     ap (λ x. h (GreyList x)) (sym at.2) ∙ none at.0 at.1
 
 -- after a payload word was dealt with, by whether there are more
-after_each : (P : GreyRow → Type 0) (width x j hand : ℕ)
-    → (j + 1 < width → P (greys.ScanWord x (j + 1) hand))
-    → (width ≤ j + 1 → P (greys.Blacken x hand)) → P (after_word width x j hand)
-after_each P width x j hand more last = elim (cases_Bool (ltb (j + 1) width)) [
+after_each : (P : GreyRow → Type 0) (width x j list : ℕ)
+    → (j + 1 < width → P (greys.ScanWord x (j + 1) list))
+    → (width ≤ j + 1 → P (greys.Blacken x list)) → P (after_word width x j list)
+after_each P width x j list more last = elim (cases_Bool (ltb (j + 1) width)) [
   | inl e ↦ rw e (more (ltb-true (j + 1) width e))
   | inr e ↦ rw e (last (ltb-false (j + 1) width e))
 ]
@@ -136,36 +136,36 @@ module _ (c : Config) (s : Seen c) (low : s.spent < s.due) where
         ])
 
   -- after payload j was dealt with, on any heap
-  deals : (p : Pass) (x j hand : ℕ) (l : Lone) (h : Heap) → l.owed ≡ s.due - s.spent
+  deals : (p : Pass) (x j list : ℕ) (l : Lone) (h : Heap) → l.owed ≡ s.due - s.spent
       → j < payloads c.width
       → Dealt (terms_of c s.command) l
-      (lone_of c h s.thread (s.due - s.spent) (To p (after_word (payloads c.width) x j hand))) j
-  deals p x j hand l h same jl =
+      (lone_of c h s.thread (s.due - s.spent) (To p (after_word (payloads c.width) x j list))) j
+  deals p x j list l h same jl =
       after_each (λ r. Dealt (terms_of c s.command) l (lone_of c h s.thread (s.due - s.spent) (To p r)) j)
-      (payloads c.width) x j hand (λ more. inr (more, (refl, sym same)))
+      (payloads c.width) x j list (λ more. inr (more, (refl, sym same)))
       (λ last. (let e : j + 1 ≡ payloads c.width = omega arith in inl (e, (refl, sym same))))
 
   -- where it leads to a row of the pass
-  stays_in : (p : Pass) (h : Heap) (paid x j hand : ℕ)
-      → (is_out (To p (after_word (payloads c.width) x j hand)) ≡ false)
-      × LoneKnows c h s.thread s.pass s.due paid (To p (after_word (payloads c.width) x j hand))
-  stays_in p h paid x j hand =
+  stays_in : (p : Pass) (h : Heap) (paid x j list : ℕ)
+      → (is_out (To p (after_word (payloads c.width) x j list)) ≡ false)
+      × LoneKnows c h s.thread s.pass s.due paid (To p (after_word (payloads c.width) x j list))
+  stays_in p h paid x j list =
       after_each (λ r. (is_out (To p r) ≡ false) × LoneKnows c h s.thread s.pass s.due paid (To p r))
-      (payloads c.width) x j hand (λ z. (refl, tt)) (λ z. (refl, tt))
+      (payloads c.width) x j list (λ z. (refl, tt)) (λ z. (refl, tt))
 
-  scans : (p : Pass) (x j hand : ℕ) → j < payloads c.width
-      → LoneStep c s (At p (greys.ScanWord x j hand))
-  scans p x j hand jl =
-      let here = lone_of c s.heap s.thread (s.due - s.spent) (At p (greys.ScanWord x j hand)) in
+  scans : (p : Pass) (x j list : ℕ) → j < payloads c.width
+      → LoneStep c s (At p (greys.ScanWord x j list))
+  scans p x j list jl =
+      let here = lone_of c s.heap s.thread (s.due - s.spent) (At p (greys.ScanWord x j list)) in
       elim (cases_eq (target (s.heap (PayloadOf x j))) 0) [
         | inl e ↦
             let none = eq-eqb (target (s.heap (PayloadOf x j))) 0 e in
-            let in_pass = stays_in p s.heap s.spent x j hand in
+            let in_pass = stays_in p s.heap s.spent x j list in
             record {
               goes = refl;
               out = rw none in_pass.0;
               knows = rw none in_pass.1;
-              moves = rw none (jl, inr (deals p x j hand here s.heap refl jl));
+              moves = rw none (jl, inr (deals p x j list here s.heap refl jl));
             }
         | inr ne ↦
             let found = ne_eqb (target (s.heap (PayloadOf x j))) 0 ne in
@@ -177,26 +177,26 @@ module _ (c : Config) (s : Seen c) (low : s.spent < s.due) where
             }
       ]
 
-  shades : (p : Pass) (x j y hand : ℕ) → j < payloads c.width
-      → LoneStep c s (At p (greys.Shade x j y hand))
-  shades p x j y hand jl =
+  shades : (p : Pass) (x j y list : ℕ) → j < payloads c.width
+      → LoneStep c s (At p (greys.Shade x j y list))
+  shades p x j y list jl =
       let w = s.heap (ColourOf y) in
-      let later = heap_left c s (At p (greys.Shade x j y hand)) in
-      let in_pass = stays_in p later s.spent x j (shaded_hand p.cycle y hand w) in
+      let later = heap_left c s (At p (greys.Shade x j y list)) in
+      let in_pass = stays_in p later s.spent x j (shaded_list p.cycle y list w) in
       record {
         goes = refl;
         out = in_pass.0;
         knows = in_pass.1;
-        moves = deals p x j (shaded_hand p.cycle y hand w)
-            (lone_of c s.heap s.thread (s.due - s.spent) (At p (greys.Shade x j y hand)))
+        moves = deals p x j (shaded_list p.cycle y list w)
+            (lone_of c s.heap s.thread (s.due - s.spent) (At p (greys.Shade x j y list)))
             later refl jl;
       }
 
   -- the unit is paid
-  blackens : (p : Pass) (x hand : ℕ) → LoneStep c s (At p (greys.Blacken x hand))
-  blackens p x hand =
+  blackens : (p : Pass) (x list : ℕ) → LoneStep c s (At p (greys.Blacken x list))
+  blackens p x list =
       let less : suc (s.due - (s.spent + 1)) ≡ s.due - s.spent = omega arith in
-      elim (cases_Bool (eqb hand 0)) [
+      elim (cases_Bool (eqb list 0)) [
         | inl e ↦ record {
           goes = refl;
           out = rw e refl;
@@ -218,15 +218,15 @@ at_row c p (greys.Take u) s is alone event known =
     let paid = is.pays in
     takes c s (omega arith) p is.part.thread is.fits.0.threads (phase.1 ∙ is.part.mark) u
     is.fits.0.row known
-at_row c p (greys.Pop hand) s is alone event known =
+at_row c p (greys.Pop list) s is alone event known =
     record { goes = refl; out = refl; knows = tt; moves = (refl, refl) }
-at_row c p (greys.ScanWord x j hand) s is alone event known =
-    let paid = is.pays in scans c s (omega arith) p x j hand is.fits.0.row.1
-at_row c p (greys.Shade x j y hand) s is alone event known =
-    let paid = is.pays in shades c s (omega arith) p x j y hand is.fits.0.row.1
-at_row c p (greys.Blacken x hand) s is alone event known =
-    let paid = is.pays in blackens c s (omega arith) p x hand
-at_row c p (greys.Put hand) s is alone event known =
+at_row c p (greys.ScanWord x j list) s is alone event known =
+    let paid = is.pays in scans c s (omega arith) p x j list is.fits.0.row.1
+at_row c p (greys.Shade x j y list) s is alone event known =
+    let paid = is.pays in shades c s (omega arith) p x j y list is.fits.0.row.1
+at_row c p (greys.Blacken x list) s is alone event known =
+    let paid = is.pays in blackens c s (omega arith) p x list
+at_row c p (greys.Put list) s is alone event known =
     record { goes = refl; out = refl; knows = tt; moves = (refl, refl) }
 at_row c p greys.Scanned s is alone event known =
     absurd (let z : true ≡ false = is.part.going in cc)

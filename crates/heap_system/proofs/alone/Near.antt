@@ -13,9 +13,9 @@ use Rattle.rate_plan.proofs.Rates.{opening_room}
 use Rattle.never_heap.specs.declared.Command.{Command}
 use Rattle.never_heap.specs.declared.Command.TheVariants as commands
 use Rattle.never_heap.specs.declared.Entry.{Entry}
-use Rattle.never_heap.specs.RightWork.{units_owed, units_told}
+use Rattle.never_heap.specs.RightWork.{units_owed, requested_units}
 use Rattle.never_heap.specs.Steps.{blocks_of}
-use Rattle.never_heap.proofs.StepAnswers.{blocks_untold, owes_told}
+use Rattle.never_heap.proofs.Lemmas.{blocks_untold, owes_told}
 use Rattle.barrier_steps.specs.Operands.{is_idle}
 use Rattle.rate_plan.specs.solo_bound.Moves.{Look}
 use Rattle.rate_plan.specs.solo_bound.Near.{Keeps, farthest, near_at, near_bound, near_left, near_other_bound}
@@ -25,9 +25,9 @@ use Rattle.heap_system.specs.Parts.{Part, Rest, Leave}
 use Rattle.heap_system.specs.Alone.{IsQuiet, HasCommand, EndsWithin, command_bound, command_near, most_events}
 use Rattle.heap_system.specs.Locals.{LocalState, command_of, owed, is_done}
 use Rattle.heap_system.specs.Machines.{Run, IsJob, local_at, local_in, heap_in, next}
-use Rattle.heap_system.proofs.Kept.{Kept}
-use Rattle.heap_system.proofs.LawsOf.{laws_of}
-use Rattle.heap_system.proofs.KeptByTurns.{at_part, event, next_is}
+use Rattle.heap_system.proofs.invariant.Invariant.{Kept}
+use Rattle.heap_system.proofs.step_rows.LawsOfParts.{laws_of}
+use Rattle.heap_system.proofs.invariant.InvariantByTurns.{at_part, event, next_is}
 use Rattle.heap_system.proofs.alone.WorkLeft.{scene_of, far_of, far_few, keep_law}
 use Rattle.heap_system.proofs.alone.Runs
 use Rattle.heap_system.proofs.alone.FieldsLeft.{events_few, fields_first}
@@ -155,7 +155,7 @@ pub makes_near : (c : Config) (k : Command) (rate : ℕ) → 0 < blocks_of c.wid
 makes_near c k rate some = rw (lt-ltb 0 (blocks_of c.width k) some) refl
 
 pub serves_near : (c : Config) (k : Command) (rate : ℕ) → blocks_of c.width k ≡ 0 → command_near c rate k
-    ≡ near_other_bound c.threads (payloads c.width) c.blocks (units_told k) (most_events c k)
+    ≡ near_other_bound c.threads (payloads c.width) c.blocks (requested_units k) (most_events c k)
 serves_near c k rate none = rw (le-ltb 0 (blocks_of c.width k) (omega (arith, none))) refl
 
 -- what is left at the look is within it
@@ -172,13 +172,13 @@ priced c k rate o room far sweep bounds is few = elim (cases_lt 0 (blocks_of c.w
       (lt-ltb 0 (blocks_of c.width k) some) few))
   | inr none ↦
       let zero_is : blocks_of c.width k ≡ 0 = omega (arith, none) in
-      let same : o ≡ units_told k = is ∙ owes_told c.width rate k zero_is in
+      let same : o ≡ requested_units k = is ∙ owes_told c.width rate k zero_is in
       let first = fields_first c k in
-      let low = near_other (terms_of c k) c.blocks (wide c.width).0 bounds.some_block (units_told k) room far sweep
+      let low = near_other (terms_of c k) c.blocks (wide c.width).0 bounds.some_block (requested_units k) room far sweep
       (le-ltb 0 (blocks_of c.width k) none) few in
       subst (λ n. near_at (terms_of c k) c.blocks Look o sweep room far ≤ n) (sym (serves_near c k rate zero_is))
       (subst (λ d. near_at (terms_of c k) c.blocks Look d sweep room far
-      ≤ near_other_bound c.threads (payloads c.width) c.blocks (units_told k) (most_events c k)) (sym same)
+      ≤ near_other_bound c.threads (payloads c.width) c.blocks (requested_units k) (most_events c k)) (sym same)
       (omega (arith, low, first)))
 ]
 
@@ -249,16 +249,16 @@ stated c k rate bounds plan = elim (cases_lt 0 (blocks_of c.width k)) [
       subst (λ n. n ≤ command_bound c rate k) (sym (serves_near c k rate zero_is))
       (elim (cases_Bool (is_idle k)) [
         | inl idle ↦
-            let bound : command_bound c rate k ≡ idle_bound c.threads (units_told k) =
+            let bound : command_bound c rate k ≡ idle_bound c.threads (requested_units k) =
             rw (le-ltb 0 (blocks_of c.width k) none, idle) refl in
-            subst (λ n. near_other_bound c.threads (payloads c.width) c.blocks (units_told k) (most_events c k) ≤ n) (sym bound)
-            (subst (λ e. near_other_bound c.threads (payloads c.width) c.blocks (units_told k) e ≤ idle_bound c.threads (units_told k)) (sym (idle_events c k idle))
-            (idle_within c.threads c.blocks (payloads c.width) (units_told k) bounds.threads (wide c.width).1 more bounds.some_block))
+            subst (λ n. near_other_bound c.threads (payloads c.width) c.blocks (requested_units k) (most_events c k) ≤ n) (sym bound)
+            (subst (λ e. near_other_bound c.threads (payloads c.width) c.blocks (requested_units k) e ≤ idle_bound c.threads (requested_units k)) (sym (idle_events c k idle))
+            (idle_within c.threads c.blocks (payloads c.width) (requested_units k) bounds.threads (wide c.width).1 more bounds.some_block))
         | inr other ↦
             let bound : command_bound c rate k ≡ other_bound c.object =
             rw (le-ltb 0 (blocks_of c.width k) none, other) refl in
             let few = events_few c k bounds in
-            subst (λ n. near_other_bound c.threads (payloads c.width) c.blocks (units_told k) (most_events c k) ≤ n) (sym bound)
+            subst (λ n. near_other_bound c.threads (payloads c.width) c.blocks (requested_units k) (most_events c k) ≤ n) (sym bound)
             (subst (λ u. near_other_bound c.threads (payloads c.width) c.blocks u (most_events c k) ≤ other_bound c.object) (sym (untold k other))
             (omega arith))
       ])

@@ -7,12 +7,11 @@ use Rattle.block_store.specs.Counts.{times, total}
 use Rattle.block_store.specs.Heaps.{Heap}
 use Rattle.block_store.specs.Phases.{bit}
 use Rattle.block_store.specs.Places.{Extent, FreeList, ColourOf, is_block}
-use Rattle.block_store.proofs.Functions.{total_none, total_part, total_same}
-use Rattle.block_store.proofs.Totals.{total_plus, all_times}
+use Rattle.block_store.proofs.Lemmas.{all_times, total_none, total_part, total_plus, total_same}
 use Rattle.block_store.proofs.Indexes.{block_is}
 use Rattle.heap_machine.specs.Chains.{Chain}
-use Rattle.heap_machine.specs.FreeBlocks.{FreeHolding, no_free, count_free, FreeKept}
-use Rattle.heap_machine.proofs.ChainLaws.{Chain-zero}
+use Rattle.heap_machine.specs.FreeBlocks.{FreeInHand, no_free, count_free, FreeKept}
+use Rattle.heap_machine.proofs.Lemmas.{Chain-zero}
 use Rattle.build_steps.specs.Rows.{list_of}
 
 -- a sum of which one part is left
@@ -53,7 +52,7 @@ chain_of_one c a (x ∷ xs) chain last =
 pub chain_of_none : (c : ℕ → ℕ) (a : ℕ) (xs : List ℕ) → Chain c a xs → a ≡ 0 → length xs ≡ 0
 chain_of_none c a xs chain none = ap length (Chain-zero c xs (subst (λ v. Chain c v xs) none chain))
 
-module _ (e : Extent) (h : Heap) (fs : ℕ → FreeHolding) (k : FreeKept e h fs) (t : ℕ) (tl : t < e.threads)
+module _ (e : Extent) (h : Heap) (fs : ℕ → FreeInHand) (k : FreeKept e h fs) (t : ℕ) (tl : t < e.threads)
     (others : (u : ℕ) → u < e.threads → (t ≡ u → ⊥) → fs u ≡ no_free)
     (dry : (u : ℕ) → u < e.threads → h (FreeList u) ≡ 0) where
   abbrev colour : ℕ → ℕ
@@ -63,29 +62,29 @@ module _ (e : Extent) (h : Heap) (fs : ℕ → FreeHolding) (k : FreeKept e h fs
   in_lists x = total_none e.threads (λ u. times x (k.lists u))
       (λ u ul. ap (times x) (Chain-zero colour (k.lists u) (subst (λ v. Chain colour v (k.lists u)) (dry u ul) (k.list_chain u ul))))
 
-  in_hands : (x : ℕ) → total e.threads (λ u. times x (k.hands u)) ≡ times x (k.hands t)
-  in_hands x = total_one e.threads (λ u. times x (k.hands u)) t tl
-      (λ u ul ne. ap (times x) (Chain-zero colour (k.hands u) (subst (λ v. Chain colour v (k.hands u)) (ap (λ (w : FreeHolding). w.hand) (others u ul ne)) (k.hand_chain u ul))))
+  in_private_lists : (x : ℕ) → total e.threads (λ u. times x (k.private_lists u)) ≡ times x (k.private_lists t)
+  in_private_lists x = total_one e.threads (λ u. times x (k.private_lists u)) t tl
+      (λ u ul ne. ap (times x) (Chain-zero colour (k.private_lists u) (subst (λ v. Chain colour v (k.private_lists u)) (ap (λ (w : FreeInHand). w.list) (others u ul ne)) (k.private_chain u ul))))
 
   are_held : (x : ℕ) → total e.threads (λ u. times x (fs u).held) ≡ times x (fs t).held
-  are_held x = total_one e.threads (λ u. times x (fs u).held) t tl (λ u ul ne. ap (λ (w : FreeHolding). times x w.held) (others u ul ne))
+  are_held x = total_one e.threads (λ u. times x (fs u).held) t tl (λ u ul ne. ap (λ (w : FreeInHand). times x w.held) (others u ul ne))
 
-  free_here : (x : ℕ) → x < e.blocks → bit (is_free (colour (suc x))) ≡ times (suc x) (k.hands t) + times (suc x) (fs t).held
+  free_here : (x : ℕ) → x < e.blocks → bit (is_free (colour (suc x))) ≡ times (suc x) (k.private_lists t) + times (suc x) (fs t).held
   free_here x xl =
       let block : is_block e (suc x) ≡ true = block_is e (suc x) (omega arith) (omega arith) in
       let free : bit (is_block e (suc x) && is_free (colour (suc x))) ≡ bit (is_free (colour (suc x))) = ap (λ b. bit (b && is_free (colour (suc x)))) block in
-      omega (arith, k.once (suc x), in_lists (suc x), in_hands (suc x), are_held (suc x), free)
+      omega (arith, k.once (suc x), in_lists (suc x), in_private_lists (suc x), are_held (suc x), free)
 
   -- so there are no more Free blocks than it has in hand and holds
-  all_here : count_free e colour ≤ length (k.hands t) + length (fs t).held
+  all_here : count_free e colour ≤ length (k.private_lists t) + length (fs t).held
   all_here = omega (
     arith,
-    total_same e.blocks (λ x. bit (is_free (colour (suc x)))) (λ x. times (suc x) (k.hands t) + times (suc x) (fs t).held) free_here,
-    total_plus e.blocks (λ x. times (suc x) (k.hands t)) (λ x. times (suc x) (fs t).held),
-    all_times e.blocks (k.hands t),
+    total_same e.blocks (λ x. bit (is_free (colour (suc x)))) (λ x. times (suc x) (k.private_lists t) + times (suc x) (fs t).held) free_here,
+    total_plus e.blocks (λ x. times (suc x) (k.private_lists t)) (λ x. times (suc x) (fs t).held),
+    all_times e.blocks (k.private_lists t),
     all_times e.blocks (fs t).held,
   )
 
   -- and fewer than it has reserved there are not
-  pub never_dry : length (k.hands t) + length (fs t).held < (fs t).reserved → ⊥
+  pub never_dry : length (k.private_lists t) + length (fs t).held < (fs t).reserved → ⊥
   never_dry few = omega (arith, few, all_here, k.credit, total_part e.threads (λ u. (fs u).reserved) t tl)

@@ -20,16 +20,12 @@ use Rattle.never_heap.specs.Histories.{HistoryItem, Started, Did, is_full, after
 use Rattle.never_heap.specs.Steps.{step, made, blocks_of}
 use Rattle.never_heap.specs.declared.Reply.{Reply}
 use Rattle.never_heap.specs.Bounds.{IsCommandInBounds}
-use Rattle.never_heap.proofs.GraphMoves.{object_with_register}
-use Rattle.never_heap.proofs.FieldStores.{object_with_field, object_with_object}
-use Rattle.never_heap.proofs.StepChanges.{Change, none, store, put, swap, make, change_of, has_field, threads_put, with_object_threads}
-use Rattle.never_heap.proofs.UnchangedBySteps.{step_past}
-use Rattle.never_heap.proofs.CommandBounds.{blocks_low, bounds_at}
+use Rattle.never_heap.proofs.Lemmas.{Change, blocks_low, bounds_at, change_of, has_field, make, none, object_with_field, object_with_object, object_with_register, put, step_past, store, swap, threads_put, with_object_threads}
 use Rattle.heap_system.specs.Alone.{longest_array}
 use Rattle.heap_system.specs.Locals.{LocalState, command_of, entries_of}
 use Rattle.heap_system.specs.Machines.{Run, local_at}
 use Rattle.heap_system.specs.Pictures.{waiting, entries_waiting}
-use Rattle.heap_system.proofs.Kept.{Kept}
+use Rattle.heap_system.proofs.invariant.Invariant.{Kept}
 use Rattle.heap_system.proofs.alone.FieldsLeft.{array_short}
 
 abbrev pub IsLow : Config → Object → Type 0

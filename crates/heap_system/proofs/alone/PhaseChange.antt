@@ -5,19 +5,18 @@ use Rattle.block_store.specs.declared.Config.{Config}
 use Rattle.block_store.specs.Phases.{inside_of, is_sweep, cycle_of}
 use Rattle.block_store.specs.Colours.{is_grey}
 use Rattle.block_store.specs.Places.{Phase, Cursor, GreyList, ColourOf}
-use Rattle.block_store.proofs.Registers.{root_some}
+use Rattle.block_store.proofs.Lemmas.{root_some}
 use Rattle.heap_machine.specs.Gates.{is_of_pass, is_empty}
 use Rattle.heap_machine.specs.Gating.{Gating, is_outside, open_word}
 use Rattle.heap_machine.specs.declared.gate.GateRow.{GateRow}
 use Rattle.heap_machine.specs.declared.gate.GateRow.TheVariants as gates
 use Rattle.heap_machine.specs.declared.pass.Pass.{Pass}
-use Rattle.heap_machine.specs.Holdings.{grey_held}
-use Rattle.heap_machine.proofs.Gatings.{closed_phase, open_parts}
-use Rattle.heap_machine.proofs.GreyBlocks.{first_is_grey}
+use Rattle.heap_machine.specs.WorkInHand.{grey_held}
+use Rattle.heap_machine.proofs.Lemmas.{closed_phase, first_is_grey, open_parts}
 use Rattle.grey_steps.proofs.GreyRuleKept.{own_first}
 use Rattle.rate_plan.specs.solo_bound.Moves.{Spot}
 use Rattle.heap_system.specs.Parts.{PhaseChange}
-use Rattle.heap_system.proofs.SeenAndKept.{Seen}
+use Rattle.heap_system.proofs.invariant.SeenAndKept.{Seen}
 use Rattle.heap_system.proofs.parts.ClosedGate.{may_turn}
 use Rattle.heap_system.proofs.alone.Heads.{IsOpen, some_first, same_lone, open_here}
 use Rattle.heap_system.proofs.alone.LoneThread.{some, grey_heads, IsOfPass, NoGrey, IsDry, LoneStep, LoneLaw}
@@ -108,9 +107,9 @@ module _ (c : Config) (s : Seen c) where
             }
       ]
 
-  shades : (p : Pass) (u hand : ℕ) → p.threads ≡ c.threads → u < c.threads → s.spent < s.due
-      → NoGrey c s.heap → LoneStep c s (PhaseChange (gates.ShadeRoot p u hand))
-  shades p u hand many low more none =
+  shades : (p : Pass) (u list : ℕ) → p.threads ≡ c.threads → u < c.threads → s.spent < s.due
+      → NoGrey c s.heap → LoneStep c s (PhaseChange (gates.ShadeRoot p u list))
+  shades p u list many low more none =
       elim (cases_Bool (ltb (u + 1) p.threads)) [
         | inl next ↦
             let so = ltb-true (u + 1) p.threads next in
@@ -143,10 +142,10 @@ module _ (c : Config) (s : Seen c) where
       }
 
   starts : (p : Pass) → s.spent < s.due → 0 < s.heap (GreyList s.thread) → LoneStep c s (PhaseChange (gates.Start p))
-  starts p more hand =
+  starts p more list =
       let phase : is_sweep (open_word (p.cycle + 1) false) ≡ false = (open_parts (p.cycle + 1) false).1 in
       let own : 0 < grey_heads c s.heap s.thread 0 =
-      subst (λ u. 0 < s.heap (GreyList u)) (sym (own_first s.thread c.threads s.low)) hand in
+      subst (λ u. 0 < s.heap (GreyList u)) (sym (own_first s.thread c.threads s.low)) list in
       let found : some (grey_heads c s.heap s.thread) 0 c.threads ≡ true =
       (let one = s.bounds.some_thread in some_first (grey_heads c s.heap s.thread) c.threads 0 one own) in
       record {
@@ -171,10 +170,10 @@ turn_lone c (gates.SetCursor p) s is alone event known =
     record { goes = refl; out = refl; knows = known; moves = (refl, refl) }
 turn_lone c (gates.Flip p) s is alone event known = flips c s p known is.knows.first
 turn_lone c (gates.Reopen p) s is alone event known = absurd known
-turn_lone c (gates.ShadeRoot p u hand) s is alone event known =
+turn_lone c (gates.ShadeRoot p u list) s is alone event known =
     let fits = is.fits in
-    shades c s p u hand fits.1.0.threads (let low = fits.0.1 in let many = fits.1.0.threads in omega arith) known.0 known.1
-turn_lone c (gates.PutRoots p hand) s is alone event known =
+    shades c s p u list fits.1.0.threads (let low = fits.0.1 in let many = fits.1.0.threads in omega arith) known.0 known.1
+turn_lone c (gates.PutRoots p list) s is alone event known =
     let mine : p.thread ≡ s.thread = ap (λ (q : Pass). q.thread) is.part.0.0 ∙ is.part.1 in
     record {
       goes = refl;

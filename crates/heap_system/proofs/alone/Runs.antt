@@ -9,19 +9,19 @@ use Rattle.block_store.specs.Heaps.{Heap}
 use Rattle.block_store.specs.Phases.{bit, is_closed}
 use Rattle.block_store.specs.Places.{Phase}
 use Rattle.block_store.specs.Widths.{payloads}
-use Rattle.block_store.proofs.Functions.{total_part}
+use Rattle.block_store.proofs.Lemmas.{total_part}
 use Rattle.rate_plan.specs.Rates.{IsRate}
 use Rattle.rate_plan.proofs.Rates.{one_rate}
 use Rattle.never_heap.specs.declared.Command.{Command}
 use Rattle.never_heap.specs.declared.Command.TheVariants as commands
 use Rattle.never_heap.specs.declared.Entry.{Entry}
 use Rattle.never_heap.specs.declared.Reply.{Reply}
-use Rattle.never_heap.specs.RightWork.{units_told, units_owed}
+use Rattle.never_heap.specs.RightWork.{requested_units, units_owed}
 use Rattle.never_heap.specs.Steps.{blocks_of}
-use Rattle.never_heap.proofs.StepAnswers.{blocks_untold, owes_told}
+use Rattle.never_heap.proofs.Lemmas.{blocks_untold, owes_told}
 use Rattle.heap_machine.specs.Gating.{is_outside, is_inside, is_closing}
 use Rattle.heap_machine.specs.Operations.{place_of}
-use Rattle.heap_machine.proofs.Gatings.{stand_out}
+use Rattle.heap_machine.proofs.Lemmas.{stand_out}
 use Rattle.rate_plan.specs.solo_bound.Moves.{Terms, Moves}
 use Rattle.rate_plan.specs.solo_bound.Prices.{left, at_look, allocation_bound, idle_bound, other_bound}
 use Rattle.rate_plan.proofs.solo_bound.Prices.{lower, within, one_event}
@@ -33,12 +33,12 @@ use Rattle.heap_system.specs.Alone.{IsQuiet, HasCommand, EndsWithin, command_bou
 use Rattle.heap_system.specs.Locals.{LocalState, command_of, owed, effect, is_rest, is_done, entry_of, entries_of, waits, part_want, part_got, errand_of}
 use Rattle.heap_system.specs.Machines.{Run, IsJob, local_at, local_in, heap_in, next, answer, word_read}
 use Rattle.heap_system.specs.Pictures.{gating, gates_in}
-use Rattle.heap_system.proofs.Kept.{Kept}
-use Rattle.heap_system.proofs.LawsOf.{laws_of}
-use Rattle.heap_system.proofs.TurnFacts.{rest_is}
-use Rattle.heap_system.proofs.SeenAndKept.{IsSettled, Seen}
-use Rattle.heap_system.proofs.KeptByTurns.{seen, at_part, event, event_kept, word_is, local_new, heap_new, paid_new, new_local, new_heap, new_run, next_is}
-use Rattle.heap_system.proofs.WaitingTurns.{part_waits}
+use Rattle.heap_system.proofs.invariant.Invariant.{Kept}
+use Rattle.heap_system.proofs.step_rows.LawsOfParts.{laws_of}
+use Rattle.heap_system.proofs.work.TurnFacts.{rest_is}
+use Rattle.heap_system.proofs.invariant.SeenAndKept.{IsSettled, Seen}
+use Rattle.heap_system.proofs.invariant.InvariantByTurns.{seen, at_part, event, event_kept, word_is, local_new, heap_new, paid_new, new_local, new_heap, new_run, next_is}
+use Rattle.heap_system.proofs.work.WaitingTurns.{part_waits}
 use Rattle.heap_system.proofs.alone.FieldsLeft.{events_few, field_left, fields_first}
 use Rattle.heap_system.proofs.alone.Heads.{open_here}
 use Rattle.heap_system.proofs.alone.Laws.{lone_law}
@@ -358,7 +358,7 @@ idles : (c : Config) (k : Command) → is_idle k ≡ true → field_left c k (fi
 idles c (commands.Idle u) e = refl
 idles c _ e = absurd cc
 
-pub untold : (k : Command) → is_idle k ≡ false → units_told k ≡ 0
+pub untold : (k : Command) → is_idle k ≡ false → requested_units k ≡ 0
 untold (commands.Idle u) e = absurd cc
 untold _ e = refl
 
@@ -376,17 +376,17 @@ priced c rate k owing sweep ready bounds is = elim (cases_Bool (ltb 0 (blocks_of
       (let z : owing ≡ rate * blocks_of c.width k = omega (arith, is, blocks_untold c.width k (ltb-true 0 (blocks_of c.width k) makes)) in sym z)
       (within (terms_of c k) rate sweep ready low.0 low.1 makes))
   | inr serves ↦
-      let price : units_owed c.width rate k ≡ units_told k =
+      let price : units_owed c.width rate k ≡ requested_units k =
       owes_told c.width rate k (omega (arith, ltb-false 0 (blocks_of c.width k) serves)) in
       elim (cases_Bool (is_idle k)) [
         | inl idle ↦
             let low = wide c.width in
-            let bound : command_bound c rate k ≡ idle_bound c.threads (units_told k) =
+            let bound : command_bound c rate k ≡ idle_bound c.threads (requested_units k) =
             rw (serves, idle) refl in
             subst (λ n. at_look (terms_of c k) (unit c) owing sweep ready ≤ n) (sym bound)
-            (subst (λ d. at_look (terms_of c k) (unit c) d sweep ready ≤ idle_bound c.threads (units_told k))
-            (let z : owing ≡ units_told k = omega (arith, is, price) in sym z)
-            (one_event (terms_of c k) (units_told k) sweep ready low.0 low.1 serves (idles c k idle)))
+            (subst (λ d. at_look (terms_of c k) (unit c) d sweep ready ≤ idle_bound c.threads (requested_units k))
+            (let z : owing ≡ requested_units k = omega (arith, is, price) in sym z)
+            (one_event (terms_of c k) (requested_units k) sweep ready low.0 low.1 serves (idles c k idle)))
         | inr other ↦
             let bound : command_bound c rate k ≡ other_bound c.object = rw (serves, other) refl in
             let first = fields_first c k in

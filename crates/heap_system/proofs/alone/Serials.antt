@@ -5,7 +5,7 @@ use Rattle.std.proofs.lemmas.List.{get_or-set_other, length-replicate}
 use Rattle.block_store.specs.declared.Config.{Config}
 use Rattle.block_store.specs.Counts.{changed, times, total}
 use Rattle.block_store.specs.Phases.{bit}
-use Rattle.block_store.proofs.Functions.{bit_zero, total_changed, total_none, total_same}
+use Rattle.block_store.proofs.Lemmas.{bit_zero, total_changed, total_none, total_same}
 use Rattle.rate_plan.specs.Rates.{IsRate}
 use Rattle.never_heap.specs.declared.Command.{Command}
 use Rattle.never_heap.specs.declared.Command.TheVariants as commands
@@ -18,10 +18,10 @@ use Rattle.heap_system.specs.Machines.{State, Run, no_local, local_at, local_in,
 use Rattle.heap_system.specs.Pictures.{stand_of}
 use Rattle.heap_system.specs.Serials.{IsSerial, trace_bound, job_bound}
 use Rattle.heap_system.specs.Systems.{AllDone, IsLeastUndone}
-use Rattle.heap_system.proofs.Always.{run_kept}
-use Rattle.heap_system.proofs.Kept.{Kept}
-use Rattle.heap_system.proofs.LawsOf.{laws_of}
-use Rattle.heap_system.proofs.WaitingTurns.{done_stays}
+use Rattle.heap_system.proofs.invariant.InvariantHolds.{run_kept}
+use Rattle.heap_system.proofs.invariant.Invariant.{Kept}
+use Rattle.heap_system.proofs.step_rows.LawsOfParts.{laws_of}
+use Rattle.heap_system.proofs.work.WaitingTurns.{done_stays}
 use Rattle.heap_system.proofs.alone.Runs.{lone_ends}
 
 -- the bounds of the commands of a trace from the n-th on

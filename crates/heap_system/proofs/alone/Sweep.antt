@@ -13,7 +13,7 @@ use Rattle.sweep_steps.specs.Rows.{SweepState, next_block, range_end, sweep_over
 use Rattle.rate_plan.specs.solo_bound.Moves.{Spot, Lone, Passed}
 use Rattle.heap_system.specs.Parts.{Part, Sweep}
 use Rattle.heap_system.specs.Locals.{if_over}
-use Rattle.heap_system.proofs.SeenAndKept.{Seen}
+use Rattle.heap_system.proofs.invariant.SeenAndKept.{Seen}
 use Rattle.heap_system.proofs.alone.Heads.{has_pass}
 use Rattle.heap_system.proofs.alone.LoneThread.{LoneStep, LoneLaw, LoneKnows, heap_left, is_out, lone_of, some}
 
@@ -32,12 +32,12 @@ module _ (c : Config) (s : Seen c) (p : SweepState) where
   abbrev here : SweepRow → Lone
   here r = lone_of c s.heap s.thread (s.due - s.spent) (At r)
 
-  -- behind a block that was passed, where so many were freed
-  passes_on : (h : Heap) (l : Lone) (x high passed hand freed : ℕ) (some : Bool) → l.owed ≡ s.due - s.spent → s.spent < s.due → some ≡ ltb 0 freed → x < high
-      → (is_out (To (next_block x high passed hand freed)) ≡ false)
-      × LoneKnows c h s.thread s.pass s.due (s.spent + 1) (To (next_block x high passed hand freed))
-      × Passed l (lone_of c h s.thread (s.due - (s.spent + 1)) (To (next_block x high passed hand freed))) (high - x) some
-  passes_on h l x high passed hand freed some owed owes is low =
+  -- after a block that was passed, where so many were freed
+  passes_on : (h : Heap) (l : Lone) (x high passed list freed : ℕ) (some : Bool) → l.owed ≡ s.due - s.spent → s.spent < s.due → some ≡ ltb 0 freed → x < high
+      → (is_out (To (next_block x high passed list freed)) ≡ false)
+      × LoneKnows c h s.thread s.pass s.due (s.spent + 1) (To (next_block x high passed list freed))
+      × Passed l (lone_of c h s.thread (s.due - (s.spent + 1)) (To (next_block x high passed list freed))) (high - x) some
+  passes_on h l x high passed list freed some owed owes is low =
       let less : suc (s.due - (s.spent + 1)) ≡ l.owed = omega arith in
       elim (cases_lt (x + 1) high) [
         | inl more ↦
@@ -82,8 +82,8 @@ module _ (c : Config) (s : Seen c) (p : SweepState) where
       let won = eq-eqb (s.heap Cursor) x (sym known) in
       record { goes = rw won refl; out = rw won refl; knows = rw won tt; moves = rw won (refl, refl) }
 
-  passes : (x high passed hand freed : ℕ) → s.spent < s.due → x < high → LoneStep c s (At (sweeps.PassBlock x high passed hand freed))
-  passes x high passed hand freed owes low = elim (cases_Bool (eqb (s.heap (ColourOf x)) (white_word p.cycle))) [
+  passes : (x high passed list freed : ℕ) → s.spent < s.due → x < high → LoneStep c s (At (sweeps.PassBlock x high passed list freed))
+  passes x high passed list freed owes low = elim (cases_Bool (eqb (s.heap (ColourOf x)) (white_word p.cycle))) [
     | inl white ↦ elim (cases_eq freed 0) [
       | inl none ↦ record {
         goes = refl;
@@ -99,13 +99,13 @@ module _ (c : Config) (s : Seen c) (p : SweepState) where
       }
     ]
     | inr dark ↦
-        let next = passes_on s.heap (here (sweeps.PassBlock x high passed hand freed)) x high passed hand freed (ltb 0 freed) refl owes refl low in
+        let next = passes_on s.heap (here (sweeps.PassBlock x high passed list freed)) x high passed list freed (ltb 0 freed) refl owes refl low in
         record { goes = refl; out = rw dark next.0; knows = rw dark next.1; moves = rw dark (inr (inr next.2)) }
   ]
 
-  frees : (x high passed hand freed : ℕ) → s.spent < s.due → x < high → LoneStep c s (At (sweeps.FreeBlock x high passed hand freed))
-  frees x high passed hand freed owes low =
-      let row : SweepRow = sweeps.FreeBlock x high passed hand freed in
+  frees : (x high passed list freed : ℕ) → s.spent < s.due → x < high → LoneStep c s (At (sweeps.FreeBlock x high passed list freed))
+  frees x high passed list freed owes low =
+      let row : SweepRow = sweeps.FreeBlock x high passed list freed in
       let next = passes_on (heap_left c s (At row)) (here row) x high passed x (freed + 1) true refl owes (sym (lt-ltb 0 (freed + 1) (omega arith))) low in
       record { goes = refl; out = next.0; knows = next.1; moves = next.2 }
 
@@ -121,15 +121,15 @@ at_row c t cycle m owed sweeps.ReadCursor s is alone event known =
     reads_cursor c s p is.fits.0.blocks (phase.1 ∙ is.part.sweep) is.part.sweep (omega (arith, is.settled, is.pays)) is.fits.0.owed
 at_row c t cycle m owed (sweeps.ClaimRange x high) s is alone event known =
     claims c s (record { thread = t; cycle = cycle; blocks = m; owed = owed; row = sweeps.ClaimRange x high }) x high known
-at_row c t cycle m owed (sweeps.PassBlock x high passed hand freed) s is alone event known =
-    passes c s (record { thread = t; cycle = cycle; blocks = m; owed = owed; row = sweeps.PassBlock x high passed hand freed }) x high passed hand freed
+at_row c t cycle m owed (sweeps.PassBlock x high passed list freed) s is alone event known =
+    passes c s (record { thread = t; cycle = cycle; blocks = m; owed = owed; row = sweeps.PassBlock x high passed list freed }) x high passed list freed
     (still_owes c.blocks owed s.due s.spent x high passed is.fits.0.row.0 is.settled) is.fits.0.row.0.left
 at_row c t cycle m owed (sweeps.TakeFree x high passed) s is alone event known =
     record { goes = refl; out = refl; knows = tt; moves = (refl, refl) }
-at_row c t cycle m owed (sweeps.FreeBlock x high passed hand freed) s is alone event known =
-    frees c s (record { thread = t; cycle = cycle; blocks = m; owed = owed; row = sweeps.FreeBlock x high passed hand freed }) x high passed hand freed
+at_row c t cycle m owed (sweeps.FreeBlock x high passed list freed) s is alone event known =
+    frees c s (record { thread = t; cycle = cycle; blocks = m; owed = owed; row = sweeps.FreeBlock x high passed list freed }) x high passed list freed
     (still_owes c.blocks owed s.due s.spent x high passed is.fits.0.row.0 is.settled) is.fits.0.row.0.left
-at_row c t cycle m owed (sweeps.PutFree hand passed freed) s is alone event known =
+at_row c t cycle m owed (sweeps.PutFree list passed freed) s is alone event known =
     record { goes = refl; out = refl; knows = tt; moves = (refl, refl) }
 at_row c t cycle m owed (sweeps.Credit passed freed) s is alone event known =
     record { goes = refl; out = refl; knows = tt; moves = (refl, refl) }

@@ -25,10 +25,10 @@ use Rattle.build_steps.specs.declared.rows.BuildRow.{BuildRow}
 use Rattle.build_steps.specs.declared.rows.BuildRow.TheVariants as builds
 use Rattle.rate_plan.specs.solo_bound.Moves.{Spot}
 use Rattle.rate_plan.specs.solo_bound.Near.{Scene, Keeps, farthest}
-use Rattle.heap_system.specs.Parts.{Part, Rest, Enter, Serve, Mark, Sweep, Build, Retry, ToChange, PhaseChange, Leave}
+use Rattle.heap_system.specs.Parts.{Part, Rest, Enter, Access, Mark, Sweep, Build, Retry, LeaveToChangePhase, PhaseChange, Leave}
 use Rattle.heap_system.specs.Locals.{if_over}
-use Rattle.heap_system.proofs.PartLaws.{AtPart, PartEvent}
-use Rattle.heap_system.proofs.SeenAndKept.{Seen}
+use Rattle.heap_system.proofs.step_rows.PartLaws.{AtPart, PartEvent}
+use Rattle.heap_system.proofs.invariant.SeenAndKept.{Seen}
 use Rattle.heap_system.proofs.alone.Gate.{less_inside}
 use Rattle.heap_system.proofs.alone.Heads.{open_here, has_pass}
 use Rattle.heap_system.proofs.alone.LoneThread.{spot_of, build_spot, lone_of, grey_heads, OthersDry, LoneKnows, Alone, heap_left, paid_left, part_left, is_out}
@@ -39,9 +39,9 @@ abbrev pub unswept : Config → Heap → ℕ
 unswept c h = c.blocks + 1 - h Cursor
 
 abbrev pub in_range : SweepRow → ℕ
-in_range (sweeps.PassBlock x high passed hand freed) = high - x
+in_range (sweeps.PassBlock x high passed list freed) = high - x
 in_range (sweeps.TakeFree x high passed) = high - x
-in_range (sweeps.FreeBlock x high passed hand freed) = high - x
+in_range (sweeps.FreeBlock x high passed list freed) = high - x
 in_range _ = 0
 
 abbrev pub room_of : Config → Heap → Part → ℕ
@@ -76,7 +76,7 @@ reach_none : (n : ℕ) (f : ℕ → ℕ) → reach n 0 f ≡ 0
 reach_none zero f = refl
 reach_none (suc n) f = refl
 
--- the lists behind the own one are those from 1 on
+-- the lists after the own one are those from 1 on
 abbrev Behind : ℕ → (ℕ → Type 0) → Type 0
 Behind n P = (v : ℕ) → v < n → 0 < v → P v
 
@@ -300,8 +300,8 @@ turn_keeps c (gates.SetCursor p) s is alone event known = tt
 turn_keeps c (gates.Flip p) s is alone event known =
     let first : s.heap Cursor ≡ 1 = is.knows.first in omega arith
 turn_keeps c (gates.Reopen p) s is alone event known = absurd known
-turn_keeps c (gates.ShadeRoot p u hand) s is alone event known = tt
-turn_keeps c (gates.PutRoots p hand) s is alone event known = tt
+turn_keeps c (gates.ShadeRoot p u list) s is alone event known = tt
+turn_keeps c (gates.PutRoots p list) s is alone event known = tt
 turn_keeps c (gates.Start p) s is alone event known =
     λ passes. far_dry c s.heap s.thread passes s.low known.2
 turn_keeps c g s is alone event known = absurd is.part.0
@@ -311,8 +311,8 @@ built : (m : ℕ) (w : Width) (h : ℕ) (r : BuildRow) (s z : Scene) → Keeps m
 built m w h builds.ReadCount s z = tt
 built m w h (builds.Reserve seen) s z = tt
 built m w h (builds.TakeFree u) s z = tt
-built m w h (builds.Collect hand u) s z = tt
-built m w h (builds.PutRest hand) s z = tt
+built m w h (builds.Collect list u) s z = tt
+built m w h (builds.PutRest list) s z = tt
 built m w h (builds.WriteOwner o) s z = tt
 built m w h (builds.WriteShape o) s z = tt
 built m w h (builds.WritePayload o j) s z = tt
@@ -352,34 +352,34 @@ module _ (c : Config) (s : Seen c) where
         (λ i. record { thread = sym own i; threads = sym many i; cycle = p.cycle; sweep = p.sweep })
         takes_here
 
-  puts : (p : Pass) (hand : ℕ) → p.thread ≡ s.thread → is_sweep (s.heap Phase) ≡ false
-      → KeepStep c s (Marks p (greys.Put hand))
-  puts p hand own mark = (
-    λ passes. subst (λ t. far_of c (put_at s.heap (GreyList t) hand) s.thread passes
-        ≤ far_of c s.heap s.thread passes) (sym own) (far_own c s.heap s.thread hand passes s.low),
+  puts : (p : Pass) (list : ℕ) → p.thread ≡ s.thread → is_sweep (s.heap Phase) ≡ false
+      → KeepStep c s (Marks p (greys.Put list))
+  puts p list own mark = (
+    λ passes. subst (λ t. far_of c (put_at s.heap (GreyList t) list) s.thread passes
+        ≤ far_of c s.heap s.thread passes) (sym own) (far_own c s.heap s.thread list passes s.low),
     mark,
   )
 
-  blackens : (p : Pass) (x hand : ℕ) → is_sweep (s.heap Phase) ≡ false
-      → KeepStep c s (Marks p (greys.Blacken x hand))
-  blackens p x hand mark = ((λ passes. stays _), mark)
+  blackens : (p : Pass) (x list : ℕ) → is_sweep (s.heap Phase) ≡ false
+      → KeepStep c s (Marks p (greys.Blacken x list))
+  blackens p x list mark = ((λ passes. stays _), mark)
 
 mark_keeps : (c : Config) (p : Pass) (r : GreyRow) → KeepLaw c (Mark (record { pass = p; row = r }))
 mark_keeps c p (greys.Take u) s is alone event known =
     takes c s p is.part.thread is.fits.0.threads u is.fits.0.row
-mark_keeps c p (greys.Pop hand) s is alone event known = λ passes. stays _
-mark_keeps c p (greys.ScanWord x j hand) s is alone event known = λ passes. stays _
-mark_keeps c p (greys.Shade x j y hand) s is alone event known =
+mark_keeps c p (greys.Pop list) s is alone event known = λ passes. stays _
+mark_keeps c p (greys.ScanWord x j list) s is alone event known = λ passes. stays _
+mark_keeps c p (greys.Shade x j y list) s is alone event known =
     elim (cases_Bool (eqb (s.heap (ColourOf y)) (white_word p.cycle))) [
       | inl e ↦ rw e (λ passes. stays _)
       | inr e ↦ rw e (λ passes. stays _)
     ]
-mark_keeps c p (greys.Blacken x hand) s is alone event known =
-    let phase = has_pass c s (Mark (record { pass = p; row = greys.Blacken x hand })) is.gating refl in
-    blackens c s p x hand (phase.1 ∙ is.part.mark)
-mark_keeps c p (greys.Put hand) s is alone event known =
-    let phase = has_pass c s (Mark (record { pass = p; row = greys.Put hand })) is.gating refl in
-    puts c s p hand is.part.thread (phase.1 ∙ is.part.mark)
+mark_keeps c p (greys.Blacken x list) s is alone event known =
+    let phase = has_pass c s (Mark (record { pass = p; row = greys.Blacken x list })) is.gating refl in
+    blackens c s p x list (phase.1 ∙ is.part.mark)
+mark_keeps c p (greys.Put list) s is alone event known =
+    let phase = has_pass c s (Mark (record { pass = p; row = greys.Put list })) is.gating refl in
+    puts c s p list is.part.thread (phase.1 ∙ is.part.mark)
 mark_keeps c p greys.Scanned s is alone event known =
     absurd (let z : true ≡ false = is.part.going in cc)
 mark_keeps c p greys.NothingGrey s is alone event known =
@@ -394,10 +394,10 @@ module _ (c : Config) (s : Seen c) (p : SweepState) where
   abbrev To : SweepRow → Part
   To r = if_over (sweep_over r) (sweep_nothing r) (At r)
 
-  passes_room : (h : Heap) (x high passed hand freed : ℕ) → s.spent < s.due → x < high
-      → room_of c h (To (next_block x high passed hand freed)) + (s.due - s.spent)
+  passes_room : (h : Heap) (x high passed list freed : ℕ) → s.spent < s.due → x < high
+      → room_of c h (To (next_block x high passed list freed)) + (s.due - s.spent)
       ≡ unswept c h + (high - x) + (s.due - (s.spent + 1))
-  passes_room h x high passed hand freed owes low = elim (cases_lt (x + 1) high) [
+  passes_room h x high passed list freed owes low = elim (cases_lt (x + 1) high) [
     | inl more ↦ rw (lt-ltb (x + 1) high more) (omega arith)
     | inr last ↦ elim (cases_Bool (eqb freed 0)) [
       | inl e ↦ rw (le-ltb (x + 1) high last, e) (omega arith)
@@ -421,23 +421,23 @@ module _ (c : Config) (s : Seen c) (p : SweepState) where
   claims x high known phase owes low last =
       rw (eq-eqb (s.heap Cursor) x (sym known)) (omega arith, omega arith, phase)
 
-  passes : (x high passed hand freed : ℕ) → is_sweep (s.heap Phase) ≡ true → s.spent < s.due
-      → x < high → KeepStep c s (At (sweeps.PassBlock x high passed hand freed))
-  passes x high passed hand freed phase owes low =
+  passes : (x high passed list freed : ℕ) → is_sweep (s.heap Phase) ≡ true → s.spent < s.due
+      → x < high → KeepStep c s (At (sweeps.PassBlock x high passed list freed))
+  passes x high passed list freed phase owes low =
       elim (cases_Bool (eqb (s.heap (ColourOf x)) (white_word p.cycle))) [
         | inl white ↦ elim (cases_Bool (eqb freed 0)) [
           | inl e ↦ rw (white, e) (omega arith, refl, phase)
           | inr e ↦ rw (white, e) (omega arith, refl, phase)
         ]
         | inr dark ↦
-            rw dark (omega arith, passes_room s.heap x high passed hand freed owes low, phase)
+            rw dark (omega arith, passes_room s.heap x high passed list freed owes low, phase)
       ]
 
-  frees : (x high passed hand freed : ℕ) → is_sweep (s.heap Phase) ≡ true → s.spent < s.due
-      → x < high → KeepStep c s (At (sweeps.FreeBlock x high passed hand freed))
-  frees x high passed hand freed phase owes low = (
+  frees : (x high passed list freed : ℕ) → is_sweep (s.heap Phase) ≡ true → s.spent < s.due
+      → x < high → KeepStep c s (At (sweeps.FreeBlock x high passed list freed))
+  frees x high passed list freed phase owes low = (
     omega arith,
-    passes_room (heap_left c s (At (sweeps.FreeBlock x high passed hand freed)))
+    passes_room (heap_left c s (At (sweeps.FreeBlock x high passed list freed)))
         x high passed x (freed + 1) owes low,
     phase,
   )
@@ -456,23 +456,23 @@ sweep_row c t cycle m owed (sweeps.ClaimRange x high) s is alone event known =
     claims c s p x high known (phase.1 ∙ is.part.sweep)
     (still_owes c.blocks owed s.due s.spent x high 0 is.fits.0.row is.settled)
     is.fits.0.row.left is.fits.0.row.last
-sweep_row c t cycle m owed (sweeps.PassBlock x high passed hand freed) s is alone event known =
-    let p : SweepState = record { thread = t; cycle = cycle; blocks = m; owed = owed; row = sweeps.PassBlock x high passed hand freed } in
+sweep_row c t cycle m owed (sweeps.PassBlock x high passed list freed) s is alone event known =
+    let p : SweepState = record { thread = t; cycle = cycle; blocks = m; owed = owed; row = sweeps.PassBlock x high passed list freed } in
     let phase = has_pass c s (Sweep p) is.gating refl in
-    passes c s p x high passed hand freed (phase.1 ∙ is.part.sweep)
+    passes c s p x high passed list freed (phase.1 ∙ is.part.sweep)
     (still_owes c.blocks owed s.due s.spent x high passed is.fits.0.row.0 is.settled) is.fits.0.row.0.left
 sweep_row c t cycle m owed (sweeps.TakeFree x high passed) s is alone event known =
     let p : SweepState = record { thread = t; cycle = cycle; blocks = m; owed = owed; row = sweeps.TakeFree x high passed } in
     let phase = has_pass c s (Sweep p) is.gating refl in
     let owes = still_owes c.blocks owed s.due s.spent x high passed is.fits.0.row is.settled in
     (omega arith, refl, phase.1 ∙ is.part.sweep)
-sweep_row c t cycle m owed (sweeps.FreeBlock x high passed hand freed) s is alone event known =
-    let p : SweepState = record { thread = t; cycle = cycle; blocks = m; owed = owed; row = sweeps.FreeBlock x high passed hand freed } in
+sweep_row c t cycle m owed (sweeps.FreeBlock x high passed list freed) s is alone event known =
+    let p : SweepState = record { thread = t; cycle = cycle; blocks = m; owed = owed; row = sweeps.FreeBlock x high passed list freed } in
     let phase = has_pass c s (Sweep p) is.gating refl in
-    frees c s p x high passed hand freed (phase.1 ∙ is.part.sweep)
+    frees c s p x high passed list freed (phase.1 ∙ is.part.sweep)
     (still_owes c.blocks owed s.due s.spent x high passed is.fits.0.row.0 is.settled) is.fits.0.row.0.left
-sweep_row c t cycle m owed (sweeps.PutFree hand passed freed) s is alone event known =
-    let p : SweepState = record { thread = t; cycle = cycle; blocks = m; owed = owed; row = sweeps.PutFree hand passed freed } in
+sweep_row c t cycle m owed (sweeps.PutFree list passed freed) s is alone event known =
+    let p : SweepState = record { thread = t; cycle = cycle; blocks = m; owed = owed; row = sweeps.PutFree list passed freed } in
     let phase = has_pass c s (Sweep p) is.gating refl in (omega arith, phase.1 ∙ is.part.sweep)
 sweep_row c t cycle m owed (sweeps.Credit passed freed) s is alone event known =
     let p : SweepState = record { thread = t; cycle = cycle; blocks = m; owed = owed; row = sweeps.Credit passed freed } in
@@ -482,11 +482,11 @@ sweep_row c t cycle m owed _ s is alone event known = absurd (let z : true ≡ f
 pub keep_law : (c : Config) (p : Part) → is_out p ≡ false → KeepLaw c p
 keep_law c Rest on = rest_keeps c
 keep_law c (Enter g) on = enter_keeps c g
-keep_law c (Serve f) on = λ s is alone event known. tt
+keep_law c (Access f) on = λ s is alone event known. tt
 keep_law c (Mark m) on = mark_keeps c m.pass m.row
 keep_law c (Sweep s) on = sweep_row c s.thread s.cycle s.blocks s.owed s.row
 keep_law c (Build b) on = λ s is alone event known. built _ _ _ b.row _ _
 keep_law c Retry on = again_keeps c
-keep_law c ToChange on = λ s is alone event known. tt
+keep_law c LeaveToChangePhase on = λ s is alone event known. tt
 keep_law c (PhaseChange g) on = turn_keeps c g
 keep_law c Leave on = absurd (let z : true ≡ false = on in cc)

@@ -42,24 +42,23 @@ use Rattle.block_store.specs.Counts.{changed}
 use Rattle.block_store.specs.Heaps.{Heap}
 use Rattle.block_store.specs.Phases.{is_closed, is_sweep, cycle_of}
 use Rattle.block_store.specs.Places.{Phase, Cursor, FreeCount, ColourOf, extent}
-use Rattle.block_store.proofs.ColourWords.{not_grey_black, free_not_grey}
+use Rattle.block_store.proofs.Lemmas.{free_not_grey, not_grey_black}
 use Rattle.never_heap.specs.declared.Reply.{Reply}
 use Rattle.never_heap.specs.declared.Reply.TheVariants as replies
 use Rattle.never_heap.specs.Graphs.{count_of, next_name}
 use Rattle.never_heap.specs.Histories.{Did}
 use Rattle.never_heap.specs.Steps.{step, blocks_of}
-use Rattle.never_heap.proofs.StepAnswers.{blocks_answer, blocks_count}
+use Rattle.never_heap.proofs.Lemmas.{blocks_answer, blocks_count}
 use Rattle.heap_invariant.specs.graph_relation.Events.{unloaded}
 use Rattle.heap_invariant.specs.name_invariant.Building.{Build as Builder}
-use Rattle.heap_invariant.specs.name_invariant.Kept.{IsKept}
+use Rattle.heap_invariant.specs.name_invariant.Invariant.{Invariant}
 use Rattle.heap_invariant.specs.name_invariant.Pictures.{Names, Task, no_task, picture}
 use Rattle.heap_machine.specs.Gating.{Gating, GateOf, Inside, is_outside}
-use Rattle.heap_machine.specs.Holdings.{Holding, holds_nothing}
+use Rattle.heap_machine.specs.WorkInHand.{WorkInHand, holds_nothing}
 use Rattle.heap_machine.specs.Operations.{place_of, heap_after}
 use Rattle.heap_machine.specs.PhaseKept.{PhaseKept}
 use Rattle.heap_machine.specs.Readings.{IsHeld}
-use Rattle.heap_machine.proofs.Gatings.{gate_stays}
-use Rattle.heap_machine.proofs.Held.{held_after}
+use Rattle.heap_machine.proofs.Lemmas.{gate_stays, held_after}
 use Rattle.sweep_steps.specs.SweepUnits.{unpassed}
 use Rattle.build_steps.specs.declared.rows.BuildRow.{BuildRow}
 use Rattle.build_steps.specs.declared.rows.BuildRow.TheVariants.{
@@ -82,14 +81,14 @@ use Rattle.build_steps.specs.Naming.{IsPictured, build_of, names_made, with_task
 use Rattle.build_steps.specs.Rows.{
   BuildState,
   build_got,
-  build_holding,
+  build_in_hand,
   build_over,
   build_reply,
   build_step,
   build_want,
   built_at,
   full_cycle,
-  row_holding,
+  row_in_hand,
   row_reply,
   row_step,
   row_want,
@@ -100,10 +99,10 @@ use Rattle.build_steps.proofs.DecidingEvent.{full, published, replies as step_re
 use Rattle.build_steps.proofs.LinearizationPoints.{decided_after, full_is, refused_after}
 use Rattle.build_steps.proofs.ReuseRulesKept.{over_holds_none}
 use Rattle.build_steps.proofs.NameRulesKept.{goes_on}
-use Rattle.build_steps.proofs.Once.{left_free}
+use Rattle.build_steps.proofs.DistinctHeldBlocks.{left_free}
 use Rattle.build_steps.proofs.RowsFit.{fits_next}
 use Rattle.build_steps.proofs.Parts.{has_blocks}
-use Rattle.build_steps.proofs.Together.{keeps_phase, phase_stays}
+use Rattle.build_steps.proofs.AllRules.{keeps_phase, phase_stays}
 use Rattle.build_steps.proofs.WantedPlaces.{place_fits, stores_held, sum_fits}
 use Rattle.heap_system.specs.Parts.{Build}
 use Rattle.heap_system.specs.declared.Turn.TheVariants as turns
@@ -127,10 +126,10 @@ use Rattle.heap_system.specs.Machines.{starts_by}
 use Rattle.heap_system.specs.Naming.{Naming, Same, Made, renamed}
 use Rattle.heap_system.specs.Pictures.{gating}
 use Rattle.heap_system.specs.Units.{turns_black}
-use Rattle.heap_system.proofs.OwedAndPaid.{blocks_object, replied_sum}
-use Rattle.heap_system.proofs.PartLaws.{AtPart, PartEvent, PartLaws}
-use Rattle.heap_system.proofs.GatePassage.{inside_open}
-use Rattle.heap_system.proofs.SeenAndKept.{
+use Rattle.heap_system.proofs.accounting.OwedAndPaid.{blocks_object, replied_sum}
+use Rattle.heap_system.proofs.step_rows.PartLaws.{AtPart, PartEvent, PartLaws}
+use Rattle.heap_system.proofs.step_rows.GatePassage.{inside_open}
+use Rattle.heap_system.proofs.invariant.SeenAndKept.{
   EventKept,
   Forward,
   Seen,
@@ -144,7 +143,7 @@ use Rattle.heap_system.proofs.SeenAndKept.{
 
 -- a builder claims no block of the sweep, and scans none
 row_claims : (k : ℕ) (held : List ℕ) (r : BuildRow)
-    → ((row_holding k held r).found ≡ 0) × (unpassed (row_holding k held r) ≡ 0)
+    → ((row_in_hand k held r).found ≡ 0) × (unpassed (row_in_hand k held r) ≡ 0)
 row_claims k held (TakeFree u) = (refl, refl)
 row_claims k held (Collect a u) = (refl, refl)
 row_claims k held (PutRest a) = (refl, refl)
@@ -154,7 +153,7 @@ row_claims k held (WritePayload o j) = (refl, refl)
 row_claims k held (WriteColour o) = (refl, refl)
 row_claims k held _ = (refl, refl)
 
-claims : (b : BuildState) → ((build_holding b).found ≡ 0) × (unpassed (build_holding b) ≡ 0)
+claims : (b : BuildState) → ((build_in_hand b).found ≡ 0) × (unpassed (build_in_hand b) ≡ 0)
 claims b = row_claims b.blocks b.held b.row
 
 -- it does not write the cursor
@@ -284,15 +283,15 @@ module _ (c : Config) (s : Seen c) (b : BuildState) (at : AtPart c s (Build b)) 
       sym (s.gate.passes s.thread s.low out).0 ∙ ap (λ (x : Gating). x.cycle) at.gating
       ∙ sym at.part.cycle
 
-  own_holding : s.holds b.thread ≡ build_holding b
-  own_holding = ap s.holds at.part.thread ∙ at.holds
+  own_in_hand : s.holds b.thread ≡ build_in_hand b
+  own_in_hand = ap s.holds at.part.thread ∙ at.holds
 
   pictured : IsPictured c s.graph s.order s.heap s.names s.tasks s.holds b
   pictured = record {
     fits = at.fits.0;
     cycle = cycle;
     reuse = s.rules.reuse;
-    holding = own_holding;
+    work_in_hand = own_in_hand;
     kept = s.kept;
     builds = s.builders;
     build = ap (λ u. (s.tasks u).build) at.part.thread ∙ ap (λ (x : Task). x.build) at.task;
@@ -325,12 +324,12 @@ module _ (c : Config) (s : Seen c) (b : BuildState) (at : AtPart c s (Build b)) 
   words_kept : IsHeld c new
   words_kept = held_after c s.heap (build_want (extent c) b) (stores_held c b at.fits.0) s.held
 
-  rules_kept : (w : Holding) → build_holding later ≡ w
+  rules_kept : (w : WorkInHand) → build_in_hand later ≡ w
       → PhaseKept (extent c) new (changed s.holds s.thread w)
   rules_kept w is =
       subst (λ t. PhaseKept (extent c) new (changed s.holds t w)) at.part.thread
       (subst (λ x. PhaseKept (extent c) new (changed s.holds b.thread x)) is
-      (keeps_phase c s.heap s.holds b at.fits.0 cycle stands s.rules own_holding))
+      (keeps_phase c s.heap s.holds b at.fits.0 cycle stands s.rules own_in_hand))
 
   -- the thread is then at this build, and scans nothing
   tasks_with : (o : Option Builder) (x : ℕ) → x ≡ 0
@@ -380,10 +379,10 @@ module _ (c : Config) (s : Seen c) (b : BuildState) (at : AtPart c s (Build b)) 
       record {
         gate = gate_kept;
         held = words_kept;
-        rules = rules_kept (build_holding later) refl;
-        kept = subst (λ k. IsKept c k)
+        rules = rules_kept (build_in_hand later) refl;
+        kept = subst (λ k. Invariant c k)
             (λ i. picture s.graph (sym (append-nil s.order) i) new s.names
-            (tasks_with (build_of c.width later) (build_holding later).found (claims later).0 i))
+            (tasks_with (build_of c.width later) (build_in_hand later).found (claims later).0 i))
             kept;
         unshaded = unshaded_still s.names refl;
         forward = forward;
@@ -411,7 +410,7 @@ module _ (c : Config) (s : Seen c) (b : BuildState) (at : AtPart c s (Build b)) 
 
   -- with its reply the command is over
   answered : (r : Reply) (v : Verdict) (m : Naming) → build_over later.row ≡ true
-      → IsKept c (picture (graph_decided s.graph s.thread s.command v)
+      → Invariant c (picture (graph_decided s.graph s.thread s.command v)
       (s.order ++ (items_told s.graph s.thread s.command s.spent v ++ starts_by m)) new
       (renamed s.thread s.graph s.heap m s.names) (changed s.tasks s.thread no_task))
       → (renamed s.thread s.graph s.heap m s.names).shaded ≡ s.names.shaded
@@ -448,7 +447,7 @@ module _ (c : Config) (s : Seen c) (b : BuildState) (at : AtPart c s (Build b)) 
   refused over few =
       let r = replies.Full (full_cycle b.cycle) in
       answered r (RefusedWith r) Same over
-      (subst (λ k. IsKept c k) (λ i. picture s.graph
+      (subst (λ k. Invariant c k) (λ i. picture s.graph
       (s.order ++ Did (entry_of (at.part.thread i) (at.part.command i) s.spent r) ∷ []) new s.names
       (tasks_with None 0 refl i))
       (full c s.graph s.order s.heap s.names s.tasks s.holds b pictured s.bounds s.spent few))
@@ -461,7 +460,7 @@ module _ (c : Config) (s : Seen c) (b : BuildState) (at : AtPart c s (Build b)) 
       let there : s.thread < length s.graph.mutators =
       omega (arith, s.kept.follows.shows.sized.threads, s.low) in
       answered (step s.graph s.thread s.command).1 AsStep (Made (built_at b)) over
-      (subst (λ k. IsKept c k) (λ i. picture (step s.graph (at.part.thread i) (at.part.command i)).0
+      (subst (λ k. Invariant c k) (λ i. picture (step s.graph (at.part.thread i) (at.part.command i)).0
       (s.order ++ Did (entry_of (at.part.thread i) (at.part.command i) s.spent
       (step s.graph (at.part.thread i) (at.part.command i)).1) ∷ []) new
       (names_made s.names (next_name s.graph (at.part.thread i)) (built_at b))
@@ -522,7 +521,7 @@ module _ (c : Config) (s : Seen c) (b : BuildState) (at : AtPart c s (Build b)) 
   pub free_still : (o : ℕ) → o < length b.held → o < left_of b.blocks b.row
       → is_free (s.heap (ColourOf (built_at b o))) ≡ true
   free_still o low left =
-      left_free c s.heap s.holds b o at.fits.0 s.rules.reuse own_holding low left
+      left_free c s.heap s.holds b o at.fits.0 s.rules.reuse own_in_hand low left
 
 pub build_laws : (c : Config) (b : BuildState) → PartLaws c (Build b)
 build_laws c b = record {

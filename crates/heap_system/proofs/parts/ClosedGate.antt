@@ -10,33 +10,29 @@ use Rattle.block_store.specs.Phases.{bit, inside_of, is_closed, is_sweep, cycle_
 use Rattle.block_store.specs.Places.{Phase, Cursor, ColourOf, PayloadOf, extent, is_block}
 use Rattle.block_store.specs.Registers.{root_block}
 use Rattle.block_store.specs.Widths.{payloads}
-use Rattle.block_store.proofs.ColourWords.{free_word-zero, free-white, not_free_black}
-use Rattle.block_store.proofs.Functions.{total_none}
-use Rattle.block_store.proofs.Registers.{one_root}
+use Rattle.block_store.proofs.Lemmas.{free-white, free_word-zero, not_free_black, one_root, total_none}
 use Rattle.heap_machine.specs.Gates.{GateFits, GateAt}
 use Rattle.heap_machine.specs.Gating.{Stand, Outside, Inside, Closing, is_outside, is_inside, is_closing, Gating}
-use Rattle.heap_machine.specs.Holdings.{Holding, holds_nothing, sweep_held}
+use Rattle.heap_machine.specs.WorkInHand.{WorkInHand, holds_nothing, sweep_held}
 use Rattle.heap_machine.specs.Sweeping.{has_claimed, claims}
 use Rattle.heap_machine.specs.ChangingPhase as machine
-use Rattle.heap_machine.specs.ChangingPhase.{turns_over, in_pass, changing_gating, changing_holding, roots_shaded, cursor_set, MayTurn, IsTurnOf, HasRoom}
+use Rattle.heap_machine.specs.ChangingPhase.{turns_over, in_pass, changing_gating, changing_in_hand, roots_shaded, cursor_set, MayTurn, IsTurnOf, HasRoom}
 use Rattle.heap_machine.specs.declared.gate.GateRow.{GateRow}
 use Rattle.heap_machine.specs.declared.gate.GateRow.TheVariants as gates
 use Rattle.heap_machine.specs.declared.pass.Pass.{Pass}
-use Rattle.heap_machine.proofs.Gatings.{gate_closing}
-use Rattle.heap_machine.proofs.ChangingPhaseRules.{nobody_holds}
-use Rattle.heap_machine.proofs.Turnovers.{empty_gate, of_pass}
+use Rattle.heap_machine.proofs.Lemmas.{empty_gate, gate_closing, nobody_holds, of_pass}
 use Rattle.heap_invariant.specs.name_invariant.Colouring.{IsDark, IsColoured}
 use Rattle.heap_invariant.specs.name_invariant.Events.{IsAlone}
 use Rattle.heap_invariant.specs.name_invariant.Pictures.{Task, no_task, picture}
-use Rattle.heap_invariant.proofs.name_invariant.WordTargets.{root_in}
+use Rattle.heap_invariant.proofs.Lemmas.{root_in}
 use Rattle.sweep_steps.specs.SweepUnits.{unpassed}
 use Rattle.heap_system.specs.Parts.{PhaseChange}
 use Rattle.heap_system.specs.Locals.{task}
 use Rattle.heap_system.specs.Pictures.{gating}
-use Rattle.heap_system.proofs.PartLaws.{AtPart}
-use Rattle.heap_system.proofs.SeenAndKept.{stage, IsChangingPhase, IsAtFirst, HasShaded, Seen}
+use Rattle.heap_system.proofs.step_rows.PartLaws.{AtPart}
+use Rattle.heap_system.proofs.invariant.SeenAndKept.{stage, IsChangingPhase, IsAtFirst, HasShaded, Seen}
 
--- What a row of a pass says: it is of a part that turns over, where its thread stands has the cycle
+-- What a row of a pass says: it is of a part that turns over, where its thread is has the cycle
 -- and phase of the pass, and the part is one of its thread.
 abbrev pub IsRow : Config → Pass → ℕ → GateRow → Type 0
 IsRow c q t g = (turns_over g ≡ true) × (gating c q (PhaseChange g) ≡ changing_gating g) × IsTurnOf t g
@@ -58,26 +54,26 @@ row_of c q t g e own = by g e
     by (gates.SetCursor p) e = (refl, stands_in p Closing e.0, owns p e.0)
     by (gates.Flip p) e = (refl, stands_in p Closing e.0, owns p e.0)
     by (gates.Reopen p) e = (refl, stands_in p Closing e.0, owns p e.0)
-    by (gates.ShadeRoot p u hand) e = (refl, stands_in p Closing e.0, owns p e.0)
-    by (gates.PutRoots p hand) e = (refl, stands_in p Closing e.0, owns p e.0)
+    by (gates.ShadeRoot p u list) e = (refl, stands_in p Closing e.0, owns p e.0)
+    by (gates.PutRoots p list) e = (refl, stands_in p Closing e.0, owns p e.0)
     by (gates.Start p) e = (refl, stands_in p Closing e.0, owns p e.0)
     by _ e = absurd e
 
 -- it is at nothing, and has claimed nothing
 pub at_nothing : (c : Config) (g : GateRow) → task c (PhaseChange g) ≡ no_task
-at_nothing c (gates.ShadeRoot p u hand) = refl
-at_nothing c (gates.PutRoots p hand) = refl
+at_nothing c (gates.ShadeRoot p u list) = refl
+at_nothing c (gates.PutRoots p list) = refl
 at_nothing c _ = refl
 
-pub none_claimed : (g : GateRow) → unpassed (changing_holding g) ≡ 0
-none_claimed (gates.ShadeRoot p u hand) = refl
-none_claimed (gates.PutRoots p hand) = refl
+pub none_claimed : (g : GateRow) → unpassed (changing_in_hand g) ≡ 0
+none_claimed (gates.ShadeRoot p u list) = refl
+none_claimed (gates.PutRoots p list) = refl
 none_claimed _ = refl
 
 pub empty_outside : (g : GateRow) → is_outside (changing_gating g).stand ≡ true
-    → changing_holding g ≡ holds_nothing
-empty_outside (gates.ShadeRoot p u hand) e = absurd cc
-empty_outside (gates.PutRoots p hand) e = absurd cc
+    → changing_in_hand g ≡ holds_nothing
+empty_outside (gates.ShadeRoot p u list) e = absurd cc
+empty_outside (gates.PutRoots p list) e = absurd cc
 empty_outside _ e = refl
 
 is_closing_stand : (x : Stand) → is_closing x ≡ true → x ≡ Closing
@@ -103,10 +99,10 @@ record RootShaded (n : ℕ) (shaded : ℕ → Bool) (q : Pass) (g : GateRow) (u 
 root_shaded : (c : Config) (shaded : ℕ → Bool) (q : Pass) (g : GateRow) → IsChangingPhase q g
     → GateFits g → GateAt c g → HasShaded c.threads shaded g → (u : ℕ) → u < roots_shaded g
     → RootShaded c.threads shaded q g u
-root_shaded c shaded q (gates.ShadeRoot p v hand) e f a k u low =
+root_shaded c shaded q (gates.ShadeRoot p v list) e f a k u low =
     let ul : u < c.threads = omega (arith, low, f.1, a.0.threads) in
     record { low = ul; is = k u ul ∙ lt-ltb u v low; sweep = e.1; closing = refl }
-root_shaded c shaded q (gates.PutRoots p hand) e f a k u low =
+root_shaded c shaded q (gates.PutRoots p list) e f a k u low =
     let ul : u < c.threads = omega (arith, low, a.0.threads) in
     record { low = ul; is = k u ul; sweep = e.1; closing = refl }
 root_shaded c shaded q (gates.Start p) e f a k u low =
@@ -198,17 +194,17 @@ close_sees c s p seen at same sweep =
     (ap is_sweep same ∙ sym of.1 ∙ sweep, ap is_closed same ∙ gate.0)
 
 -- the root that is shaded next is black
-black_root : (c : Config) (s : Seen c) (p : Pass) (u hand : ℕ)
-    → AtPart c s (PhaseChange (gates.ShadeRoot p u hand))
+black_root : (c : Config) (s : Seen c) (p : Pass) (u list : ℕ)
+    → AtPart c s (PhaseChange (gates.ShadeRoot p u list))
     → s.heap (ColourOf (root_block c.width u)) ≡ black_word p.cycle
-black_root c s p u hand at =
+black_root c s p u list at =
     by ((s.kept.sweeping sweep).arrays (root_block c.width u) (root_in c.width c.threads u low))
   where
     low : u < c.threads
     low = omega (arith, at.fits.0.1, at.fits.1.0.threads)
 
     phase : (s.pass.cycle ≡ cycle_of (s.heap Phase)) × (s.pass.sweep ≡ is_sweep (s.heap Phase))
-    phase = in_phase c s (gates.ShadeRoot p u hand) at refl
+    phase = in_phase c s (gates.ShadeRoot p u list) at refl
 
     sweep : is_sweep (s.heap Phase) ≡ true
     sweep = sym phase.1 ∙ at.part.0.1
@@ -239,7 +235,7 @@ module _ (c : Config) (s : Seen c) (p : Pass) (at : AtPart c s (PhaseChange (gat
 
   none_claims : (x : ℕ) → claims c.threads (λ t. sweep_held (s.holds t)) x ≡ 0
   none_claims x = total_none c.threads (λ t. bit (has_claimed (sweep_held (s.holds t)) x)) (λ u ul.
-      ap (λ (w : Holding). bit (has_claimed (sweep_held w) x))
+      ap (λ (w : WorkInHand). bit (has_claimed (sweep_held w) x))
       (nobody_holds c s.heap s.gatings s.holds s.thread start (turning c s start at) refl refl u ul)
       ∙ ap bit (and_right (leb 0 x) (ltb x 0) (le-ltb x 0 (omega arith))))
 
@@ -285,7 +281,7 @@ pub may_turn : (c : Config) (s : Seen c) (g : GateRow) → AtPart c s (PhaseChan
 may_turn c s (gates.Close p seen) at = λ is same. (
     let of = close_sees c s p seen at same is in
     none_grey c s (gates.Close p seen) at of.0 of.1)
-may_turn c s (gates.ShadeRoot p u hand) at = black_root c s p u hand at
+may_turn c s (gates.ShadeRoot p u list) at = black_root c s p u list at
 may_turn c s (gates.Start p) at = (
   λ x white. no_white c s p at x (white ∙ ap white_word (own_cycle c s p at)),
   solid c s p at,

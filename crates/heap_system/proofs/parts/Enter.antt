@@ -7,53 +7,53 @@ use Rattle.block_store.specs.Counts.{changed}
 use Rattle.block_store.specs.Heaps.{Heap, put_at}
 use Rattle.block_store.specs.Phases.{phase_of, inside_of, is_closed, is_sweep, cycle_of}
 use Rattle.block_store.specs.Places.{Phase, extent}
-use Rattle.block_store.proofs.PhaseWords.{phase-more}
+use Rattle.block_store.proofs.Lemmas.{phase-more}
 use Rattle.never_heap.specs.declared.Command.{Command}
 use Rattle.never_heap.specs.declared.Command.TheVariants as commands
 use Rattle.never_heap.specs.Steps.{blocks_of}
 use Rattle.never_heap.proofs.CommandBounds as ranges
-use Rattle.never_heap.proofs.CommandBounds.{blocks_low}
+use Rattle.never_heap.proofs.Lemmas.{blocks_low}
 use Rattle.heap_invariant.specs.graph_relation.Events.{unloaded}
 use Rattle.heap_machine.specs.Gates.{gate_step, is_of_pass, is_empty, is_going_in, GateFits, SeenOpen}
 use Rattle.heap_machine.specs.Gating.{Gating, GateOf, Outside, Inside}
-use Rattle.heap_machine.specs.Holdings.{Holding, holds_nothing}
+use Rattle.heap_machine.specs.WorkInHand.{WorkInHand, holds_nothing}
 use Rattle.heap_machine.specs.Operations.{Fits, place_of, heap_after}
 use Rattle.heap_machine.specs.declared.Step.TheVariants as steps
 use Rattle.heap_machine.specs.declared.gate.GateRow.{GateRow}
 use Rattle.heap_machine.specs.declared.gate.GateRow.TheVariants as gates
 use Rattle.heap_machine.specs.declared.pass.Pass.{Pass}
-use Rattle.heap_machine.proofs.Gatings.{gate_enters, gate_stays, inside_most}
+use Rattle.heap_machine.proofs.Lemmas.{gate_enters, gate_stays, inside_most}
 use Rattle.grey_steps.specs.Rows.{scanning}
 use Rattle.grey_steps.proofs.RowsFit.{scan_fits}
-use Rattle.barrier_steps.specs.Rows.{at_first_row, field_decided, first_row, field_reply, field_holding}
+use Rattle.barrier_steps.specs.Rows.{at_first_row, field_decided, first_row, field_reply, field_in_hand}
 use Rattle.barrier_steps.specs.Fits.{IsThread}
 use Rattle.barrier_steps.specs.Projection.{loading_of}
 use Rattle.barrier_steps.specs.declared.rows.FieldRow.{FieldRow}
 use Rattle.barrier_steps.specs.declared.rows.FieldRow.TheVariants as rows
 use Rattle.barrier_steps.proofs.Decisions.{first_undecided}
-use Rattle.barrier_steps.proofs.Dues.{none_due}
+use Rattle.barrier_steps.proofs.RepliesDue.{none_due}
 use Rattle.barrier_steps.proofs.FieldRows.{first_fits}
 use Rattle.sweep_steps.specs.Rows.{sweeping}
 use Rattle.sweep_steps.proofs.RowsFit as sweeping_ranges
 use Rattle.build_steps.specs.Rows.{building}
 use Rattle.build_steps.proofs.RowsFit as building_ranges
 use Rattle.heap_invariant.specs.name_invariant.Pictures.{no_task}
-use Rattle.heap_system.specs.Parts.{Part, Enter, Serve, Mark, Sweep, Build}
+use Rattle.heap_system.specs.Parts.{Part, Enter, Access, Mark, Sweep, Build}
 use Rattle.heap_system.specs.declared.Turn.TheVariants as turns
 use Rattle.heap_system.specs.Locals.{part_want, plain, pass_by, first_part, task, turn_of, gate_waits, PartFits, PartReads, IsPassAt}
 use Rattle.heap_system.specs.Pictures.{gating}
 use Rattle.heap_system.specs.Units.{blackens}
-use Rattle.heap_system.proofs.PartLaws.{AtPart, PartEvent, PartLaws, word_at}
-use Rattle.heap_system.proofs.GatePassage.{Comes, phase_is, began, look_event, gate_event, is_thread}
-use Rattle.heap_system.proofs.OwedAndPaid.{blocks_object}
-use Rattle.heap_system.proofs.SeenAndKept.{IsEntering, Knows, Seen, EventKept, errand}
+use Rattle.heap_system.proofs.step_rows.PartLaws.{AtPart, PartEvent, PartLaws, word_at}
+use Rattle.heap_system.proofs.step_rows.GatePassage.{Comes, phase_is, began, look_event, gate_event, is_thread}
+use Rattle.heap_system.proofs.accounting.OwedAndPaid.{blocks_object}
+use Rattle.heap_system.proofs.invariant.SeenAndKept.{IsEntering, Knows, Seen, EventKept, errand}
 
 -- at the first row of a command nothing is loaded or held
 first_unloaded : (c : Config) (q : Pass) (k : Command) → loading_of (extent c) (at_first_row q k) ≡ unloaded
 first_unloaded c q (commands.New d f) = refl
 first_unloaded c q _ = refl
 
-first_empty : (c : Config) (q : Pass) (k : Command) → field_holding (extent c) (at_first_row q k) ≡ holds_nothing
+first_empty : (c : Config) (q : Pass) (k : Command) → field_in_hand (extent c) (at_first_row q k) ≡ holds_nothing
 first_empty c q (commands.New d f) = refl
 first_empty c q _ = refl
 
@@ -124,14 +124,14 @@ module _ (c : Config) (s : Seen c) (q : Pass) (own : q.thread ≡ s.thread) (is 
         knows = λ h. tt;
       }
 
-  serves : blocks_of c.width s.command ≡ 0 → s.spent ≡ s.due → Entered c s q (Serve (at_first_row q s.command))
+  serves : blocks_of c.width s.command ≡ 0 → s.spent ≡ s.due → Entered c s q (Access (at_first_row q s.command))
   serves none all =
       let first = first_undecided c.width s.command none in
       let due = none_due s.graph q.thread s.command (first_row s.command) first in
       record {
         gates = refl;
         comes = record {
-          task = λ i. record no_task { loading = first_unloaded c q s.command i; scan = ap (λ (w : Holding). w.found) (first_empty c q s.command) i };
+          task = λ i. record no_task { loading = first_unloaded c q s.command i; scan = ap (λ (w : WorkInHand). w.found) (first_empty c q s.command) i };
           holds = first_empty c q s.command;
           waits = due.0;
           part = record { serves = none; passes = refl; thread = own; command = refl; known = due.1; going = not_over (first_row s.command) first };
@@ -147,11 +147,11 @@ module _ (c : Config) (s : Seen c) (q : Pass) (own : q.thread ≡ s.thread) (is 
   owing true e more = sweeps e more
   owing false e more = marks e more
 
-  paid : (b : Bool) → ltb 0 (blocks_of c.width s.command) ≡ b → s.spent ≡ s.due → Entered c s q (cond b (Build (building c.width q.thread q.threads q.cycle (s.made + 1) s.command s.space)) (Serve (at_first_row q s.command)))
+  paid : (b : Bool) → ltb 0 (blocks_of c.width s.command) ≡ b → s.spent ≡ s.due → Entered c s q (cond b (Build (building c.width q.thread q.threads q.cycle (s.made + 1) s.command s.space)) (Access (at_first_row q s.command)))
   paid true e all = builds (ltb-true 0 (blocks_of c.width s.command) e) all
   paid false e all = serves (omega (arith, ltb-false 0 (blocks_of c.width s.command) e)) all
 
-  either : (b : Bool) → ltb 0 (s.due - s.spent) ≡ b → Entered c s q (cond b (cond q.sweep (Sweep (sweeping q.thread q.cycle c.blocks (s.due - s.spent))) (Mark (scanning q))) (cond (ltb 0 (blocks_of c.width s.command)) (Build (building c.width q.thread q.threads q.cycle (s.made + 1) s.command s.space)) (Serve (at_first_row q s.command))))
+  either : (b : Bool) → ltb 0 (s.due - s.spent) ≡ b → Entered c s q (cond b (cond q.sweep (Sweep (sweeping q.thread q.cycle c.blocks (s.due - s.spent))) (Mark (scanning q))) (cond (ltb 0 (blocks_of c.width s.command)) (Build (building c.width q.thread q.threads q.cycle (s.made + 1) s.command s.space)) (Access (at_first_row q s.command))))
   either true e = (let some : 0 < s.due - s.spent = ltb-true 0 (s.due - s.spent) e in owing q.sweep refl (omega (arith, some)))
   either false e = paid (ltb 0 (blocks_of c.width s.command)) refl (elim (cases_lt 0 (s.due - s.spent)) [
     | inl some ↦ absurd (let z : true ≡ false = sym (lt-ltb 0 (s.due - s.spent) some) ∙ e in cc)

@@ -6,21 +6,21 @@ use Rattle.block_store.specs.Counts.{changed}
 use Rattle.block_store.specs.Heaps.{Heap}
 use Rattle.block_store.specs.Phases.{bit, is_closed, is_sweep, cycle_of}
 use Rattle.block_store.specs.Places.{Phase, Cursor, extent}
-use Rattle.block_store.proofs.ColourWords.{not_grey_black}
+use Rattle.block_store.proofs.Lemmas.{not_grey_black}
 use Rattle.never_heap.specs.Histories.{HistoryItem}
 use Rattle.heap_machine.specs.Gating.{Gating, GateOf, Inside, is_outside}
 use Rattle.heap_machine.specs.PhaseKept.{PhaseKept}
 use Rattle.heap_machine.specs.Readings.{IsHeld}
 use Rattle.heap_machine.specs.declared.Step.{Step}
-use Rattle.heap_machine.proofs.Gatings.{gate_stays}
-use Rattle.heap_invariant.specs.name_invariant.Kept.{IsKept}
+use Rattle.heap_machine.proofs.Lemmas.{gate_stays}
+use Rattle.heap_invariant.specs.name_invariant.Invariant.{Invariant}
 use Rattle.heap_invariant.specs.name_invariant.Pictures.{picture}
 use Rattle.sweep_steps.specs.SweepUnits.{unpassed}
 use Rattle.heap_system.specs.Parts.{Part}
 use Rattle.heap_system.specs.Locals.{Effect, plain, task, entries_of, spent_got, unit_to_come, PartFits, IsRoomy}
-use Rattle.heap_system.specs.Pictures.{gating, stand_of, holding, waiting}
-use Rattle.heap_system.proofs.PartLaws.{AtPart}
-use Rattle.heap_system.proofs.SeenAndKept.{stage_of, PartKept, Knows, IsSettled, lead, Seen, EventKept}
+use Rattle.heap_system.specs.Pictures.{gating, stand_of, work_in_hand, waiting}
+use Rattle.heap_system.proofs.step_rows.PartLaws.{AtPart}
+use Rattle.heap_system.proofs.invariant.SeenAndKept.{stage_of, PartKept, Knows, IsSettled, lead, Seen, EventKept}
 
 -- what excludes the other is never so with it; and no word is grey and black
 pub not_both : (a b : Bool) → (b ≡ true → a ≡ false) → (a && b) ≡ false
@@ -42,10 +42,10 @@ pub record PassEvent (c : Config) (s : Seen c) (new : Heap) (unit : Bool) (next 
   pub phase : new Phase ≡ s.heap Phase
   pub rises : s.heap Cursor ≤ new Cursor
   pub passed : new Cursor + unpassed (s.holds s.thread)
-      ≤ s.heap Cursor + unpassed (holding c next) + bit unit
+      ≤ s.heap Cursor + unpassed (work_in_hand c next) + bit unit
   pub held : IsHeld c new
-  pub rules : PhaseKept (extent c) new (changed s.holds s.thread (holding c next))
-  pub kept : IsKept c (picture s.graph s.order new s.names (changed s.tasks s.thread (task c next)))
+  pub rules : PhaseKept (extent c) new (changed s.holds s.thread (work_in_hand c next))
+  pub kept : Invariant c (picture s.graph s.order new s.names (changed s.tasks s.thread (task c next)))
   pub inside : stand_of c next ≡ Inside
   pub part : PartKept c s.graph s.thread s.pass s.command next
   pub knows : Knows c new s.names s.pass next
@@ -74,17 +74,17 @@ module _ (c : Config) (s : Seen c) (p : Part) (at : AtPart c s p)
 
   leads_on : (new : Heap) (unit : Bool) (next : Part) → PassEvent c s new unit next
       → lead c new + (s.spent + unpassed (s.holds s.thread))
-      ≤ lead c s.heap + (0 + spent_got None unit s.spent + unpassed (holding c next))
+      ≤ lead c s.heap + (0 + spent_got None unit s.spent + unpassed (work_in_hand c next))
   leads_on new unit next e = subst
       (λ w. (cycle_of w - 1) * c.blocks + cond (is_sweep w) (new Cursor - 1) 0
       + (s.spent + unpassed (s.holds s.thread))
-      ≤ lead c s.heap + (0 + spent_got None unit s.spent + unpassed (holding c next)))
+      ≤ lead c s.heap + (0 + spent_got None unit s.spent + unpassed (work_in_hand c next)))
       (sym e.phase) (by (is_sweep (s.heap Phase)))
     where
       by : (b : Bool) → (cycle_of (s.heap Phase) - 1) * c.blocks + cond b (new Cursor - 1) 0
           + (s.spent + unpassed (s.holds s.thread))
           ≤ (cycle_of (s.heap Phase) - 1) * c.blocks + cond b (s.heap Cursor - 1) 0
-          + (0 + spent_got None unit s.spent + unpassed (holding c next))
+          + (0 + spent_got None unit s.spent + unpassed (work_in_hand c next))
       by true = omega (arith, e.passed, e.rises, (s.held Cursor refl).0, paid_more unit s.spent)
       by false = omega (arith, e.passed, e.rises, paid_more unit s.spent)
 
@@ -104,7 +104,7 @@ module _ (c : Config) (s : Seen c) (p : Part) (at : AtPart c s p)
             )));
         held = e.held;
         rules = e.rules;
-        kept = subst (λ (o : List HistoryItem). IsKept c
+        kept = subst (λ (o : List HistoryItem). Invariant c
             (picture s.graph o new s.names (changed s.tasks s.thread (task c next))))
             (sym (append-nil s.order)) e.kept;
         unshaded = λ sweep opened. s.unshaded (ap is_sweep (sym e.phase) ∙ sweep)

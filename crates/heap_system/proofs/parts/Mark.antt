@@ -8,30 +8,30 @@ use Rattle.block_store.specs.Heaps.{Heap, put_at}
 use Rattle.block_store.specs.Phases.{bit, is_sweep, cycle_of}
 use Rattle.block_store.specs.Places.{Phase, Cursor, ColourOf, extent}
 use Rattle.block_store.specs.Widths.{payloads}
-use Rattle.block_store.proofs.ColourWords.{not_grey_white}
-use Rattle.heap_machine.specs.Holdings.{Holding, holds_nothing, grey_held}
+use Rattle.block_store.proofs.Lemmas.{not_grey_white}
+use Rattle.heap_machine.specs.WorkInHand.{WorkInHand, holds_nothing, grey_held}
 use Rattle.heap_machine.specs.Operations.{CompareExchange, place_of, heap_after}
 use Rattle.heap_machine.specs.PhaseKept.{PhaseKept}
 use Rattle.heap_machine.specs.declared.Step.TheVariants.{Over, Went}
 use Rattle.heap_machine.specs.declared.pass.Pass.{Pass}
-use Rattle.heap_invariant.specs.name_invariant.Kept.{IsKept}
+use Rattle.heap_invariant.specs.name_invariant.Invariant.{Invariant}
 use Rattle.heap_invariant.specs.name_invariant.Pictures.{Task, no_task, picture}
 use Rattle.grey_steps.specs.declared.rows.GreyRow.{GreyRow}
 use Rattle.grey_steps.specs.declared.rows.GreyRow.TheVariants as marks
 use Rattle.grey_steps.specs.MarkUnits.{is_blackening, is_shading}
 use Rattle.grey_steps.specs.Fits.{GreyFits, GreyReads}
-use Rattle.grey_steps.specs.Rows.{GreyState, row_want, grey_want, grey_got, grey_over, grey_step, grey_unit, grey_nothing, grey_holding, holding_at}
+use Rattle.grey_steps.specs.Rows.{GreyState, row_want, grey_want, grey_got, grey_over, grey_step, grey_unit, grey_nothing, grey_in_hand, marking_in_hand}
 use Rattle.grey_steps.proofs.MarkUnits.{scan_goes_on, unit_after, unit_grey, unit_once}
 use Rattle.grey_steps.proofs.Pictures.{scan_keeps_names}
 use Rattle.grey_steps.proofs.RowsFit.{next_fits, place_fits, sum_fits, keeps_words}
 use Rattle.grey_steps.proofs.Reuses.{keeps_phase, leaves_phase}
 use Rattle.heap_system.specs.declared.Turn.TheVariants as turns
-use Rattle.heap_system.specs.Parts.{Mark, Retry, ToChange}
+use Rattle.heap_system.specs.Parts.{Mark, Retry, LeaveToChangePhase}
 use Rattle.heap_system.specs.Locals.{turn_of, task, spent_got}
 use Rattle.heap_system.specs.Units.{blackens}
-use Rattle.heap_system.proofs.GatePassage.{inside_open}
-use Rattle.heap_system.proofs.PartLaws.{AtPart, PartLaws}
-use Rattle.heap_system.proofs.SeenAndKept.{Seen, EventKept}
+use Rattle.heap_system.proofs.step_rows.GatePassage.{inside_open}
+use Rattle.heap_system.proofs.step_rows.PartLaws.{AtPart, PartLaws}
+use Rattle.heap_system.proofs.invariant.SeenAndKept.{Seen, EventKept}
 use Rattle.heap_system.proofs.parts.InPass.{not_both, grey_or_black, of_pass, PassEvent, pass_is, pass_kept, stands, units_are}
 
 -- no event of marking writes the cursor
@@ -50,7 +50,7 @@ leaves_cursor h t n c _ = refl
 
 -- marking claims nothing
 pub no_claim : (m : ℕ) (r : GreyRow)
-    → ((grey_holding m r).low ≡ 0) × ((grey_holding m r).high ≡ 0)
+    → ((grey_in_hand m r).low ≡ 0) × ((grey_in_hand m r).high ≡ 0)
 no_claim m (marks.Take u) = (refl, refl)
 no_claim m (marks.Pop a) = (refl, refl)
 no_claim m (marks.ScanWord x j a) = (refl, refl)
@@ -66,37 +66,37 @@ no_claim m (marks.Shaded y) = (refl, refl)
 
 -- a scan that is over holds nothing
 over_nothing : (m : ℕ) (r : GreyRow) → grey_over r ≡ true → is_shading r ≡ false
-    → grey_holding m r ≡ holds_nothing
+    → grey_in_hand m r ≡ holds_nothing
 over_nothing m marks.Scanned over scan = refl
 over_nothing m marks.NothingGrey over scan = refl
 over_nothing m (marks.Shaded y) over scan = absurd cc
 over_nothing m _ over scan = absurd cc
 
 -- a shade makes white grey
-shade_blackens : (h : Heap) (c d y hand : ℕ) → (is_grey (h (ColourOf y))
+shade_blackens : (h : Heap) (c d y list : ℕ) → (is_grey (h (ColourOf y))
     && eqb (cond (eqb (h (ColourOf y)) (white_word c))
-    (put_at h (ColourOf y) (grey_word hand)) h (ColourOf y)) (black_word d)) ≡ false
-shade_blackens h c d y hand = elim (cases_eq (h (ColourOf y)) (white_word c)) [
+    (put_at h (ColourOf y) (grey_word list)) h (ColourOf y)) (black_word d)) ≡ false
+shade_blackens h c d y list = elim (cases_eq (h (ColourOf y)) (white_word c)) [
   | inl e ↦ not_both (is_grey (h (ColourOf y)))
       (eqb (cond (eqb (h (ColourOf y)) (white_word c))
-      (put_at h (ColourOf y) (grey_word hand)) h (ColourOf y)) (black_word d))
+      (put_at h (ColourOf y) (grey_word list)) h (ColourOf y)) (black_word d))
       (λ z. ap is_grey e ∙ not_grey_white c)
   | inr n ↦ rw (ne_eqb (h (ColourOf y)) (white_word c) n) (grey_or_black d (h (ColourOf y)))
 ]
 
 -- a grey block becomes black at the event that makes the block under scan black
 row_blackens : (m : ℕ) (h : Heap) (t n c : ℕ) (r : GreyRow) → c ≡ cycle_of (h Phase)
-    → ((x : ℕ) → is_blackening r ≡ true → (grey_holding m r).scan ≡ Some x
+    → ((x : ℕ) → is_blackening r ≡ true → (grey_in_hand m r).scan ≡ Some x
     → is_grey (h (ColourOf x)) ≡ true)
     → blackens h (row_want t n c r) ≡ is_blackening r
-row_blackens m h t n c (marks.Pop hand) same grey =
-    grey_or_black (cycle_of (h Phase)) (h (ColourOf hand))
-row_blackens m h t n c (marks.Shade x j y hand) same grey =
-    shade_blackens h c (cycle_of (h Phase)) y hand
-row_blackens m h t n c (marks.Blacken x hand) same grey = rw (grey x refl refl, eq-eqb x x refl)
+row_blackens m h t n c (marks.Pop list) same grey =
+    grey_or_black (cycle_of (h Phase)) (h (ColourOf list))
+row_blackens m h t n c (marks.Shade x j y list) same grey =
+    shade_blackens h c (cycle_of (h Phase)) y list
+row_blackens m h t n c (marks.Blacken x list) same grey = rw (grey x refl refl, eq-eqb x x refl)
     (eq-eqb (black_word c) (black_word (cycle_of (h Phase))) (ap black_word same))
-row_blackens m h t n c (marks.ShadeStored y hand) same grey =
-    shade_blackens h c (cycle_of (h Phase)) y hand
+row_blackens m h t n c (marks.ShadeStored y list) same grey =
+    shade_blackens h c (cycle_of (h Phase)) y list
 row_blackens m h t n c _ same grey = refl
 
 -- the unit of a Mark pass is paid once
@@ -134,26 +134,26 @@ module _ (c : Config) (s : Seen c) (m : GreyState) (at : AtPart c s (Mark m)) wh
   cycle = sym (pass_is c s (Mark m) at refl).0
       ∙ sym (ap (λ (p : Pass). p.cycle) at.part.passes)
 
-  holds : s.holds m.pass.thread ≡ holding_at (extent c) m
+  holds : s.holds m.pass.thread ≡ marking_in_hand (extent c) m
   holds = ap s.holds at.part.thread ∙ at.holds
 
-  rules : PhaseKept (extent c) new (changed s.holds s.thread (holding_at (extent c) next))
+  rules : PhaseKept (extent c) new (changed s.holds s.thread (marking_in_hand (extent c) next))
   rules = subst
-      (λ t. PhaseKept (extent c) new (changed s.holds t (holding_at (extent c) next)))
+      (λ t. PhaseKept (extent c) new (changed s.holds t (marking_in_hand (extent c) next)))
       at.part.thread (keeps_phase c s.heap s.holds m fits mark cycle s.rules holds)
 
   -- the thread is at this, where it has found x
   abbrev finds : ℕ → Task
   finds x = record no_task { scan = x }
 
-  kept : IsKept c (picture s.graph s.order new s.names
-      (changed s.tasks s.thread (finds (holding_at (extent c) next).found)))
+  kept : Invariant c (picture s.graph s.order new s.names
+      (changed s.tasks s.thread (finds (marking_in_hand (extent c) next).found)))
   kept =
-      let x : ℕ = (holding_at (extent c) next).found in
+      let x : ℕ = (marking_in_hand (extent c) next).found in
       let own : s.tasks m.pass.thread ≡ task c (Mark m) = ap s.tasks at.part.thread ∙ at.task in
-      subst (λ t. IsKept c (picture s.graph s.order new s.names (changed s.tasks t (finds x))))
+      subst (λ t. Invariant c (picture s.graph s.order new s.names (changed s.tasks t (finds x))))
       at.part.thread
-      (subst (λ (w : Task). IsKept c (picture s.graph s.order new s.names
+      (subst (λ (w : Task). Invariant c (picture s.graph s.order new s.names
       (changed s.tasks m.pass.thread w)))
       (ap (λ (w : Task). record w { scan = x }) own)
       (scan_keeps_names c s.graph s.order s.heap s.names s.tasks m fits mark cycle s.holds
@@ -171,8 +171,8 @@ module _ (c : Config) (s : Seen c) (m : GreyState) (at : AtPart c s (Mark m)) wh
   unclaimed : ((s.holds s.thread).low ≡ 0) × ((s.holds s.thread).high ≡ 0)
   unclaimed =
       let none = no_claim (payloads c.width) m.row in (
-        ap (λ (w : Holding). w.low) at.holds ∙ none.0,
-        ap (λ (w : Holding). w.high) at.holds ∙ none.1,
+        ap (λ (w : WorkInHand). w.low) at.holds ∙ none.0,
+        ap (λ (w : WorkInHand). w.high) at.holds ∙ none.1,
       )
 
   pays : spent_got None (is_blackening m.row) s.spent + bit (not (grey_unit next.row)) ≤ s.due
@@ -205,18 +205,18 @@ module _ (c : Config) (s : Seen c) (m : GreyState) (at : AtPart c s (Mark m)) wh
   }
 
   -- it is over, with nothing in hand
-  nothing : grey_over next.row ≡ true → holding_at (extent c) next ≡ holds_nothing
+  nothing : grey_over next.row ≡ true → marking_in_hand (extent c) next ≡ holds_nothing
   nothing over = over_nothing (payloads c.width) next.row over scan
 
   ended_rules : grey_over next.row ≡ true
       → PhaseKept (extent c) new (changed s.holds s.thread holds_nothing)
-  ended_rules over = subst (λ (w : Holding). PhaseKept (extent c) new (changed s.holds s.thread w))
+  ended_rules over = subst (λ (w : WorkInHand). PhaseKept (extent c) new (changed s.holds s.thread w))
       (nothing over) rules
 
   ended_kept : grey_over next.row ≡ true
-      → IsKept c (picture s.graph s.order new s.names (changed s.tasks s.thread no_task))
+      → Invariant c (picture s.graph s.order new s.names (changed s.tasks s.thread no_task))
   ended_kept over = subst
-      (λ (w : Holding). IsKept c (picture s.graph s.order new s.names
+      (λ (w : WorkInHand). Invariant c (picture s.graph s.order new s.names
       (changed s.tasks s.thread (finds w.found))))
       (nothing over) kept
 
@@ -238,7 +238,7 @@ module _ (c : Config) (s : Seen c) (m : GreyState) (at : AtPart c s (Mark m)) wh
     settled = tt;
   }
 
-  idle : grey_over next.row ≡ true → PassEvent c s new (is_blackening m.row) ToChange
+  idle : grey_over next.row ≡ true → PassEvent c s new (is_blackening m.row) LeaveToChangePhase
   idle over = record {
     phase = phase;
     rises = omega (arith, cursor);
@@ -258,9 +258,9 @@ module _ (c : Config) (s : Seen c) (m : GreyState) (at : AtPart c s (Mark m)) wh
 
   event : (over none : Bool) → grey_over next.row ≡ over → EventKept c s new
       (of_pass (grey_step (extent c) m read) (is_blackening m.row)) None
-      (cond over (cond none ToChange Retry) (Mark next))
+      (cond over (cond none LeaveToChangePhase Retry) (Mark next))
   event true true is = pass_kept c s (Mark m) at refl new (grey_step (extent c) m read)
-      (is_blackening m.row) ToChange (idle is)
+      (is_blackening m.row) LeaveToChangePhase (idle is)
   event true false is = pass_kept c s (Mark m) at refl new (grey_step (extent c) m read)
       (is_blackening m.row) Retry (again is)
   event false none is = pass_kept c s (Mark m) at refl new (grey_step (extent c) m read)

@@ -8,26 +8,21 @@ use Rattle.block_store.specs.Heaps.{Heap, put_at}
 use Rattle.block_store.specs.Phases.{bit, is_closed, is_sweep, cycle_of}
 use Rattle.block_store.specs.Places.{Phase, Cursor, GreyList, ColourOf, extent}
 use Rattle.block_store.specs.Registers.{root_block}
-use Rattle.block_store.proofs.ColourWords.{grey-black}
-use Rattle.block_store.proofs.Functions.{funext, changed_here, changed_else, changed_self}
+use Rattle.block_store.proofs.Lemmas.{changed_else, changed_here, changed_self, funext, grey-black}
 use Rattle.heap_machine.specs.Gates.{gate_want, gate_got, gate_step, is_of_pass, is_empty, GateFits, GateAt}
 use Rattle.heap_machine.specs.Gating.{Outside, is_closing, Gating, GateOf, closed_word, open_word}
-use Rattle.heap_machine.specs.Holdings.{holds_nothing}
+use Rattle.heap_machine.specs.WorkInHand.{holds_nothing}
 use Rattle.heap_machine.specs.Operations.{Fits, place_of, heap_after}
 use Rattle.heap_machine.specs.PhaseKept.{PhaseKept}
 use Rattle.heap_machine.specs.Readings.{CanHold, IsHeld}
-use Rattle.heap_machine.specs.ChangingPhase.{turns_over, changing_gating, changing_holding, lists_read}
+use Rattle.heap_machine.specs.ChangingPhase.{turns_over, changing_gating, changing_in_hand, lists_read}
 use Rattle.heap_machine.specs.declared.gate.GateRow.{GateRow}
 use Rattle.heap_machine.specs.declared.gate.GateRow.TheVariants as gates
 use Rattle.heap_machine.specs.declared.pass.Pass.{Pass}
-use Rattle.heap_machine.proofs.GateRows.{gate_place, gate_fits, gate_at}
-use Rattle.heap_machine.proofs.Gatings.{close_parts, open_parts, gate_stays}
-use Rattle.heap_machine.proofs.ChangingPhaseKnown.{changing_knows, changing_held, none_at_flip}
-use Rattle.heap_machine.proofs.ChangingPhaseRules.{changing_rules}
-use Rattle.heap_machine.proofs.Turnovers.{empty_gate, changing_kept}
+use Rattle.heap_machine.proofs.Lemmas.{changing_held, changing_kept, changing_knows, changing_rules, close_parts, empty_gate, gate_at, gate_fits, gate_place, gate_stays, none_at_flip, open_parts}
 use Rattle.heap_invariant.specs.name_invariant.Events.{apply}
 use Rattle.heap_invariant.specs.name_invariant.Events.KeptEvent.{Flip, ShadeRoot, Start}
-use Rattle.heap_invariant.specs.name_invariant.Kept.{IsKept}
+use Rattle.heap_invariant.specs.name_invariant.Invariant.{Invariant}
 use Rattle.heap_invariant.specs.name_invariant.Pictures.{Names, no_task, picture}
 use Rattle.heap_invariant.specs.name_invariant.States.{KeptState}
 use Rattle.heap_invariant.proofs.name_invariant.Steps.{step_kept}
@@ -36,13 +31,13 @@ use Rattle.heap_system.specs.Parts.{Enter, PhaseChange}
 use Rattle.heap_system.specs.Locals.{part_want, task, is_last, if_turned, turn_naming, entries_of, unit_to_come, PartFits, IsRoomy}
 use Rattle.heap_system.specs.Machines.{starts_by}
 use Rattle.heap_system.specs.Naming.{Naming, Same, Lost, Begun, Shaded, renamed}
-use Rattle.heap_system.specs.Pictures.{gating, holding, waiting}
+use Rattle.heap_system.specs.Pictures.{gating, work_in_hand, waiting}
 use Rattle.heap_system.specs.Units.{blackens}
-use Rattle.heap_system.proofs.PartLaws.{AtPart, PartEvent, PartLaws}
-use Rattle.heap_system.proofs.GatePassage.{began, picture_stays, same_stage}
-use Rattle.heap_system.proofs.SeenAndKept.{stage, stage_of, lead, PartKept, Knows, IsSettled, IsChangingPhase, IsAtFirst, HasShaded, TurnKnows, Forward, Seen}
+use Rattle.heap_system.proofs.step_rows.PartLaws.{AtPart, PartEvent, PartLaws}
+use Rattle.heap_system.proofs.step_rows.GatePassage.{began, picture_stays, same_stage}
+use Rattle.heap_system.proofs.invariant.SeenAndKept.{stage, stage_of, lead, PartKept, Knows, IsSettled, IsChangingPhase, IsAtFirst, HasShaded, TurnKnows, Forward, Seen}
 use Rattle.heap_system.proofs.parts.Enter.{gate_turns}
-use Rattle.heap_system.proofs.parts.ToChange.{swept_stays}
+use Rattle.heap_system.proofs.parts.LeaveToChangePhase.{swept_stays}
 use Rattle.heap_system.proofs.parts.ClosedGate.{row_of, at_nothing, none_claimed, empty_outside, at_first, stands, shut, in_phase, alone, knows, turning, close_sees, sweep, behind_last, no_white, own_cycle, all_shaded, may_turn, roomy}
 
 -- What its event keeps of the names.
@@ -53,13 +48,13 @@ module _ (c : Config) (s : Seen c) (g : GateRow) (at : AtPart c s (PhaseChange g
   -- what they are after it, on a heap
   abbrev Pictured : Heap → Naming → Type 0
   Pictured new naming =
-      IsKept c (picture s.graph (s.order ++ starts_by naming) new
+      Invariant c (picture s.graph (s.order ++ starts_by naming) new
       (renamed s.thread s.graph s.heap naming s.names) s.tasks)
 
   same_names : (new : Heap) → picture s.graph s.order new s.names s.tasks ≡ now → Pictured new Same
   same_names new same =
-      subst (λ o. IsKept c (picture s.graph o new s.names s.tasks)) (sym (append-nil s.order))
-      (subst (λ x. IsKept c x) (sym same) s.kept)
+      subst (λ o. Invariant c (picture s.graph o new s.names s.tasks)) (sym (append-nil s.order))
+      (subst (λ x. Invariant c x) (sym same) s.kept)
 
 -- at the flip the names are lost that were not found
 flipped : (c : Config) (s : Seen c) (p : Pass) (at : AtPart c s (PhaseChange (gates.Flip p)))
@@ -71,31 +66,31 @@ flipped c s p at =
     let cycle : cycle_of (open_word p.cycle true) ≡ cycle_of (s.heap Phase) =
     parts.3 ∙ ap (λ (r : Pass). r.cycle) at.part.0.0 ∙ phase.0 in
     let state = now c s (gates.Flip p) at in
-    let kept : IsKept c (apply c state Flip) = step_kept c s.bounds state Flip s.kept (
+    let kept : Invariant c (apply c state Flip) = step_kept c s.bounds state Flip s.kept (
       mark,
       alone c s (gates.Flip p) at refl,
       none_at_flip c s.heap s.gatings s.holds s.thread s.rules p (turning c s (gates.Flip p) at),
       λ x j black jl. (s.rules.tricolour mark).black x j black jl,
     ) in
-    subst (λ o. IsKept c (picture s.graph o (put_at s.heap Phase (open_word p.cycle true))
+    subst (λ o. Invariant c (picture s.graph o (put_at s.heap Phase (open_word p.cycle true))
     (renamed s.thread s.graph s.heap Lost s.names) s.tasks)) (sym (append-nil s.order))
-    (subst (λ x. IsKept c x)
+    (subst (λ x. Invariant c x)
     (sym (λ i. record (apply c state Flip) { cycle = cycle i; sweep = parts.1 i })) kept)
 
 -- a root is shaded
-shaded_next : (c : Config) (s : Seen c) (p : Pass) (u hand : ℕ)
-    (at : AtPart c s (PhaseChange (gates.ShadeRoot p u hand)))
-    → Pictured c s (gates.ShadeRoot p u hand) at
-    (put_at s.heap (ColourOf (root_block c.width u)) (grey_word hand)) (Shaded u)
-shaded_next c s p u hand at =
-    let g = gates.ShadeRoot p u hand in
+shaded_next : (c : Config) (s : Seen c) (p : Pass) (u list : ℕ)
+    (at : AtPart c s (PhaseChange (gates.ShadeRoot p u list)))
+    → Pictured c s (gates.ShadeRoot p u list) at
+    (put_at s.heap (ColourOf (root_block c.width u)) (grey_word list)) (Shaded u)
+shaded_next c s p u list at =
+    let g = gates.ShadeRoot p u list in
     let phase = in_phase c s g at refl in
     let low : u < c.threads = omega (arith, at.fits.0.1, at.fits.1.0.threads) in
     let state = now c s g at in
-    let kept : IsKept c (apply c state (ShadeRoot u hand)) =
-    step_kept c s.bounds state (ShadeRoot u hand) s.kept (sym phase.1 ∙ at.part.0.1, low) in
-    subst (λ o. IsKept c (picture s.graph o
-    (put_at s.heap (ColourOf (root_block c.width u)) (grey_word hand))
+    let kept : Invariant c (apply c state (ShadeRoot u list)) =
+    step_kept c s.bounds state (ShadeRoot u list) s.kept (sym phase.1 ∙ at.part.0.1, low) in
+    subst (λ o. Invariant c (picture s.graph o
+    (put_at s.heap (ColourOf (root_block c.width u)) (grey_word list))
     (renamed s.thread s.graph s.heap (Shaded u) s.names) s.tasks))
     (sym (append-nil s.order)) kept
 
@@ -107,13 +102,13 @@ begun c s p at =
     let cycle : cycle_of (open_word (p.cycle + 1) false) ≡ cycle_of (s.heap Phase) + 1 =
     parts.3 ∙ ap (λ y. y + 1) (own_cycle c s p at) in
     let state = now c s (gates.Start p) at in
-    let kept : IsKept c (apply c state Start) = step_kept c s.bounds state Start s.kept (
+    let kept : Invariant c (apply c state Start) = step_kept c s.bounds state Start s.kept (
       sweep c s p at,
       alone c s (gates.Start p) at refl,
       no_white c s p at,
       all_shaded c s p at,
     ) in
-    subst (λ x. IsKept c x)
+    subst (λ x. Invariant c x)
     (sym (λ i. record (apply c state Start) { cycle = cycle i; sweep = parts.1 i })) kept
 
 -- a close that is won, or the gate opened again, leaves the phase and the cycle
@@ -154,9 +149,9 @@ pictured c s (gates.Reopen p) at =
     same_names c s (gates.Reopen p) at (put_at s.heap Phase (open_word p.cycle false))
     (picture_stays s.graph s.order s.heap s.names s.tasks
     (open_word p.cycle false) same.0 same.1)
-pictured c s (gates.ShadeRoot p u hand) at = shaded_next c s p u hand at
-pictured c s (gates.PutRoots p hand) at =
-    same_names c s (gates.PutRoots p hand) at (put_at s.heap (GreyList p.thread) hand) refl
+pictured c s (gates.ShadeRoot p u list) at = shaded_next c s p u list at
+pictured c s (gates.PutRoots p list) at =
+    same_names c s (gates.PutRoots p list) at (put_at s.heap (GreyList p.thread) list) refl
 pictured c s (gates.Start p) at = begun c s p at
 pictured c s _ at = absurd at.part.0
 
@@ -218,7 +213,7 @@ module _ (c : Config) (s : Seen c) where
         unshaded = λ _ _. none;
       }
 
-  -- and to Mark of the next cycle, with the cursor behind the last one
+  -- and to Mark of the next cycle, with the cursor after the last one
   moves_to_mark : (v : ℕ) (later : Names) → is_sweep (s.heap Phase) ≡ true
       → s.heap Cursor ≡ c.blocks + 1 → 1 ≤ cycle_of (s.heap Phase)
       → cycle_of v ≡ cycle_of (s.heap Phase) + 1 → is_sweep v ≡ false
@@ -267,13 +262,13 @@ moved c s (gates.Reopen p) at =
     let parts = open_parts p.cycle false in
     moves_nothing c s (put_at s.heap Phase (open_word p.cycle false)) s.names same.0 same.1 refl
     (λ is. absurd (let z : true ≡ false = sym is ∙ parts.1 in cc))
-moved c s (gates.ShadeRoot p u hand) at =
-    let of = shut c s (gates.ShadeRoot p u hand) at refl in
-    moves_nothing c s (put_at s.heap (ColourOf (root_block c.width u)) (grey_word hand))
+moved c s (gates.ShadeRoot p u list) at =
+    let of = shut c s (gates.ShadeRoot p u list) at refl in
+    moves_nothing c s (put_at s.heap (ColourOf (root_block c.width u)) (grey_word list))
     (renamed s.thread s.graph s.heap (Shaded u) s.names) refl refl refl
     (λ _ opened. absurd (let z : true ≡ false = sym of.0 ∙ opened in cc))
-moved c s (gates.PutRoots p hand) at =
-    moves_no_word c s (put_at s.heap (GreyList p.thread) hand) refl refl
+moved c s (gates.PutRoots p list) at =
+    moves_no_word c s (put_at s.heap (GreyList p.thread) list) refl refl
 moved c s (gates.Start p) at =
     let parts = open_parts (p.cycle + 1) false in
     moves_to_mark c s (open_word (p.cycle + 1) false)
@@ -284,7 +279,7 @@ moved c s _ at = absurd at.part.0
 -- Where the part is over its row is one of a thread outside that holds nothing, and where it goes
 -- on it turns over for the same pass.
 abbrev Goes : Pass → Bool → GateRow → Type 0
-Goes q true r = ((changing_gating r).stand ≡ Outside) × (changing_holding r ≡ holds_nothing)
+Goes q true r = ((changing_gating r).stand ≡ Outside) × (changing_in_hand r ≡ holds_nothing)
 Goes q false r = IsChangingPhase q r
 
 closes_for : (q p : Pass) → p ≡ q → (b : Bool) → p.sweep ≡ b
@@ -316,9 +311,9 @@ goes c q (gates.CheckList p u) w e = elim (cases_Bool (eqb w 0)) [
 goes c q (gates.SetCursor p) w e = e
 goes c q (gates.Flip p) w e = (refl, refl)
 goes c q (gates.Reopen p) w e = (refl, refl)
-goes c q (gates.ShadeRoot p u hand) w e =
+goes c q (gates.ShadeRoot p u list) w e =
     elim (cases_Bool (ltb (u + 1) p.threads)) [ inl more ↦ rw more e | inr last ↦ rw last e ]
-goes c q (gates.PutRoots p hand) w e = e
+goes c q (gates.PutRoots p list) w e = e
 goes c q (gates.Start p) w e = (refl, refl)
 goes c q _ w e = absurd e
 
@@ -375,7 +370,7 @@ module _ (c : Config) (s : Seen c) where
   roots_after (gates.SetCursor p) at = tt
   roots_after (gates.Flip p) at = tt
   roots_after (gates.Reopen p) at = tt
-  roots_after (gates.ShadeRoot p u hand) at =
+  roots_after (gates.ShadeRoot p u list) at =
       let next : (t : ℕ) → t < c.threads → changed s.names.shaded u true t ≡ ltb t (u + 1) =
       λ t tl. one_more u t tl (at.knows.roots t tl) in
       elim (cases_lt (u + 1) p.threads) [
@@ -383,16 +378,16 @@ module _ (c : Config) (s : Seen c) where
         | inr last ↦ rw (le-ltb (u + 1) p.threads last)
             (λ t tl. next t tl ∙ lt-ltb t (u + 1) (omega (arith, tl, last, at.fits.1.0.threads)))
       ]
-  roots_after (gates.PutRoots p hand) at = at.knows.roots
+  roots_after (gates.PutRoots p list) at = at.knows.roots
   roots_after (gates.Start p) at = tt
   roots_after _ at = absurd at.part.0
 
 -- what it comes to, of a row of which the part is over or goes on
 module _ (c : Config) (q : Pass) where
-  holding_after : (over : Bool) (r : GateRow) → Goes q over r
-      → changing_holding r ≡ holding c (if_turned over r)
-  holding_after true r e = e.1
-  holding_after false r e = refl
+  work_in_hand_after : (over : Bool) (r : GateRow) → Goes q over r
+      → changing_in_hand r ≡ work_in_hand c (if_turned over r)
+  work_in_hand_after true r e = e.1
+  work_in_hand_after false r e = refl
 
   task_after : (over : Bool) (r : GateRow) → task c (if_turned over r) ≡ no_task
   task_after true r = refl
@@ -431,7 +426,7 @@ module _ (c : Config) (q : Pass) where
   knows_after h ns true r k = tt
   knows_after h ns false r k = k
 
-  none_unpassed : (over : Bool) (r : GateRow) → unpassed (holding c (if_turned over r)) ≡ 0
+  none_unpassed : (over : Bool) (r : GateRow) → unpassed (work_in_hand c (if_turned over r)) ≡ 0
   none_unpassed true r = refl
   none_unpassed false r = none_claimed r
 
@@ -499,10 +494,10 @@ module _ (c : Config) (s : Seen c) (g : GateRow) (at : AtPart c s (PhaseChange g
             at.fits.0 (stands c s g at));
         held = held;
         rules = subst (λ w. PhaseKept (extent c) new (changed s.holds s.thread w))
-            (holding_after c s.pass over row going)
+            (work_in_hand_after c s.pass over row going)
             (changing_rules c s.heap s.gatings s.holds s.thread s.rules g (turning c s g at)
             (may_turn c s g at));
-        kept = subst (λ ts. IsKept c
+        kept = subst (λ ts. Invariant c
             (picture s.graph (s.order ++ starts_by (turn_naming g)) new later ts))
             (sym (changed_self s.tasks s.thread (task c (if_turned over row))
             (at.task ∙ at_nothing c g ∙ sym (task_after c s.pass over row))))
@@ -551,8 +546,8 @@ knows_stay c h new ns later q g on cursor behind still k =
 
     none_shaded : (g : GateRow) → is_closing (changing_gating g).stand ≡ false
         → HasShaded c.threads later.shaded g
-    none_shaded (gates.ShadeRoot p u hand) e = absurd cc
-    none_shaded (gates.PutRoots p hand) e = absurd cc
+    none_shaded (gates.ShadeRoot p u list) e = absurd cc
+    none_shaded (gates.PutRoots p list) e = absurd cc
     none_shaded (gates.Start p) e = absurd cc
     none_shaded _ e = tt
 
@@ -584,18 +579,18 @@ rests_at c h q (gates.CheckList p u) e f closed out = absurd cc
 rests_at c h q (gates.SetCursor p) e f closed out = absurd cc
 rests_at c h q (gates.Flip p) e f closed out = absurd cc
 rests_at c h q (gates.Reopen p) e f closed out = absurd cc
-rests_at c h q (gates.ShadeRoot p u hand) e f closed out = absurd cc
-rests_at c h q (gates.PutRoots p hand) e f closed out = absurd cc
+rests_at c h q (gates.ShadeRoot p u list) e f closed out = absurd cc
+rests_at c h q (gates.PutRoots p list) e f closed out = absurd cc
 rests_at c h q (gates.Start p) e f closed out = absurd cc
 rests_at c h q _ e f closed out = absurd e
 
 -- nothing becomes black
 none_black : (c : Config) (h : Heap) (g : GateRow) → blackens h (part_want c (PhaseChange g)) ≡ false
-none_black c h (gates.ShadeRoot p u hand) =
+none_black c h (gates.ShadeRoot p u list) =
     let x = root_block c.width u in
     rw (eq-eqb x x refl) (and_right (is_grey (h (ColourOf x)))
-    (eqb (grey_word hand) (black_word (cycle_of (h Phase))))
-    (ne_eqb _ _ (grey-black hand (cycle_of (h Phase)))))
+    (eqb (grey_word list) (black_word (cycle_of (h Phase))))
+    (ne_eqb _ _ (grey-black list (cycle_of (h Phase)))))
 none_black c h _ = refl
 
 pub turn_over_laws : (c : Config) (g : GateRow) → PartLaws c (PhaseChange g)

@@ -7,11 +7,11 @@ use Rattle.block_store.specs.Places.{Phase}
 use Rattle.heap_machine.specs.Gating.{Gating}
 use Rattle.heap_machine.specs.declared.Step.TheVariants as steps
 use Rattle.heap_machine.specs.declared.gate.GateRow.TheVariants as gates
-use Rattle.heap_machine.proofs.Gatings.{gate_stays}
+use Rattle.heap_machine.proofs.Lemmas.{gate_stays}
 use Rattle.heap_system.specs.Parts.{Rest, Enter}
-use Rattle.heap_system.proofs.GatePassage.{phase_is, began, look_event}
-use Rattle.heap_system.proofs.PartLaws.{AtPart, PartEvent, PartLaws}
-use Rattle.heap_system.proofs.SeenAndKept.{Seen}
+use Rattle.heap_system.proofs.step_rows.GatePassage.{phase_is, began, look_event}
+use Rattle.heap_system.proofs.step_rows.PartLaws.{AtPart, PartEvent, PartLaws}
+use Rattle.heap_system.proofs.invariant.SeenAndKept.{Seen}
 
 rest_event : (c : Config) (s : Seen c) → AtPart c s Rest → s.done < s.all → PartEvent c s Rest
 rest_event c s at low = elim (cases_Bool (is_closed (s.heap Phase))) [

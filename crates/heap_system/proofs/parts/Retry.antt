@@ -5,11 +5,10 @@ use Rattle.block_store.specs.Places.{Phase}
 use Rattle.heap_machine.specs.Gating.{Gating}
 use Rattle.heap_machine.specs.declared.Step.TheVariants as steps
 use Rattle.heap_machine.specs.declared.gate.GateRow.TheVariants as gates
-use Rattle.heap_machine.proofs.Gatings.{inside_some}
-use Rattle.heap_machine.proofs.GateRows.{inside_low}
+use Rattle.heap_machine.proofs.Lemmas.{inside_low, inside_some}
 use Rattle.heap_system.specs.Parts.{Enter, Retry}
-use Rattle.heap_system.proofs.GatePassage.{phase_is, leave_event, inside_open}
-use Rattle.heap_system.proofs.PartLaws.{PartLaws}
+use Rattle.heap_system.proofs.step_rows.GatePassage.{phase_is, leave_event, inside_open}
+use Rattle.heap_system.proofs.step_rows.PartLaws.{PartLaws}
 
 pub again_laws : (c : Config) → PartLaws c Retry
 again_laws c = record {

@@ -7,19 +7,18 @@ use Rattle.block_store.specs.Counts.{changed}
 use Rattle.block_store.specs.Heaps.{Heap}
 use Rattle.block_store.specs.Phases.{bit, cycle_of}
 use Rattle.block_store.specs.Places.{Phase, Cursor, ColourOf, extent}
-use Rattle.block_store.proofs.ColourWords.{free_free, not_free_black}
-use Rattle.block_store.proofs.Functions.{changed_self}
-use Rattle.heap_machine.specs.Holdings.{Holding, holds_nothing}
+use Rattle.block_store.proofs.Lemmas.{changed_self, free_free, not_free_black}
+use Rattle.heap_machine.specs.WorkInHand.{WorkInHand, holds_nothing}
 use Rattle.heap_machine.specs.Operations.{place_of, heap_after}
 use Rattle.heap_machine.specs.PhaseKept.{PhaseKept}
 use Rattle.heap_machine.specs.Readings.{IsHeld}
-use Rattle.heap_invariant.specs.name_invariant.Kept.{IsKept}
+use Rattle.heap_invariant.specs.name_invariant.Invariant.{Invariant}
 use Rattle.heap_invariant.specs.name_invariant.Pictures.{Task, no_task, picture}
 use Rattle.sweep_steps.specs.declared.rows.SweepRow.{SweepRow}
 use Rattle.sweep_steps.specs.declared.rows.SweepRow.TheVariants as sweeps
 use Rattle.sweep_steps.specs.SweepUnits.{row_passes, unpassed}
 use Rattle.sweep_steps.specs.Fits.{SweepFits, SweepReads, IsSweeping}
-use Rattle.sweep_steps.specs.Rows.{SweepState, row_want, row_got, after_range, next_block, before_free, step_to, sweep_want, sweep_got, sweep_over, sweep_step, sweep_passed, sweep_nothing, sweep_holding}
+use Rattle.sweep_steps.specs.Rows.{SweepState, row_want, row_got, after_range, next_block, before_free, step_to, sweep_want, sweep_got, sweep_over, sweep_step, sweep_passed, sweep_nothing, sweep_in_hand}
 use Rattle.sweep_steps.proofs.Cursor.{both_move, cursor_moves, nothing_behind}
 use Rattle.sweep_steps.proofs.FreedBlocks.{keeps_phase, keeps_words, leaves_others}
 use Rattle.sweep_steps.proofs.ReuseRulesKept.{over_holds_none}
@@ -27,16 +26,16 @@ use Rattle.sweep_steps.proofs.PassedBlocks.{passed_bits, passed_few}
 use Rattle.sweep_steps.proofs.Pictures.{keeps_names}
 use Rattle.sweep_steps.proofs.RowsFit.{fits_next, place_fits, sum_fits}
 use Rattle.heap_system.specs.declared.Turn.TheVariants as turns
-use Rattle.heap_system.specs.Parts.{Sweep, Retry, ToChange}
+use Rattle.heap_system.specs.Parts.{Sweep, Retry, LeaveToChangePhase}
 use Rattle.heap_system.specs.Locals.{turn_of, sweep_waits, task, spent_got}
 use Rattle.heap_system.specs.Units.{blackens}
-use Rattle.heap_system.proofs.GatePassage.{inside_open}
-use Rattle.heap_system.proofs.PartLaws.{AtPart, PartLaws}
-use Rattle.heap_system.proofs.SeenAndKept.{Seen, EventKept}
+use Rattle.heap_system.proofs.step_rows.GatePassage.{inside_open}
+use Rattle.heap_system.proofs.step_rows.PartLaws.{AtPart, PartLaws}
+use Rattle.heap_system.proofs.invariant.SeenAndKept.{Seen, EventKept}
 use Rattle.heap_system.proofs.parts.InPass.{not_both, grey_or_black, of_pass, PassEvent, pass_is, pass_kept, stands, paid_more, units_are}
 
 -- the sweep reads no payload
-none_found : (r : SweepRow) → (sweep_holding r).found ≡ 0
+none_found : (r : SweepRow) → (sweep_in_hand r).found ≡ 0
 none_found sweeps.ReadCursor = refl
 none_found (sweeps.ClaimRange x high) = refl
 none_found (sweeps.PassBlock x high p a f) = refl
@@ -133,7 +132,7 @@ module _ (c : Config) (s : Seen c) (p : SweepState) (at : AtPart c s (Sweep p)) 
     cycle = sym (pass_is c s (Sweep p) at refl).0 ∙ sym at.part.cycle;
   }
 
-  holds : s.holds p.thread ≡ sweep_holding p.row
+  holds : s.holds p.thread ≡ sweep_in_hand p.row
   holds = ap s.holds at.part.thread ∙ at.holds
 
   phase : new Phase ≡ s.heap Phase
@@ -142,19 +141,19 @@ module _ (c : Config) (s : Seen c) (p : SweepState) (at : AtPart c s (Sweep p)) 
   held : IsHeld c new
   held = keeps_words c s.heap s.holds p fits s.rules.reuse holds s.held
 
-  rules : PhaseKept (extent c) new (changed s.holds s.thread (sweep_holding next.row))
+  rules : PhaseKept (extent c) new (changed s.holds s.thread (sweep_in_hand next.row))
   rules = subst
-      (λ t. PhaseKept (extent c) new (changed s.holds t (sweep_holding next.row)))
+      (λ t. PhaseKept (extent c) new (changed s.holds t (sweep_in_hand next.row)))
       at.part.thread (keeps_phase c s.heap s.holds p fits sweeping s.rules holds)
 
-  pictured : IsKept c (picture s.graph s.order new s.names s.tasks)
+  pictured : Invariant c (picture s.graph s.order new s.names s.tasks)
   pictured = keeps_names c s.graph s.order s.heap s.names s.tasks p s.holds fits sweeping
       s.rules.reuse holds s.kept
 
   -- the thread is at nothing else, before it and after
   kept : (w : Task) → w ≡ no_task
-      → IsKept c (picture s.graph s.order new s.names (changed s.tasks s.thread w))
-  kept w none = subst (λ (ts : ℕ → Task). IsKept c (picture s.graph s.order new s.names ts))
+      → Invariant c (picture s.graph s.order new s.names (changed s.tasks s.thread w))
+  kept w none = subst (λ (ts : ℕ → Task). Invariant c (picture s.graph s.order new s.names ts))
       (sym (changed_self s.tasks s.thread w (at.task
       ∙ ap (λ x. record no_task { scan = x }) (none_found p.row) ∙ sym none)))
       pictured
@@ -162,7 +161,7 @@ module _ (c : Config) (s : Seen c) (p : SweepState) (at : AtPart c s (Sweep p)) 
   rises : s.heap Cursor ≤ new Cursor
   rises = omega (arith, cursor_moves c s.heap p fits)
 
-  passed : (w : Holding) → sweep_holding next.row ≡ w
+  passed : (w : WorkInHand) → sweep_in_hand next.row ≡ w
       → new Cursor + unpassed (s.holds s.thread) ≤ s.heap Cursor + unpassed w + bit unit
   passed w is = omega (
     arith,
@@ -182,7 +181,7 @@ module _ (c : Config) (s : Seen c) (p : SweepState) (at : AtPart c s (Sweep p)) 
   goes_on more = record {
     phase = phase;
     rises = rises;
-    passed = passed (sweep_holding next.row) refl;
+    passed = passed (sweep_in_hand next.row) refl;
     held = held;
     rules = rules;
     kept = kept (task c (Sweep next))
@@ -204,12 +203,12 @@ module _ (c : Config) (s : Seen c) (p : SweepState) (at : AtPart c s (Sweep p)) 
   }
 
   -- the part is over, with nothing claimed or in hand
-  nothing : sweep_over next.row ≡ true → sweep_holding next.row ≡ holds_nothing
+  nothing : sweep_over next.row ≡ true → sweep_in_hand next.row ≡ holds_nothing
   nothing over = over_holds_none next.row over
 
   ended_rules : sweep_over next.row ≡ true
       → PhaseKept (extent c) new (changed s.holds s.thread holds_nothing)
-  ended_rules over = subst (λ (w : Holding). PhaseKept (extent c) new (changed s.holds s.thread w))
+  ended_rules over = subst (λ (w : WorkInHand). PhaseKept (extent c) new (changed s.holds s.thread w))
       (nothing over) rules
 
   again : sweep_over next.row ≡ true → PassEvent c s new unit Retry
@@ -230,7 +229,7 @@ module _ (c : Config) (s : Seen c) (p : SweepState) (at : AtPart c s (Sweep p)) 
     settled = tt;
   }
 
-  idle : sweep_over next.row ≡ true → sweep_nothing next.row ≡ true → PassEvent c s new unit ToChange
+  idle : sweep_over next.row ≡ true → sweep_nothing next.row ≡ true → PassEvent c s new unit LeaveToChangePhase
   idle over none =
       let behind : c.blocks < s.heap Cursor =
       nothing_behind c s.heap p fits (still_some p.row at.part.going) none in
@@ -253,9 +252,9 @@ module _ (c : Config) (s : Seen c) (p : SweepState) (at : AtPart c s (Sweep p)) 
 
   event : (over none : Bool) → sweep_over next.row ≡ over → sweep_nothing next.row ≡ none
       → EventKept c s new (of_pass (sweep_step p read) unit) None
-      (cond over (cond none ToChange Retry) (Sweep next))
+      (cond over (cond none LeaveToChangePhase Retry) (Sweep next))
   event true true is none =
-      pass_kept c s (Sweep p) at refl new (sweep_step p read) unit ToChange (idle is none)
+      pass_kept c s (Sweep p) at refl new (sweep_step p read) unit LeaveToChangePhase (idle is none)
   event true false is none =
       pass_kept c s (Sweep p) at refl new (sweep_step p read) unit Retry (again is)
   event false some is none =

@@ -8,8 +8,8 @@ use Rattle.block_store.specs.Colours.{link, black_word}
 use Rattle.block_store.specs.Heaps.{Heap, put_at}
 use Rattle.block_store.specs.Places.{FreeCount, ColourOf}
 use Rattle.block_store.specs.Widths.{payloads}
-use Rattle.block_store.proofs.Functions.{changed_else}
-use Rattle.never_heap.specs.RightWork.{units_told}
+use Rattle.block_store.proofs.Lemmas.{changed_else}
+use Rattle.never_heap.specs.RightWork.{requested_units}
 use Rattle.never_heap.specs.declared.Entry.{Entry}
 use Rattle.never_heap.specs.declared.Reply.{Reply}
 use Rattle.never_heap.specs.declared.Reply.TheVariants as replies
@@ -17,7 +17,7 @@ use Rattle.never_heap.specs.Graphs.{next_name}
 use Rattle.never_heap.specs.Histories.{Did, is_full}
 use Rattle.never_heap.specs.Steps.{step, blocks_of}
 use Rattle.never_heap.specs.Taken.{blocks_if_new}
-use Rattle.never_heap.proofs.StepAnswers.{blocks_answer, blocks_untold}
+use Rattle.never_heap.proofs.Lemmas.{blocks_answer, blocks_untold}
 use Rattle.heap_machine.specs.Gating.{Gating, is_outside}
 use Rattle.heap_machine.specs.Operations.{place_of, heap_after}
 use Rattle.heap_machine.specs.declared.Step.{Step}
@@ -26,26 +26,26 @@ use Rattle.build_steps.specs.declared.rows.BuildRow.TheVariants as rows
 use Rattle.build_steps.specs.LinearizationPoints.{is_counting, is_publishing}
 use Rattle.build_steps.specs.Fits.{RowFits}
 use Rattle.build_steps.specs.Naming.{is_building, row_build, built_object}
-use Rattle.build_steps.specs.Rows.{BuildState, row_want, row_got, row_step, row_reply, row_holding, held_got, built_at, after_take, after_collect, after_last, after_payload, after_colour, build_over, full_cycle}
+use Rattle.build_steps.specs.Rows.{BuildState, row_want, row_got, row_step, row_reply, row_in_hand, held_got, built_at, after_take, after_collect, after_last, after_payload, after_colour, build_over, full_cycle}
 use Rattle.build_steps.specs.Standing.{left_of, begun_of}
 use Rattle.build_steps.proofs.Parts.{has_blocks}
 use Rattle.build_steps.proofs.Shapes.{made_blocks}
 use Rattle.work_account.specs.Accounts.{published, refused}
 use Rattle.heap_invariant.specs.cycle_tally.Events as events
 use Rattle.heap_invariant.specs.cycle_tally.Tallies.{Spending, Tally, made_of}
-use Rattle.heap_invariant.proofs.cycle_tally.OneThreadEvents.{spends_here, spends_twice, others_twice}
+use Rattle.heap_invariant.proofs.Lemmas.{others_twice, spends_here, spends_twice}
 use Rattle.heap_system.specs.Parts.{Build, Leave}
 use Rattle.heap_system.specs.Locals.{Open, AsStep, Refused, plain, if_decides, if_replied, entry_of, idle_part}
-use Rattle.heap_system.proofs.Balances.{no_idle}
+use Rattle.heap_system.proofs.accounting.Balances.{no_idle}
 use Rattle.heap_system.specs.Naming.{Same, Made}
-use Rattle.heap_system.proofs.PartLaws.{AtPart}
-use Rattle.heap_system.proofs.SeenAndKept.{Seen}
+use Rattle.heap_system.proofs.step_rows.PartLaws.{AtPart}
+use Rattle.heap_system.proofs.invariant.SeenAndKept.{Seen}
 use Rattle.heap_system.proofs.parts.Build.{row_no_reply}
-use Rattle.heap_system.proofs.TallyLaw.{IsSpending, Counted, TallyEvent, TallyLaw, reserved_for, Asking, asking, IsNext}
+use Rattle.heap_system.proofs.accounting.TallyLaw.{IsSpending, Counted, TallyEvent, TallyLaw, reserved_for, Asking, asking, IsNext}
 use Rattle.heap_system.proofs.tallies.Moves.{SameWords, same_words, paid_by, told_none, stays, moves}
 
 -- a builder claims nothing
-no_claim : (k : ℕ) (held : List ℕ) (r : BuildRow) → ((row_holding k held r).low ≡ 0) × ((row_holding k held r).high ≡ 0)
+no_claim : (k : ℕ) (held : List ℕ) (r : BuildRow) → ((row_in_hand k held r).low ≡ 0) × ((row_in_hand k held r).high ≡ 0)
 no_claim k held (rows.TakeFree u) = (refl, refl)
 no_claim k held _ = (refl, refl)
 
@@ -64,13 +64,13 @@ IsOn r building = (build_over r ≡ false) × (is_building r ≡ building)
 take_on : (n u v : ℕ) → IsOn (after_take n u v) true
 take_on n u v = elim (cases_Bool (eqb v 0)) [ inl e ↦ rw e (refl, refl) | inr e ↦ rw e (refl, refl) ]
 
-last_on : (k hand : ℕ) → IsOn (after_last k hand) true
-last_on k hand = elim (cases_Bool (eqb hand 0)) [ inl e ↦ rw e (refl, refl) | inr e ↦ rw e (refl, refl) ]
+last_on : (k list : ℕ) → IsOn (after_last k list) true
+last_on k list = elim (cases_Bool (eqb list 0)) [ inl e ↦ rw e (refl, refl) | inr e ↦ rw e (refl, refl) ]
 
-collect_on : (k n count hand u : ℕ) → IsOn (after_collect k n count hand u) true
-collect_on k n count hand u = elim (cases_Bool (eqb count k)) [
-  | inl e ↦ rw e (last_on k hand)
-  | inr e ↦ elim (cases_Bool (eqb hand 0)) [ inl z ↦ rw (e, z) (refl, refl) | inr z ↦ rw (e, z) (refl, refl) ]
+collect_on : (k n count list u : ℕ) → IsOn (after_collect k n count list u) true
+collect_on k n count list u = elim (cases_Bool (eqb count k)) [
+  | inl e ↦ rw e (last_on k list)
+  | inr e ↦ elim (cases_Bool (eqb list 0)) [ inl z ↦ rw (e, z) (refl, refl) | inr z ↦ rw (e, z) (refl, refl) ]
 ]
 
 payload_on : (many o j : ℕ) → IsOn (after_payload many o j) true
@@ -112,24 +112,24 @@ module _ (c : Config) (rate : ℕ) (s : Seen c) (b : BuildState) (at : AtPart c 
   asks_some = subst (λ k. 1 ≤ blocks_of c.width k) at.part.command (has_blocks c b at.fits.0)
 
   -- all is paid
-  untold : units_told s.command ≡ 0
+  untold : requested_units s.command ≡ 0
   untold = blocks_untold c.width s.command asks_some
 
   idled_none : (before.threads s.thread).idled ≡ 0
-  idled_none = k.own.idled ∙ no_idle (units_told s.command) s.spent untold
+  idled_none = k.own.idled ∙ no_idle (requested_units s.command) s.spent untold
 
   paid_all : events.IsAllPaid rate (before.threads s.thread)
   paid_all =
       let price : rate * (before.threads s.thread).asked ≡ rate * blocks_of c.width s.command = ap (λ n. rate * n) k.own.asked in
-      record { paid = omega (arith, price, paid_by c rate s (Build b) before k, idled_none, at.settled, k.due, untold); untold = k.own.told ∙ untold }
+      record { paid = omega (arith, price, paid_by c rate s (Build b) before k, idled_none, at.settled, k.due, untold); untold = k.own.requested ∙ untold }
 
   -- a part that goes on, and has so much reserved
-  spends : (later : BuildState) → later.command ≡ b.command → (x : Bool) → is_building later.row ≡ x → (w : Spending) → w.inside ≡ true → w.balance ≡ s.balance → w.asked ≡ asked → w.told ≡ units_told s.command → w.idled ≡ idle_part (units_told s.command) s.spent → w.low ≡ 0 → w.high ≡ 0 → w.reserved ≡ cond x asked 0 → IsSpending c (Build later) s.balance (asking c s.command s.spent) w
+  spends : (later : BuildState) → later.command ≡ b.command → (x : Bool) → is_building later.row ≡ x → (w : Spending) → w.inside ≡ true → w.balance ≡ s.balance → w.asked ≡ asked → w.requested ≡ requested_units s.command → w.idled ≡ idle_part (requested_units s.command) s.spent → w.low ≡ 0 → w.high ≡ 0 → w.reserved ≡ cond x asked 0 → IsSpending c (Build later) s.balance (asking c s.command s.spent) w
   spends later same x builds w inside paid asks_ tells idles low high reserved = record {
     inside = inside;
     account = paid;
     asked = asks_;
-    told = tells;
+    requested = tells;
     idled = idles;
     low = low ∙ sym (no_claim later.blocks later.held later.row).0;
     high = high ∙ sym (no_claim later.blocks later.held later.row).1;
@@ -146,7 +146,7 @@ module _ (c : Config) (rate : ℕ) (s : Seen c) (b : BuildState) (at : AtPart c 
   -- nothing of it counts
   quiet : (new : Heap) → SameWords s.heap new → (step : Step) (later : BuildState) → later.command ≡ b.command → (x : Bool) → (before.threads s.thread).reserved ≡ cond x asked 0 → IsOn later.row x → Goes new step later
   quiet new same step later own x reserved on = goes new step later on.0 (stays c rate s (Build b) before k new (record (plain step) { reply = None; verdict = Open; naming = Same }) (Build later) next same refl refl refl
-      (spends later own x on.1 (before.threads s.thread) k.own.inside k.own.account k.own.asked k.own.told k.own.idled low high reserved))
+      (spends later own x on.1 (before.threads s.thread) k.own.inside k.own.account k.own.asked k.own.requested k.own.idled low high reserved))
 
   -- the reservation, won or lost
   reserving : (seen : ℕ) (won : Bool) → eqb (s.heap FreeCount) seen ≡ won → b.blocks ≤ seen → (before.threads s.thread).reserved ≡ 0 → (step : Step) → Goes (cond won (put_at s.heap FreeCount (seen - b.blocks)) s.heap) step (record b { row = cond won (rows.TakeFree 0) rows.ReadCount })
@@ -158,7 +158,7 @@ module _ (c : Config) (rate : ℕ) (s : Seen c) (b : BuildState) (at : AtPart c 
       goes _ step later refl (moves c rate s (Build b) before k (events.Reserve s.thread ∷ []) ((s.low, k.own.inside, none, paid_all, omega (arith, k.own.asked, size, enough, seen_is, k.of.free)), tt)
       (put_at s.heap FreeCount (seen - b.blocks)) (record (plain step) { reply = None; verdict = Open; naming = Same }) (Build later) next
       (record { cycle = k.of.cycle; sweep = k.of.sweep; cursor = k.of.cursor; free = omega (arith, k.own.asked, size, seen_is, k.of.free); colour = k.of.colour; order = told_none c rate s (Build b) before k (record (plain step) { reply = None; verdict = Open; naming = Same }) refl refl })
-      (spends_here (IsSpending c (Build later) s.balance (asking c s.command s.spent)) before.threads s.thread new (spends later refl true refl new k.own.inside k.own.account k.own.asked k.own.told k.own.idled low high k.own.asked))
+      (spends_here (IsSpending c (Build later) s.balance (asking c s.command s.spent)) before.threads s.thread new (spends later refl true refl new k.own.inside k.own.account k.own.asked k.own.requested k.own.idled low high k.own.asked))
       (λ u other. changed_else before.threads s.thread u new other) (λ x. refl) (λ x. refl) refl)
   reserving seen false is enough none step = quiet s.heap (same_words s.heap) step (record b { row = rows.ReadCount }) refl false none (refl, refl)
 
@@ -166,7 +166,7 @@ module _ (c : Config) (rate : ℕ) (s : Seen c) (b : BuildState) (at : AtPart c 
   entry r = entry_of s.thread s.command s.spent r
 
   decides : (r : Reply) → events.Decides c s.thread (before.threads s.thread) (entry r)
-  decides r = record { thread = refl; blocks = sym k.own.asked; told = sym k.own.told; work = sym (paid_by c rate s (Build b) before k) }
+  decides r = record { thread = refl; blocks = sym k.own.asked; requested = sym k.own.requested; work = sym (paid_by c rate s (Build b) before k) }
 
   -- too few blocks are free
   refuses : s.heap FreeCount < b.blocks → (before.threads s.thread).reserved ≡ 0 → (step : Step) → TallyEvent c rate s s.heap (record (plain step) { reply = Some (replies.Full (full_cycle b.cycle)); verdict = Refused (replies.Full (full_cycle b.cycle)); naming = Same }) Leave next before
@@ -174,13 +174,13 @@ module _ (c : Config) (rate : ℕ) (s : Seen c) (b : BuildState) (at : AtPart c 
       let w : Spending = before.threads s.thread in
       let r : Reply = replies.Full (full_cycle b.cycle) in
       let new : Spending = record w { balance = refused w.balance } in
-      moves c rate s (Build b) before k (events.Refuse s.thread (entry r) ∷ events.Next s.thread next.blocks next.told ∷ []) (
+      moves c rate s (Build b) before k (events.Refuse s.thread (entry r) ∷ events.Next s.thread next.blocks next.requested ∷ []) (
         (s.low, k.own.inside, omega (arith, low, high), decides r, none, paid_all, omega (arith, k.own.asked, size, less, k.of.free), ap replies.Full (full_is b.cycle (omega (arith, cycle, k.kept.some)) ∙ ap (λ z. max 1 (z - 1)) cycle)),
         ((s.low, spends_here (λ v. v.high ≤ v.low) before.threads s.thread new (omega (arith, low, high)), spends_here (λ v. v.reserved ≡ 0) before.threads s.thread new none, spends_here (λ v. made_of v ≡ 0) before.threads s.thread new (omega (arith, idled_none)), few.blocks, few.apart, few.few), tt),
       )
       s.heap (record (plain step) { reply = Some r; verdict = Refused r; naming = Same }) Leave next
       (record { cycle = k.of.cycle; sweep = k.of.sweep; cursor = k.of.cursor; free = k.of.free; colour = k.of.colour; order = ap (λ o. o ++ Did (entry r) ∷ []) k.of.order })
-      (spends_twice (IsSpending c Leave (refused s.balance) next) before.threads s.thread new (λ v. record v { asked = next.blocks; told = next.told }) (record { inside = k.own.inside; account = ap refused k.own.account; asked = refl; told = refl; idled = idled_none ∙ sym few.none; low = low; high = high; reserved = none }))
+      (spends_twice (IsSpending c Leave (refused s.balance) next) before.threads s.thread new (λ v. record v { asked = next.blocks; requested = next.requested }) (record { inside = k.own.inside; account = ap refused k.own.account; asked = refl; requested = refl; idled = idled_none ∙ sym few.none; low = low; high = high; reserved = none }))
       (λ u other. others_twice before.threads s.thread new _ u other) (λ x. refl) (λ x. refl) refl
 
   -- the object is published
@@ -190,13 +190,13 @@ module _ (c : Config) (rate : ℕ) (s : Seen c) (b : BuildState) (at : AtPart c 
       let r : Reply = (step s.graph s.thread s.command).1 in
       let made : r ≡ replies.New (next_name s.graph s.thread) = blocks_answer c.width s.graph s.thread s.command asks_some in
       let later : Spending = record w { reserved = 0; balance = published w.asked w.balance } in
-      moves c rate s (Build b) before k (events.Publish s.thread (entry r) ∷ events.Next s.thread next.blocks next.told ∷ []) (
+      moves c rate s (Build b) before k (events.Publish s.thread (entry r) ∷ events.Next s.thread next.blocks next.requested ∷ []) (
         (s.low, k.own.inside, omega (arith, low, high), decides r, all ∙ sym k.own.asked, paid_all, ap (λ x. blocks_if_new x asked) made ∙ sym k.own.asked, ap is_full made),
         ((s.low, spends_here (λ v. v.high ≤ v.low) before.threads s.thread later (omega (arith, low, high)), spends_here (λ v. v.reserved ≡ 0) before.threads s.thread later refl, spends_here (λ v. made_of v ≡ 0) before.threads s.thread later (omega (arith, idled_none)), few.blocks, few.apart, few.few), tt),
       )
       new (record (plain step_is) { reply = Some (replies.New name); verdict = AsStep; naming = Made (built_at b) }) Leave next
       (record { cycle = k.of.cycle ∙ sym same.cycle; sweep = k.of.sweep ∙ sym same.sweep; cursor = k.of.cursor ∙ sym same.cursor; free = k.of.free ∙ sym same.free; colour = λ x. k.of.colour x ∙ sym (same.colour x); order = ap (λ o. o ++ Did (entry r) ∷ []) k.of.order })
-      (spends_twice (IsSpending c Leave (published asked s.balance) next) before.threads s.thread later (λ v. record v { asked = next.blocks; told = next.told }) (record { inside = k.own.inside; account = λ i. published (k.own.asked i) (k.own.account i); asked = refl; told = refl; idled = idled_none ∙ sym few.none; low = low; high = high; reserved = refl }))
+      (spends_twice (IsSpending c Leave (published asked s.balance) next) before.threads s.thread later (λ v. record v { asked = next.blocks; requested = next.requested }) (record { inside = k.own.inside; account = λ i. published (k.own.asked i) (k.own.account i); asked = refl; requested = refl; idled = idled_none ∙ sym few.none; low = low; high = high; reserved = refl }))
       (λ u other. others_twice before.threads s.thread later _ u other) (λ x. refl) (λ x. refl) refl
 
   -- a block becomes black
@@ -204,7 +204,7 @@ module _ (c : Config) (rate : ℕ) (s : Seen c) (b : BuildState) (at : AtPart c 
   blackens x step later own all on = goes _ step later on.0 (moves c rate s (Build b) before k (events.Paint x (black_word b.cycle) ∷ []) ((λ mark black. ap black_word cycle), tt)
       (put_at s.heap (ColourOf x) (black_word b.cycle)) (record (plain step) { reply = None; verdict = Open; naming = Same }) (Build later) next
       (record { cycle = k.of.cycle; sweep = k.of.sweep; cursor = k.of.cursor; free = k.of.free; colour = λ y. (λ i. cond (eqb x y) (black_word b.cycle) (k.of.colour y i)); order = told_none c rate s (Build b) before k (record (plain step) { reply = None; verdict = Open; naming = Same }) refl refl })
-      (spends later own true on.1 (before.threads s.thread) k.own.inside k.own.account k.own.asked k.own.told k.own.idled low high all) (λ u other. refl) (λ x. refl) (λ x. refl) refl)
+      (spends later own true on.1 (before.threads s.thread) k.own.inside k.own.account k.own.asked k.own.requested k.own.idled low high all) (λ u other. refl) (λ x. refl) (λ x. refl) refl)
 
   -- the free count was read
   counting : (less : Bool) → ltb (s.heap FreeCount) b.blocks ≡ less → (before.threads s.thread).reserved ≡ 0 → (later : BuildState) → later ≡ record b { row = cond less rows.Refused (rows.Reserve (s.heap FreeCount)) } → (step : Step)

@@ -6,8 +6,7 @@ use Rattle.block_store.specs.declared.PhaseWord.{PhaseWord}
 use Rattle.block_store.specs.Heaps.{put_at}
 use Rattle.block_store.specs.Phases.{phase_of, is_closed, is_sweep, cycle_of}
 use Rattle.block_store.specs.Places.{Phase, extent}
-use Rattle.block_store.proofs.Functions.{changed_else}
-use Rattle.block_store.proofs.PhaseWords.{phase-more}
+use Rattle.block_store.proofs.Lemmas.{changed_else, phase-more}
 use Rattle.never_heap.specs.declared.Command.{Command}
 use Rattle.never_heap.specs.declared.Command.TheVariants as commands
 use Rattle.never_heap.specs.Steps.{blocks_of}
@@ -17,38 +16,38 @@ use Rattle.heap_machine.specs.declared.gate.GateRow.{GateRow}
 use Rattle.heap_machine.specs.declared.gate.GateRow.TheVariants as gates
 use Rattle.heap_machine.specs.Gates.{is_going_in}
 use Rattle.heap_machine.specs.declared.pass.Pass.{Pass}
-use Rattle.barrier_steps.specs.Rows.{at_first_row, field_holding}
+use Rattle.barrier_steps.specs.Rows.{at_first_row, field_in_hand}
 use Rattle.grey_steps.specs.Rows.{scanning}
 use Rattle.sweep_steps.specs.Rows.{sweeping}
 use Rattle.build_steps.specs.Rows.{building}
 use Rattle.work_account.specs.Accounts.{Balance, entered}
 use Rattle.heap_invariant.specs.cycle_tally.Events as events
 use Rattle.heap_invariant.specs.cycle_tally.Tallies.{Spending, Tally}
-use Rattle.heap_invariant.proofs.cycle_tally.OneThreadEvents.{spends_here}
-use Rattle.heap_system.specs.Parts.{Part, Rest, Enter, Serve, Mark, Sweep, Build}
+use Rattle.heap_invariant.proofs.Lemmas.{spends_here}
+use Rattle.heap_system.specs.Parts.{Part, Rest, Enter, Access, Mark, Sweep, Build}
 use Rattle.heap_system.specs.Locals.{Errand, plain, first_part, pass_by, effect, part_want, part_got}
-use Rattle.heap_system.proofs.GatePassage.{phase_is}
-use Rattle.heap_system.proofs.PartLaws.{word_at}
-use Rattle.heap_system.proofs.SeenAndKept.{Seen, IsEntering, errand}
-use Rattle.heap_system.proofs.TallyLaw.{IsSpending, Counted, TallyEvent, TallyLaw, Asking, asking}
+use Rattle.heap_system.proofs.step_rows.GatePassage.{phase_is}
+use Rattle.heap_system.proofs.step_rows.PartLaws.{word_at}
+use Rattle.heap_system.proofs.invariant.SeenAndKept.{Seen, IsEntering, errand}
+use Rattle.heap_system.proofs.accounting.TallyLaw.{IsSpending, Counted, TallyEvent, TallyLaw, Asking, asking}
 use Rattle.heap_system.proofs.tallies.Moves.{spends_on, same_words, told_none, stays, moves}
 
 -- a command begins with nothing claimed
-first_claims : (c : Config) (q : Pass) (k : Command) → ((field_holding (extent c) (at_first_row q k)).low ≡ 0) × ((field_holding (extent c) (at_first_row q k)).high ≡ 0)
+first_claims : (c : Config) (q : Pass) (k : Command) → ((field_in_hand (extent c) (at_first_row q k)).low ≡ 0) × ((field_in_hand (extent c) (at_first_row q k)).high ≡ 0)
 first_claims c q (commands.New d f) = (refl, refl)
 first_claims c q _ = (refl, refl)
 
 -- a pass begins inside, with nothing claimed or reserved
-module _ (c : Config) (q : Pass) (e : Errand) (b : Balance) (asked : Asking) (w : Spending) (inside : w.inside ≡ true) (pays : w.balance ≡ b) (asks : w.asked ≡ asked.blocks) (tells : w.told ≡ asked.told) (idles : w.idled ≡ asked.idled) (low : w.low ≡ 0) (high : w.high ≡ 0) (reserved : w.reserved ≡ 0) where
+module _ (c : Config) (q : Pass) (e : Errand) (b : Balance) (asked : Asking) (w : Spending) (inside : w.inside ≡ true) (pays : w.balance ≡ b) (asks : w.asked ≡ asked.blocks) (tells : w.requested ≡ asked.requested) (idles : w.idled ≡ asked.idled) (low : w.low ≡ 0) (high : w.high ≡ 0) (reserved : w.reserved ≡ 0) where
   owing : (y : Bool) → IsSpending c (cond y (Sweep (sweeping q.thread q.cycle c.blocks e.due)) (Mark (scanning q))) b asked w
-  owing true = record { inside = inside; account = pays; asked = asks; told = tells; idled = idles; low = low; high = high; reserved = reserved }
-  owing false = record { inside = inside; account = pays; asked = asks; told = tells; idled = idles; low = low; high = high; reserved = reserved }
+  owing true = record { inside = inside; account = pays; asked = asks; requested = tells; idled = idles; low = low; high = high; reserved = reserved }
+  owing false = record { inside = inside; account = pays; asked = asks; requested = tells; idled = idles; low = low; high = high; reserved = reserved }
 
-  paying : (y : Bool) → IsSpending c (cond y (Build (building c.width q.thread q.threads q.cycle e.serial e.command e.space)) (Serve (at_first_row q e.command))) b asked w
-  paying true = record { inside = inside; account = pays; asked = asks; told = tells; idled = idles; low = low; high = high; reserved = reserved }
-  paying false = record { inside = inside; account = pays; asked = asks; told = tells; idled = idles; low = low ∙ sym (first_claims c q e.command).0; high = high ∙ sym (first_claims c q e.command).1; reserved = reserved }
+  paying : (y : Bool) → IsSpending c (cond y (Build (building c.width q.thread q.threads q.cycle e.serial e.command e.space)) (Access (at_first_row q e.command))) b asked w
+  paying true = record { inside = inside; account = pays; asked = asks; requested = tells; idled = idles; low = low; high = high; reserved = reserved }
+  paying false = record { inside = inside; account = pays; asked = asks; requested = tells; idled = idles; low = low ∙ sym (first_claims c q e.command).0; high = high ∙ sym (first_claims c q e.command).1; reserved = reserved }
 
-  either : (y : Bool) → IsSpending c (cond y (cond q.sweep (Sweep (sweeping q.thread q.cycle c.blocks e.due)) (Mark (scanning q))) (cond (ltb 0 (blocks_of c.width e.command)) (Build (building c.width q.thread q.threads q.cycle e.serial e.command e.space)) (Serve (at_first_row q e.command)))) b asked w
+  either : (y : Bool) → IsSpending c (cond y (cond q.sweep (Sweep (sweeping q.thread q.cycle c.blocks e.due)) (Mark (scanning q))) (cond (ltb 0 (blocks_of c.width e.command)) (Build (building c.width q.thread q.threads q.cycle e.serial e.command e.space)) (Access (at_first_row q e.command)))) b asked w
   either true = owing q.sweep
   either false = paying (ltb 0 (blocks_of c.width e.command))
 
@@ -77,7 +76,7 @@ module _ (c : Config) (rate : ℕ) (s : Seen c) (p : Part) (before : Tally) (k :
       moves c rate s p before k (events.Enter s.thread ∷ []) (s.low, tt) (put_at s.heap Phase (seen + 1)) (record (plain steps.Over) { entered = Some (phase_of seen) }) (first_part c (pass_by s.thread c.threads (phase_of seen)) (errand c s)) next
       (record { cycle = k.of.cycle ∙ sym cycle; sweep = k.of.sweep ∙ sym sweep; cursor = k.of.cursor; free = k.of.free; colour = k.of.colour; order = told_none c rate s p before k (record (plain steps.Over) { entered = Some (phase_of seen) }) refl refl })
       (spends_here (IsSpending c (first_part c (pass_by s.thread c.threads (phase_of seen)) (errand c s)) (entered (cycle_of seen) s.balance) (asking c s.command s.spent)) before.threads s.thread (record w { inside = true; balance = entered before.cycle w.balance })
-      (begins c (pass_by s.thread c.threads (phase_of seen)) (errand c s) (entered (cycle_of seen) s.balance) (asking c s.command s.spent) (record w { inside = true; balance = entered before.cycle w.balance }) refl (λ i. entered (same_cycle i) (own.account i)) own.asked own.told own.idled own.low own.high own.reserved))
+      (begins c (pass_by s.thread c.threads (phase_of seen)) (errand c s) (entered (cycle_of seen) s.balance) (asking c s.command s.spent) (record w { inside = true; balance = entered before.cycle w.balance }) refl (λ i. entered (same_cycle i) (own.account i)) own.asked own.requested own.idled own.low own.high own.reserved))
       (λ u other. changed_else before.threads s.thread u _ other) (λ x. refl) (λ x. refl) refl
 
   enters : (seen : ℕ) → TallyEvent c rate s (cond (eqb (s.heap Phase) seen) (put_at s.heap Phase (seen + 1)) s.heap) (effect c (Enter (gates.Enter seen)) (s.heap Phase)) (part_got c s.thread (errand c s) s.pass (Enter (gates.Enter seen)) (s.heap Phase)) next before

@@ -8,35 +8,33 @@ use Rattle.block_store.specs.Counts.{total}
 use Rattle.block_store.specs.Heaps.{Heap, put_at}
 use Rattle.block_store.specs.Phases.{bit, is_sweep, cycle_of}
 use Rattle.block_store.specs.Places.{Phase, Cursor, FreeCount, ColourOf}
-use Rattle.block_store.proofs.Functions.{total_none}
+use Rattle.block_store.proofs.Lemmas.{total_none}
 use Rattle.never_heap.specs.Cycles.{graph_at}
-use Rattle.never_heap.specs.Given.{given}
+use Rattle.never_heap.specs.GivenBlocks.{given}
 use Rattle.never_heap.specs.Histories.{Started}
 use Rattle.never_heap.specs.LiveBlocks.{live_blocks}
 use Rattle.heap_machine.specs.Gates.{gate_want, gate_got, gate_step}
 use Rattle.heap_machine.specs.Gating.{is_inside}
-use Rattle.heap_machine.specs.Holdings.{Holding, holds_nothing}
+use Rattle.heap_machine.specs.WorkInHand.{WorkInHand, holds_nothing}
 use Rattle.heap_machine.specs.Operations.{CompareExchange, place_of, heap_after}
-use Rattle.heap_machine.specs.ChangingPhase.{changing_gating, changing_holding}
+use Rattle.heap_machine.specs.ChangingPhase.{changing_gating, changing_in_hand}
 use Rattle.heap_machine.specs.declared.Step.{Step}
 use Rattle.heap_machine.specs.declared.gate.GateRow.{GateRow}
 use Rattle.heap_machine.specs.declared.gate.GateRow.TheVariants as gates
 use Rattle.heap_machine.specs.declared.pass.Pass.{Pass}
-use Rattle.heap_machine.proofs.Gatings.{open_parts}
-use Rattle.heap_machine.proofs.ChangingPhaseRules.{nobody_holds}
-use Rattle.heap_machine.proofs.Turnovers.{changing_cycle, changing_phase}
+use Rattle.heap_machine.proofs.Lemmas.{changing_cycle, changing_phase, nobody_holds, open_parts}
 use Rattle.heap_invariant.specs.name_invariant.Pictures.{picture}
 use Rattle.heap_invariant.specs.cycle_tally.Entries.{InThreads}
 use Rattle.heap_invariant.specs.cycle_tally.Events.{FewInUse}
 use Rattle.heap_invariant.specs.cycle_tally.Events as events
 use Rattle.heap_invariant.specs.cycle_tally.Tallies.{Tally}
-use Rattle.heap_invariant.proofs.cycle_tally.KeptStart.{few_at_start}
+use Rattle.heap_invariant.proofs.Lemmas.{few_at_start}
 use Rattle.heap_system.specs.Parts.{PhaseChange}
 use Rattle.heap_system.specs.Locals.{plain, is_last, if_turned, turn_naming}
 use Rattle.heap_system.specs.Naming.{Naming, Same, Lost, Begun, Shaded}
-use Rattle.heap_system.proofs.PartLaws.{AtPart}
-use Rattle.heap_system.proofs.SeenAndKept.{Seen}
-use Rattle.heap_system.proofs.TallyLaw.{IsSpending, Counted, TallyEvent, TallyLaw, Asking, asking}
+use Rattle.heap_system.proofs.step_rows.PartLaws.{AtPart}
+use Rattle.heap_system.proofs.invariant.SeenAndKept.{Seen}
+use Rattle.heap_system.proofs.accounting.TallyLaw.{IsSpending, Counted, TallyEvent, TallyLaw, Asking, asking}
 use Rattle.heap_system.proofs.parts.ClosedGate.{stands, in_phase, shut, alone, turning, behind_last, no_white, own_cycle, all_shaded}
 use Rattle.heap_system.proofs.tallies.Moves.{SameWords, same_words, phase_words, told_none, stays, moves}
 
@@ -48,14 +46,14 @@ never_inside (gates.CheckList p u) = refl
 never_inside (gates.SetCursor p) = refl
 never_inside (gates.Flip p) = refl
 never_inside (gates.Reopen p) = refl
-never_inside (gates.ShadeRoot p u hand) = refl
-never_inside (gates.PutRoots p hand) = refl
+never_inside (gates.ShadeRoot p u list) = refl
+never_inside (gates.PutRoots p list) = refl
 never_inside (gates.Start p) = refl
 never_inside _ = refl
 
-no_claim : (r : GateRow) → ((changing_holding r).low ≡ 0) × ((changing_holding r).high ≡ 0)
-no_claim (gates.ShadeRoot p u hand) = (refl, refl)
-no_claim (gates.PutRoots p hand) = (refl, refl)
+no_claim : (r : GateRow) → ((changing_in_hand r).low ≡ 0) × ((changing_in_hand r).high ≡ 0)
+no_claim (gates.ShadeRoot p u list) = (refl, refl)
+no_claim (gates.PutRoots p list) = (refl, refl)
 no_claim _ = (refl, refl)
 
 -- an exchange of the phase word that leaves the cycle and the phase, won or lost
@@ -69,8 +67,8 @@ exchanged_words h old v = by (eqb (h Phase) old)
 module _ (c : Config) (rate : ℕ) (s : Seen c) (g : GateRow) (at : AtPart c s (PhaseChange g)) (before : Tally) (k : Counted c rate s (PhaseChange g) before) (next : Asking) where
   -- it is outside, with nothing claimed or reserved, before and after
   out : (over : Bool) (r : GateRow) → IsSpending c (if_turned over r) s.balance (asking c s.command s.spent) (before.threads s.thread)
-  out true r = record { inside = k.own.inside ∙ never_inside g; account = k.own.account; asked = k.own.asked; told = k.own.told; idled = k.own.idled; low = k.own.low ∙ (no_claim g).0; high = k.own.high ∙ (no_claim g).1; reserved = k.own.reserved }
-  out false r = record { inside = k.own.inside ∙ never_inside g ∙ sym (never_inside r); account = k.own.account; asked = k.own.asked; told = k.own.told; idled = k.own.idled; low = k.own.low ∙ (no_claim g).0 ∙ sym (no_claim r).0; high = k.own.high ∙ (no_claim g).1 ∙ sym (no_claim r).1; reserved = k.own.reserved }
+  out true r = record { inside = k.own.inside ∙ never_inside g; account = k.own.account; asked = k.own.asked; requested = k.own.requested; idled = k.own.idled; low = k.own.low ∙ (no_claim g).0; high = k.own.high ∙ (no_claim g).1; reserved = k.own.reserved }
+  out false r = record { inside = k.own.inside ∙ never_inside g ∙ sym (never_inside r); account = k.own.account; asked = k.own.asked; requested = k.own.requested; idled = k.own.idled; low = k.own.low ∙ (no_claim g).0 ∙ sym (no_claim r).0; high = k.own.high ∙ (no_claim g).1 ∙ sym (no_claim r).1; reserved = k.own.reserved }
 
   module _ (step : Step) (over : Bool) (r : GateRow) where
     abbrev Goes : Heap → Naming → Type 0
@@ -89,9 +87,9 @@ module _ (c : Config) (rate : ℕ) (s : Seen c) (g : GateRow) (at : AtPart c s (
         (record { cycle = k.of.cycle ∙ sym cycle; sweep = sym sweep; cursor = k.of.cursor; free = k.of.free; colour = k.of.colour; order = told_none c rate s (PhaseChange g) before k (record (plain step) { naming = Lost }) refl refl })
         (out over r) (λ u other. refl) (λ x. refl) (λ x. refl) refl
 
-    shades : (u x hand : ℕ) → before.sweep ≡ true → Goes (put_at s.heap (ColourOf x) (grey_word hand)) (Shaded u)
-    shades u x hand sweep = moves c rate s (PhaseChange g) before k (events.Paint x (grey_word hand) ∷ []) ((λ mark. absurd (let z : true ≡ false = sym sweep ∙ mark in cc)), tt) (put_at s.heap (ColourOf x) (grey_word hand)) (record (plain step) { naming = Shaded u }) (if_turned over r) next
-        (record { cycle = k.of.cycle; sweep = k.of.sweep; cursor = k.of.cursor; free = k.of.free; colour = λ y. (λ i. cond (eqb x y) (grey_word hand) (k.of.colour y i)); order = told_none c rate s (PhaseChange g) before k (record (plain step) { naming = Shaded u }) refl refl })
+    shades : (u x list : ℕ) → before.sweep ≡ true → Goes (put_at s.heap (ColourOf x) (grey_word list)) (Shaded u)
+    shades u x list sweep = moves c rate s (PhaseChange g) before k (events.Paint x (grey_word list) ∷ []) ((λ mark. absurd (let z : true ≡ false = sym sweep ∙ mark in cc)), tt) (put_at s.heap (ColourOf x) (grey_word list)) (record (plain step) { naming = Shaded u }) (if_turned over r) next
+        (record { cycle = k.of.cycle; sweep = k.of.sweep; cursor = k.of.cursor; free = k.of.free; colour = λ y. (λ i. cond (eqb x y) (grey_word list) (k.of.colour y i)); order = told_none c rate s (PhaseChange g) before k (record (plain step) { naming = Shaded u }) refl refl })
         (out over r) (λ v other. refl) (λ x. refl) (λ x. refl) refl
 
     starts : (v : ℕ) → before.sweep ≡ true → s.heap Cursor ≡ c.blocks + 1 → events.IsEmpty c before → FewInUse c before → cycle_of v ≡ cycle_of (s.heap Phase) + 1 → is_sweep v ≡ false → Goes (put_at s.heap Phase v) Begun
@@ -108,8 +106,8 @@ module _ (c : Config) (rate : ℕ) (s : Seen c) (p : Pass) (at : AtPart c s (Pha
   counted = omega (
     arith,
     s.rules.reuse.free.credit,
-    total_none c.threads (λ u. (s.holds u).reserved) (λ u ul. ap (λ (w : Holding). w.reserved) (nothing u ul)),
-    total_none c.threads (λ u. (s.holds u).freed) (λ u ul. ap (λ (w : Holding). w.freed) (nothing u ul)),
+    total_none c.threads (λ u. (s.holds u).reserved) (λ u ul. ap (λ (w : WorkInHand). w.reserved) (nothing u ul)),
+    total_none c.threads (λ u. (s.holds u).freed) (λ u ul. ap (λ (w : WorkInHand). w.freed) (nothing u ul)),
   )
 
   pub empty : events.IsEmpty c before
@@ -140,8 +138,8 @@ by c rate s (gates.Flip p) at before k next step over r =
 by c rate s (gates.Reopen p) at before k next step over r = quiet c rate s (gates.Reopen p) at before k next step over r _ (phase_words s.heap _
     (changing_cycle c.width c.threads s.heap s.gatings s.gate s.thread s.low (gates.Reopen p) refl at.fits.0 (stands c s (gates.Reopen p) at) (λ q e. absurd cc))
     (changing_phase c.width c.threads s.heap s.gatings s.gate s.thread s.low (gates.Reopen p) refl at.fits.0 (stands c s (gates.Reopen p) at) (λ q e. absurd cc) (λ q e. absurd cc)))
-by c rate s (gates.ShadeRoot p u hand) at before k next step over r = shades c rate s (gates.ShadeRoot p u hand) at before k next step over r u _ hand (k.of.sweep ∙ sym (in_phase c s (gates.ShadeRoot p u hand) at refl).1 ∙ at.part.0.1)
-by c rate s (gates.PutRoots p hand) at before k next step over r = quiet c rate s (gates.PutRoots p hand) at before k next step over r _ (record { cycle = refl; sweep = refl; cursor = refl; free = refl; colour = λ x. refl })
+by c rate s (gates.ShadeRoot p u list) at before k next step over r = shades c rate s (gates.ShadeRoot p u list) at before k next step over r u _ list (k.of.sweep ∙ sym (in_phase c s (gates.ShadeRoot p u list) at refl).1 ∙ at.part.0.1)
+by c rate s (gates.PutRoots p list) at before k next step over r = quiet c rate s (gates.PutRoots p list) at before k next step over r _ (record { cycle = refl; sweep = refl; cursor = refl; free = refl; colour = λ x. refl })
 by c rate s (gates.Start p) at before k next step over r =
     let parts = open_parts (p.cycle + 1) false in
     starts c rate s (gates.Start p) at before k next step over r _ (k.of.sweep ∙ sym (in_phase c s (gates.Start p) at refl).1 ∙ at.part.0.1) (behind_last c s p at) (empty c rate s p at before k) (few_in_use c rate s p at before k)

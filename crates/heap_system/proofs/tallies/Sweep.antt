@@ -8,8 +8,8 @@ use Rattle.block_store.specs.Counts.{changed}
 use Rattle.block_store.specs.Heaps.{Heap, put_at}
 use Rattle.block_store.specs.Phases.{is_sweep, cycle_of}
 use Rattle.block_store.specs.Places.{Phase, Cursor, FreeCount, ColourOf}
-use Rattle.block_store.proofs.Functions.{changed_else}
-use Rattle.never_heap.specs.RightWork.{units_told}
+use Rattle.block_store.proofs.Lemmas.{changed_else}
+use Rattle.never_heap.specs.RightWork.{requested_units}
 use Rattle.never_heap.specs.Steps.{blocks_of}
 use Rattle.heap_machine.specs.Operations.{place_of, heap_after}
 use Rattle.heap_machine.specs.declared.Step.{Step}
@@ -17,41 +17,40 @@ use Rattle.sweep_steps.specs.declared.rows.SweepRow.{SweepRow}
 use Rattle.sweep_steps.specs.declared.rows.SweepRow.TheVariants as sweeps
 use Rattle.sweep_steps.specs.SweepUnits.{row_passes}
 use Rattle.sweep_steps.specs.Fits.{RowFits, IsLeft}
-use Rattle.sweep_steps.specs.Rows.{SweepState, row_want, row_got, after_read, after_range, next_block, before_free, sweep_want, sweep_got, sweep_over, sweep_step, sweep_passed, sweep_nothing, sweep_holding}
+use Rattle.sweep_steps.specs.Rows.{SweepState, row_want, row_got, after_read, after_range, next_block, before_free, sweep_want, sweep_got, sweep_over, sweep_step, sweep_passed, sweep_nothing, sweep_in_hand}
 use Rattle.sweep_steps.proofs.ReuseRulesKept.{over_holds_none}
 use Rattle.work_account.specs.Accounts.{Balance}
 use Rattle.heap_invariant.specs.cycle_tally.Events.{apply}
 use Rattle.heap_invariant.specs.cycle_tally.Events as events
-use Rattle.heap_invariant.specs.cycle_tally.Kept.{TallyKept}
-use Rattle.heap_invariant.proofs.cycle_tally.Laws.{run_kept}
+use Rattle.heap_invariant.specs.cycle_tally.TallyInvariant.{TallyKept}
+use Rattle.heap_invariant.proofs.Lemmas.{others_twice, run_kept, spends_here, spends_twice}
 use Rattle.heap_invariant.proofs.cycle_tally.Steps.{step_kept}
-use Rattle.heap_invariant.proofs.cycle_tally.OneThreadEvents.{spends_here, spends_twice, others_twice}
 use Rattle.heap_invariant.specs.cycle_tally.Tallies.{Spending, Tally, with_made}
 use Rattle.heap_system.specs.Locals.{idle_part, balance_made}
-use Rattle.heap_system.proofs.Balances.{idle_more}
-use Rattle.heap_system.specs.Parts.{Part, Sweep, Retry, ToChange}
-use Rattle.heap_system.proofs.PartLaws.{AtPart}
-use Rattle.heap_system.proofs.SeenAndKept.{Seen}
-use Rattle.heap_system.proofs.TallyLaw.{IsSpending, IsTallyOf, Counted, TallyEvent, TallyLaw, more_if, Asking, asking}
+use Rattle.heap_system.proofs.accounting.Balances.{idle_more}
+use Rattle.heap_system.specs.Parts.{Part, Sweep, Retry, LeaveToChangePhase}
+use Rattle.heap_system.proofs.step_rows.PartLaws.{AtPart}
+use Rattle.heap_system.proofs.invariant.SeenAndKept.{Seen}
+use Rattle.heap_system.proofs.accounting.TallyLaw.{IsSpending, IsTallyOf, Counted, TallyEvent, TallyLaw, more_if, Asking, asking}
 use Rattle.heap_system.specs.Units.{turns_black}
 use Rattle.heap_system.proofs.parts.InPass.{of_pass, pass_is, grey_or_black}
 use Rattle.heap_system.proofs.parts.Sweep.{freed_word}
 use Rattle.heap_system.proofs.tallies.Moves.{SameWords, same_words, paid_by, told_none, stays, moves}
 
 -- what the rows after a look at the cursor, at a block and past a block claim
-read_claims : (m owed w : ℕ) → ((sweep_holding (after_read m owed w)).low ≡ 0) × ((sweep_holding (after_read m owed w)).high ≡ 0)
+read_claims : (m owed w : ℕ) → ((sweep_in_hand (after_read m owed w)).low ≡ 0) × ((sweep_in_hand (after_read m owed w)).high ≡ 0)
 read_claims m owed w = elim (cases_Bool (ltb m w)) [ inl e ↦ rw e (refl, refl) | inr e ↦ rw e (refl, refl) ]
 
-free_claims : (x high y a f : ℕ) → ((sweep_holding (before_free x high y a f)).low ≡ x) × ((sweep_holding (before_free x high y a f)).high ≡ high)
+free_claims : (x high y a f : ℕ) → ((sweep_in_hand (before_free x high y a f)).low ≡ x) × ((sweep_in_hand (before_free x high y a f)).high ≡ high)
 free_claims x high y a f = elim (cases_Bool (eqb f 0)) [ inl e ↦ rw e (refl, refl) | inr e ↦ rw e (refl, refl) ]
 
-range_claims : (y a f : ℕ) → ((sweep_holding (after_range y a f)).low ≡ 0) × ((sweep_holding (after_range y a f)).high ≡ 0)
+range_claims : (y a f : ℕ) → ((sweep_in_hand (after_range y a f)).low ≡ 0) × ((sweep_in_hand (after_range y a f)).high ≡ 0)
 range_claims y a f = elim (cases_Bool (eqb f 0)) [ inl e ↦ rw e (refl, refl) | inr e ↦ rw e (refl, refl) ]
 
-next_more : (x high y a f : ℕ) → ltb (x + 1) high ≡ true → ((sweep_holding (next_block x high y a f)).low ≡ x + 1) × ((sweep_holding (next_block x high y a f)).high ≡ high)
+next_more : (x high y a f : ℕ) → ltb (x + 1) high ≡ true → ((sweep_in_hand (next_block x high y a f)).low ≡ x + 1) × ((sweep_in_hand (next_block x high y a f)).high ≡ high)
 next_more x high y a f e = rw e (refl, refl)
 
-next_last : (x high y a f : ℕ) → ltb (x + 1) high ≡ false → ((sweep_holding (next_block x high y a f)).low ≡ 0) × ((sweep_holding (next_block x high y a f)).high ≡ 0)
+next_last : (x high y a f : ℕ) → ltb (x + 1) high ≡ false → ((sweep_in_hand (next_block x high y a f)).low ≡ 0) × ((sweep_in_hand (next_block x high y a f)).high ≡ 0)
 next_last x high y a f e = rw e (range_claims (y + 1) a f)
 
 -- a block that is freed is not made black, and no other is
@@ -67,20 +66,20 @@ module _ (c : Config) (rate : ℕ) (s : Seen c) (p : SweepState) (at : AtPart c 
     pub inside : w.inside ≡ true
     pub account : w.balance ≡ b
     pub asked : w.asked ≡ blocks_of c.width s.command
-    pub told : w.told ≡ units_told s.command
-    pub idled : w.idled ≡ idle_part (units_told s.command) made
+    pub requested : w.requested ≡ requested_units s.command
+    pub idled : w.idled ≡ idle_part (requested_units s.command) made
     pub low : w.low ≡ from
     pub high : w.high ≡ until
     pub reserved : w.reserved ≡ 0
 
   abbrev AtRow : Balance → ℕ → SweepRow → Spending → Type 0
-  AtRow b made r w = AtClaim b made (sweep_holding r).low (sweep_holding r).high w
+  AtRow b made r w = AtClaim b made (sweep_in_hand r).low (sweep_in_hand r).high w
 
   -- the part of that row
-  comes : (n : SweepState) (over none : Bool) → sweep_over n.row ≡ over → (b : Balance) (made : ℕ) (w : Spending) → AtRow b made n.row w → IsSpending c (cond over (cond none ToChange Retry) (Sweep n)) b (asking c s.command made) w
-  comes n true true is b made w a = record { inside = a.inside; account = a.account; asked = a.asked; told = a.told; idled = a.idled; low = a.low ∙ ap (λ h. h.low) (over_holds_none n.row is); high = a.high ∙ ap (λ h. h.high) (over_holds_none n.row is); reserved = a.reserved }
-  comes n true false is b made w a = record { inside = a.inside; account = a.account; asked = a.asked; told = a.told; idled = a.idled; low = a.low ∙ ap (λ h. h.low) (over_holds_none n.row is); high = a.high ∙ ap (λ h. h.high) (over_holds_none n.row is); reserved = a.reserved }
-  comes n false none is b made w a = record { inside = a.inside; account = a.account; asked = a.asked; told = a.told; idled = a.idled; low = a.low; high = a.high; reserved = a.reserved }
+  comes : (n : SweepState) (over none : Bool) → sweep_over n.row ≡ over → (b : Balance) (made : ℕ) (w : Spending) → AtRow b made n.row w → IsSpending c (cond over (cond none LeaveToChangePhase Retry) (Sweep n)) b (asking c s.command made) w
+  comes n true true is b made w a = record { inside = a.inside; account = a.account; asked = a.asked; requested = a.requested; idled = a.idled; low = a.low ∙ ap (λ h. h.low) (over_holds_none n.row is); high = a.high ∙ ap (λ h. h.high) (over_holds_none n.row is); reserved = a.reserved }
+  comes n true false is b made w a = record { inside = a.inside; account = a.account; asked = a.asked; requested = a.requested; idled = a.idled; low = a.low ∙ ap (λ h. h.low) (over_holds_none n.row is); high = a.high ∙ ap (λ h. h.high) (over_holds_none n.row is); reserved = a.reserved }
+  comes n false none is b made w a = record { inside = a.inside; account = a.account; asked = a.asked; requested = a.requested; idled = a.idled; low = a.low; high = a.high; reserved = a.reserved }
 
   sweep : before.sweep ≡ true
   sweep = k.of.sweep ∙ sym (pass_is c s (Sweep p) at refl).1 ∙ at.part.sweep
@@ -99,15 +98,15 @@ module _ (c : Config) (rate : ℕ) (s : Seen c) (p : SweepState) (at : AtPart c 
         let new : Spending = record w { low = before.cursor; high = before.cursor + (high - x) } in
         let cost : rate * w.asked ≡ rate * blocks_of c.width s.command = ap (λ n. rate * n) k.own.asked in
         let ends : before.cursor + (high - x) ≡ high = omega (arith, k.of.cursor, is, some) in
-        moves c rate s (Sweep p) before k (events.Claim s.thread (high - x) ∷ []) ((s.low, k.own.inside, sweep, omega (arith, ends, last), omega (arith, cost, k.own.told, k.due, paid_by c rate s (Sweep p) before k, due, some), omega (arith, low, none)), tt)
+        moves c rate s (Sweep p) before k (events.Claim s.thread (high - x) ∷ []) ((s.low, k.own.inside, sweep, omega (arith, ends, last), omega (arith, cost, k.own.requested, k.due, paid_by c rate s (Sweep p) before k, due, some), omega (arith, low, none)), tt)
         (put_at s.heap Cursor high) (of_pass step false) q next
         (record { cycle = k.of.cycle; sweep = k.of.sweep; cursor = ends; free = k.of.free; colour = k.of.colour; order = told_none c rate s (Sweep p) before k (of_pass step false) refl refl })
         (spends_here (IsSpending c q s.balance (asking c s.command s.spent)) before.threads s.thread new
-        (spends new (record { inside = k.own.inside; account = k.own.account; asked = k.own.asked; told = k.own.told; idled = k.own.idled; low = k.of.cursor ∙ is; high = ends; reserved = k.own.reserved })))
+        (spends new (record { inside = k.own.inside; account = k.own.account; asked = k.own.asked; requested = k.own.requested; idled = k.own.idled; low = k.of.cursor ∙ is; high = ends; reserved = k.own.reserved })))
         (λ u other. changed_else before.threads s.thread u new other) (λ x. refl) (λ x. refl) refl
 
     -- a block is passed, and its colour written or not
-    module _ (x high y a f : ℕ) (low : (before.threads s.thread).low ≡ x) (until : (before.threads s.thread).high ≡ high) (some : x < high) (spends : (w : Spending) → AtRow (balance_made (units_told s.command) s.balance) (s.spent + 1) (next_block x high y a f) w → IsSpending c q (balance_made (units_told s.command) s.balance) (asking c s.command (s.spent + 1)) w)
+    module _ (x high y a f : ℕ) (low : (before.threads s.thread).low ≡ x) (until : (before.threads s.thread).high ≡ high) (some : x < high) (spends : (w : Spending) → AtRow (balance_made (requested_units s.command) s.balance) (s.spent + 1) (next_block x high y a f) w → IsSpending c q (balance_made (requested_units s.command) s.balance) (asking c s.command (s.spent + 1)) w)
         (new : Heap) (painted : ℕ → ℕ) (kept : TallyKept c rate black_word (record before { colour = painted })) (of : IsTallyOf new (s.order ++ ([] ++ [])) (record before { colour = painted })) (no_scan : (z : ℕ) → turns_black (cycle_of (s.heap Phase)) (ColourOf z) (s.heap (ColourOf z)) (new (ColourOf z)) ≡ false) where
       abbrev one : Spending
       one = record (with_made (before.threads s.thread)) { low = (before.threads s.thread).low + 1 }
@@ -133,8 +132,8 @@ module _ (c : Config) (rate : ℕ) (s : Seen c) (p : SweepState) (at : AtPart c 
           tally = passed;
           kept = run_kept c rate black_word k.some k.plan (events.Pass s.thread ∷ []) (record before { colour = painted }) kept ((s.low, omega (arith, low, until, some)), tt);
           of = record { cycle = of.cycle; sweep = of.sweep; cursor = of.cursor; free = of.free; colour = of.colour; order = of.order };
-          own = spends_here (IsSpending c q (balance_made (units_told s.command) s.balance) (asking c s.command (s.spent + 1))) before.threads s.thread one
-              (spends one (record { inside = k.own.inside; account = λ i. balance_made (k.own.told i) (k.own.account i); asked = k.own.asked; told = k.own.told; idled = idle_more (units_told s.command) s.spent (before.threads s.thread).told (before.threads s.thread).idled k.own.told k.own.idled; low = omega (arith, low, (next_more x high y a f more).0); high = until ∙ sym (next_more x high y a f more).1; reserved = k.own.reserved }));
+          own = spends_here (IsSpending c q (balance_made (requested_units s.command) s.balance) (asking c s.command (s.spent + 1))) before.threads s.thread one
+              (spends one (record { inside = k.own.inside; account = λ i. balance_made (k.own.requested i) (k.own.account i); asked = k.own.asked; requested = k.own.requested; idled = idle_more (requested_units s.command) s.spent (before.threads s.thread).requested (before.threads s.thread).idled k.own.requested k.own.idled; low = omega (arith, low, (next_more x high y a f more).0); high = until ∙ sym (next_more x high y a f more).1; reserved = k.own.reserved }));
           others = λ u other. changed_else before.threads s.thread u one other;
           scanned = scanned;
           passed = once_more;
@@ -145,8 +144,8 @@ module _ (c : Config) (rate : ℕ) (s : Seen c) (p : SweepState) (at : AtPart c 
           kept = run_kept c rate black_word k.some k.plan (events.Pass s.thread ∷ events.Clear s.thread ∷ []) (record before { colour = painted }) kept
               ((s.low, omega (arith, low, until, some)), ((s.low, spends_here (λ w. w.high ≤ w.low) before.threads s.thread one (omega (arith, low, until, ltb-false (x + 1) high last))), tt));
           of = record { cycle = of.cycle; sweep = of.sweep; cursor = of.cursor; free = of.free; colour = of.colour; order = of.order };
-          own = spends_twice (IsSpending c q (balance_made (units_told s.command) s.balance) (asking c s.command (s.spent + 1))) before.threads s.thread one (λ w. record w { low = 0; high = 0 })
-              (spends (record one { low = 0; high = 0 }) (record { inside = k.own.inside; account = λ i. balance_made (k.own.told i) (k.own.account i); asked = k.own.asked; told = k.own.told; idled = idle_more (units_told s.command) s.spent (before.threads s.thread).told (before.threads s.thread).idled k.own.told k.own.idled; low = sym (next_last x high y a f last).0; high = sym (next_last x high y a f last).1; reserved = k.own.reserved }));
+          own = spends_twice (IsSpending c q (balance_made (requested_units s.command) s.balance) (asking c s.command (s.spent + 1))) before.threads s.thread one (λ w. record w { low = 0; high = 0 })
+              (spends (record one { low = 0; high = 0 }) (record { inside = k.own.inside; account = λ i. balance_made (k.own.requested i) (k.own.account i); asked = k.own.asked; requested = k.own.requested; idled = idle_more (requested_units s.command) s.spent (before.threads s.thread).requested (before.threads s.thread).idled k.own.requested k.own.idled; low = sym (next_last x high y a f last).0; high = sym (next_last x high y a f last).1; reserved = k.own.reserved }));
           others = λ u other. others_twice before.threads s.thread one _ u other;
           scanned = scanned;
           passed = once_more;
@@ -169,13 +168,13 @@ module _ (c : Config) (rate : ℕ) (s : Seen c) (p : SweepState) (at : AtPart c 
       inside = own.inside;
       account = own.account;
       asked = own.asked;
-      told = own.told;
+      requested = own.requested;
       idled = own.idled;
       low = own.low ∙ sym (free_claims x high y a f).0;
       high = own.high ∙ sym (free_claims x high y a f).1;
       reserved = own.reserved;
     }))
-    reading x high y a f false some own spends = passes x high y a f own.low own.high some (spends (balance_made (units_told s.command) s.balance) (s.spent + 1)) s.heap before.colour k.kept
+    reading x high y a f false some own spends = passes x high y a f own.low own.high some (spends (balance_made (requested_units s.command) s.balance) (s.spent + 1)) s.heap before.colour k.kept
         (record { cycle = k.of.cycle; sweep = k.of.sweep; cursor = k.of.cursor; free = k.of.free; colour = k.of.colour; order = told_none c rate s (Sweep p) before k (of_pass step false) refl refl })
         (λ z. grey_or_black (cycle_of (s.heap Phase)) (s.heap (ColourOf z)))
 
@@ -186,7 +185,7 @@ module _ (c : Config) (rate : ℕ) (s : Seen c) (p : SweepState) (at : AtPart c 
       inside = own.inside;
       account = own.account;
       asked = own.asked;
-      told = own.told;
+      requested = own.requested;
       idled = own.idled;
       low = own.low ∙ sym (read_claims p.blocks p.owed (s.heap Cursor)).0;
       high = own.high ∙ sym (read_claims p.blocks p.owed (s.heap Cursor)).1;
@@ -195,7 +194,7 @@ module _ (c : Config) (rate : ℕ) (s : Seen c) (p : SweepState) (at : AtPart c 
     by (sweeps.ClaimRange x high) fits going settled own spends = claiming x high (eqb (s.heap Cursor) x) refl fits (omega (arith, settled)) own (spends s.balance s.spent)
     by (sweeps.PassBlock x high y a f) fits going settled own spends = reading x high y a f (eqb (s.heap (ColourOf x)) (white_word p.cycle)) fits.0.left own spends
     by (sweeps.TakeFree x high y) fits going settled own spends = quiet _ (record { cycle = refl; sweep = refl; cursor = refl; free = refl; colour = λ x. refl }) (spends s.balance s.spent (before.threads s.thread) own)
-    by (sweeps.FreeBlock x high y a f) fits going settled own spends = passes x high y x (f + 1) own.low own.high fits.0.left (spends (balance_made (units_told s.command) s.balance) (s.spent + 1)) (put_at s.heap (ColourOf x) (free_word a)) (changed before.colour x (free_word a))
+    by (sweeps.FreeBlock x high y a f) fits going settled own spends = passes x high y x (f + 1) own.low own.high fits.0.left (spends (balance_made (requested_units s.command) s.balance) (s.spent + 1)) (put_at s.heap (ColourOf x) (free_word a)) (changed before.colour x (free_word a))
         (step_kept c rate black_word k.some before k.kept (events.Paint x (free_word a)) k.plan (λ mark. absurd (let z : true ≡ false = sym sweep ∙ mark in cc)))
         (record { cycle = k.of.cycle; sweep = k.of.sweep; cursor = k.of.cursor; free = k.of.free; colour = λ z. (λ i. cond (eqb x z) (free_word a) (k.of.colour z i)); order = told_none c rate s (Sweep p) before k (of_pass step false) refl refl })
         (freed_black s.heap x a)
@@ -209,6 +208,6 @@ module _ (c : Config) (rate : ℕ) (s : Seen c) (p : SweepState) (at : AtPart c 
 pub sweep_tallied : (c : Config) (p : SweepState) → TallyLaw c (Sweep p)
 sweep_tallied c p rate s at next few before k =
     let n : SweepState = sweep_got p (s.heap (place_of (sweep_want p))) in
-    by c rate s p at before k next (sweep_step p (s.heap (place_of (sweep_want p)))) (cond (sweep_over n.row) (cond (sweep_nothing n.row) ToChange Retry) (Sweep n))
-    p.row at.fits.0.row at.part.going at.settled (record { inside = k.own.inside; account = k.own.account; asked = k.own.asked; told = k.own.told; idled = k.own.idled; low = k.own.low; high = k.own.high; reserved = k.own.reserved })
+    by c rate s p at before k next (sweep_step p (s.heap (place_of (sweep_want p)))) (cond (sweep_over n.row) (cond (sweep_nothing n.row) LeaveToChangePhase Retry) (Sweep n))
+    p.row at.fits.0.row at.part.going at.settled (record { inside = k.own.inside; account = k.own.account; asked = k.own.asked; requested = k.own.requested; idled = k.own.idled; low = k.own.low; high = k.own.high; reserved = k.own.reserved })
     (comes c rate s p at before k next n (sweep_over n.row) (sweep_nothing n.row) refl)

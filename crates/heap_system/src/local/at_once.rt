@@ -491,7 +491,7 @@ impl Local {
     {
         self.enters(pass);
         self.field = FieldPass::at_row(pass, command, row);
-        self.row = Row::Serve;
+        self.row = Row::Access;
     }
 }
 

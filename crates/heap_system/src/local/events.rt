@@ -49,9 +49,13 @@ pub(super) fn is_last(step: Step) -> bool
 
 // On the way out after a pass that pays.
 pub(super) fn after_pass(nothing: bool) -> Row
-    ensures { result ≡ (if nothing then rows.ToChange else rows.Retry) }
+    ensures { result ≡ (if nothing then rows.LeaveToChangePhase else rows.Retry) }
 {
-    if nothing { Row::ToChange } else { Row::Retry }
+    if nothing {
+        Row::LeaveToChangePhase
+    } else {
+        Row::Retry
+    }
 }
 
 // The part that changes the phase, after a pass that found nothing to do.
@@ -90,7 +94,7 @@ impl Local {
     /// The operation of the thread's next event, on one of the heap's words. The thread is not
     /// done.
     #[inline(always)]
-    #[tactic(auto, using(crate::proofs::OwedAndPaid::going_at, crate::proofs::WantedPlaces::want_low))]
+    #[tactic(auto, using(crate::proofs::accounting::OwedAndPaid::going_at, crate::proofs::step_rows::WantedPlaces::want_low))]
     pub fn want(&self) -> Op
         requires { is_done self.now ≡ false }
         ensures wants { result ≡ op_at (extent self.now.config)
@@ -101,7 +105,7 @@ impl Local {
         match &self.row {
             Row::Rest | Row::Look => Op::load(places.phase()),
             Row::Enter { seen } => entering(&places, *seen),
-            Row::Serve => self.field.want(&places),
+            Row::Access => self.field.want(&places),
             Row::Mark(row) => GreyPass::at_row(self.pass, *row).want(&places),
             Row::Sweep { owed, row } => {
                 let Pass { thread, cycle, .. } = self.pass;
@@ -109,7 +113,7 @@ impl Local {
             },
             Row::Build => self.builder.want(&places),
             Row::PhaseChange => self.gate.want(&places),
-            Row::Retry | Row::ToChange | Row::Leave => Op::FetchSub {
+            Row::Retry | Row::LeaveToChangePhase | Row::Leave => Op::FetchSub {
                 place: places.phase(),
                 by: 1,
             },
@@ -119,7 +123,7 @@ impl Local {
     /// That the place of the thread's next event is one of the heap's words, as the memory of an
     /// `event` may ask. It does nothing.
     #[inline(always)]
-    #[tactic(auto, using(crate::proofs::WantedPlaces::want_low))]
+    #[tactic(auto, using(crate::proofs::step_rows::WantedPlaces::want_low))]
     pub fn wants_a_word(&self)
         ensures { op_place (op_wanted self.now) < words_count (extent self.now.config) }
     {
@@ -143,19 +147,19 @@ impl Local {
             Row::Look => self.at_gate(memory, shared),
             Row::Enter { .. } => self.at_gate(memory, shared),
             Row::PhaseChange => self.at_gate(memory, shared),
-            Row::Serve => self.serves(memory, shared),
+            Row::Access => self.serves(memory, shared),
             Row::Build => self.builds(memory, shared),
             Row::Mark(_) => self.marks(memory, shared, 1),
             Row::Sweep { .. } => self.sweeps(memory, shared, 1),
             Row::Retry => self.out(memory, shared),
-            Row::ToChange => self.out(memory, shared),
+            Row::LeaveToChangePhase => self.out(memory, shared),
             Row::Leave => self.out(memory, shared),
         }
     }
 
     // `event`, of a part outside.
     #[inline(always)]
-    #[tactic(auto, using(crate::proofs::OwedAndPaid::turns_on, crate::proofs::OwedAndPaid::going_at))]
+    #[tactic(auto, using(crate::proofs::accounting::OwedAndPaid::turns_on, crate::proofs::accounting::OwedAndPaid::going_at))]
     pub(super) fn at_gate<M: Memory>(&mut self, memory: &mut M, shared: &M::Shared) -> Turn
         requires part { is_at_gate self.old.part ≡ true }
         requires open { is_done self.old ≡ false }
@@ -228,7 +232,7 @@ impl Local {
     {
         let places = Places::new(&self.config);
         match self.row {
-            Row::Serve => {
+            Row::Access => {
                 let turn = turn_after(self.field.event(&places, memory, shared));
                 match self.field.reply() {
                     Some(reply) => {
@@ -283,7 +287,7 @@ impl Local {
                 self.row = Row::Look;
                 Turn::Went
             }
-            Row::ToChange => {
+            Row::LeaveToChangePhase => {
                 self.gate = turning(self.pass);
                 self.row = Row::PhaseChange;
                 Turn::Went
@@ -358,11 +362,11 @@ impl Local {
             self.row = Row::Build;
         } else {
             self.field = FieldPass::new_in(pass, command);
-            self.row = Row::Serve;
+            self.row = Row::Access;
         }
     }
 
-    // The units that the command behind the one in hand owes, where there is one.
+    // The units that the command after the one in hand owes, where there is one.
     #[inline(always)]
     fn next_price(&self) -> u64
         requires { length self.now.log < length self.now.trace }

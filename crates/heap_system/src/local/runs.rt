@@ -35,11 +35,11 @@ fn waited(turn: Turn) -> bool
     matches!(turn, Turn::Waited)
 }
 
-// Where a thread stands behind this step of a sweep that came in with so many units owed.
+// Where a thread comes after this step of a sweep that came in with so many units owed.
 #[inline(always)]
 fn behind(pass: &SweepPass, owed: u64, step: Step) -> Row
     ensures { result ≡ (if is_last step
-        then (if sweep_nothing pass.now.row then rows.ToChange else rows.Retry)
+        then (if sweep_nothing pass.now.row then rows.LeaveToChangePhase else rows.Retry)
         else rows.Sweep owed pass.now.row) }
 {
     if is_last(step) {
@@ -77,7 +77,7 @@ impl Local {
         match self.row {
             Row::Mark(_) => self.marks(memory, shared, LONGEST),
             Row::Sweep { .. } => self.sweeps(memory, shared, LONGEST),
-            Row::Serve => self.serves_on(memory, shared),
+            Row::Access => self.serves_on(memory, shared),
             Row::Build => self.builds_on(memory, shared),
             Row::Rest => self.at_once(memory, shared),
             _ => self.event(memory, shared),
@@ -94,14 +94,14 @@ impl Local {
         match self.row {
             Row::Mark(_) => self.marks(memory, shared, LONGEST),
             Row::Sweep { .. } => self.sweeps(memory, shared, LONGEST),
-            Row::Serve => self.serves_on(memory, shared),
+            Row::Access => self.serves_on(memory, shared),
             Row::Build => self.builds_on(memory, shared),
             Row::Rest => self.at_once(memory, shared),
             Row::Look => self.at_gate_once(memory, shared),
             Row::Enter { .. } => self.at_gate_once(memory, shared),
             Row::PhaseChange => self.at_gate_once(memory, shared),
             Row::Retry => self.out_once(memory, shared),
-            Row::ToChange => self.out_once(memory, shared),
+            Row::LeaveToChangePhase => self.out_once(memory, shared),
             Row::Leave => self.out_once(memory, shared),
         }
     }
@@ -240,7 +240,7 @@ impl Local {
     fn is_serving(&self) -> bool
         ensures { result ≡ is_serving self.now.part }
     {
-        matches!(self.row, Row::Serve)
+        matches!(self.row, Row::Access)
     }
 
     // Whether it builds one.

@@ -2,11 +2,11 @@
 use Rattle.std.proofs.Common.{◌≡◌, ℕ, List, slice_index, true, sym, ap, ◌∙◌, subst}
 use Rattle.block_store.specs.declared.Config.{Config}
 use Rattle.block_store.specs.Places.{Extent, extent, in_range, place_at}
-use Rattle.block_store.proofs.Indexes.{back}
+use Rattle.block_store.proofs.Lemmas.{back}
 use Rattle.heap_machine.specs.Readings.{CanHold}
 use Rattle.heap_machine.specs.declared.op.Op.{Op}
 use Rattle.heap_machine.specs.Operations.{Operation, place_of, op_at, op_place}
-use Rattle.heap_machine.proofs.HeapAfter.{op_place-at}
+use Rattle.heap_machine.proofs.Lemmas.{op_place-at}
 
 pub at_place : (e : Extent) (o : Operation) (i w : ℕ) → in_range e (place_of o) ≡ true → i ≡ op_place (op_at e o) → CanHold e (place_at e i) w → CanHold e (place_of o) w
 at_place e o i w range is holds =

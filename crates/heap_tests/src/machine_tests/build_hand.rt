@@ -9,7 +9,7 @@ use crate::machine_tests::held::{can_hold, has, place_of, word_at};
 use crate::machine_tests::rows::{Row, went};
 use block_store::{Config, Places};
 use build_steps::{BuildPass, rows_stay_in_the_heap};
-use heap_machine::{Given, Op, Step, Words};
+use heap_machine::{Op, ScriptedMemory, Step, Words};
 use never_heap::{Command, Reply};
 
 /// The command of this thread in this cycle, and the serial of the object that it makes.
@@ -31,13 +31,13 @@ pub struct Written<'a> {
     pub colour: u64,
 }
 
-/// What a part wants behind its events, and its reply.
+/// What a part wants after its events, and its reply.
 pub type Building = (Op, Option<Reply>);
 
-/// Where a building is behind events as these rows say, the writing of these blocks, and events as
-/// the last rows say. `None` where it is not so, a place can't hold the word, there is a reply before
-/// the last event of the part or none behind it, the heap has no such thread or command, or the part
-/// does not begin the same once more.
+/// Where a building is after events as these rows say, the writing of these blocks, and events as
+/// the last rows say. `None` where it is not so, a place can't hold the word, there is a reply
+/// before the last event of the part or none after it, the heap has no such thread or command, or
+/// the part does not begin the same once more.
 pub fn building(
     c: &Config,
     making: Making,
@@ -60,8 +60,8 @@ pub fn building(
     Some(behind)
 }
 
-/// The same at the words of a heap: each event is this step, and the word at this place is then this
-/// one.
+/// The same at the words of a heap: each event is this step, and the word at this place is then
+/// this one.
 pub fn building_words(
     c: &Config,
     making: Making,
@@ -165,7 +165,7 @@ fn got(pass: &mut BuildPass, places: &Places, word: u64) -> Step
     requires word { BuildReads places.now pass.old word }
     ensures { BuildFits places.now pass.new }
 {
-    pass.event(places, &mut Given { word }, &())
+    pass.event(places, &mut ScriptedMemory { word }, &())
 }
 
 // One event at the words.

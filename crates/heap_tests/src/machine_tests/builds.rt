@@ -42,7 +42,7 @@ const ARRAY: Making = Making {
     command: Command::Arr { d: 0, elements: 17 },
 };
 
-// The object of this thread and serial was made, behind the last event.
+// The object of this thread and serial was made, after the last event.
 fn made(thread: u32, serial: u64) -> Option<(Op, Option<Reply>)> {
     let name = Name { thread, serial };
     Some((Op::load(0), Some(Reply::New(name))))
@@ -141,7 +141,7 @@ fn an_array_of_four_blocks_is_built(rt: HostRuntime) -> Result<(), OutOfMemory> 
 }
 
 // A record of eight fields in blocks of eight payloads, in cycle 3, where a black block has the
-// word 2. Its serial is 2^24 + 2, and the part above 24 bits stands above the thread. The thread's
+// word 2. Its serial is 2^24 + 2, and the part above 24 bits is above the thread. The thread's
 // list is 7, 12.
 #[test]
 fn a_record_of_two_wide_blocks_is_built(rt: HostRuntime) -> Result<(), OutOfMemory> {

@@ -3,10 +3,10 @@
 
 use crate::machine_tests::hand::{behind, over};
 use crate::machine_tests::small::{
-    FOUR, GREY, GREY_TO_6, INSIDE, MARK, NIL, ONE, SHARED, SHARED_NAME, SWEEP, THREE, TO_7, TO_8,
-    TO_9, WHITE, WIDE,
+    FOUR, GREY, GREY_TO_6, INSIDE, MARK, NIL, ONE, SHARED, SHARED_NAME, SWEEP, Spots, THREE, TO_7,
+    TO_8, TO_9, WHITE, WIDE,
 };
-use block_store::{Places, Value};
+use block_store::Value;
 use heap_machine::Op;
 use never_heap::{Command, Reply};
 
@@ -21,7 +21,7 @@ const CAS: Command = Command::Cas {
 
 // The words that both commands read first: the register of the record, and its shape.
 fn to_record() -> [(Op, u64); 2] {
-    let places = Places::new(&WIDE);
+    let places = Spots::of(&WIDE);
     [
         (Op::load(places.payload(2, 1)), TO_9),
         (Op::load(places.shape(9)), ONE),
@@ -32,7 +32,7 @@ fn to_record() -> [(Op, u64); 2] {
 // stores that in the register.
 #[test]
 fn swap_shades_both_ways(rt: HostRuntime) {
-    let places = Places::new(&WIDE);
+    let places = Spots::of(&WIDE);
     let [register, shape] = to_record();
     let events = [
         register,
@@ -57,7 +57,7 @@ fn swap_shades_both_ways(rt: HostRuntime) {
 // Nothing is shaded in Sweep, nor for nil and numbers.
 #[test]
 fn swap_shades_nothing(rt: HostRuntime) {
-    let places = Places::new(&WIDE);
+    let places = Spots::of(&WIDE);
     let [register, shape] = to_record();
     let mine = Op::load(places.payload(2, 3));
     let sweep = [
@@ -85,7 +85,7 @@ fn swap_shades_nothing(rt: HostRuntime) {
 // It loads the register with which it compares first, and shades what it is about to store.
 #[test]
 fn cas_wins(rt: HostRuntime) {
-    let places = Places::new(&WIDE);
+    let places = Spots::of(&WIDE);
     let [register, shape] = to_record();
     let events = [
         register,
@@ -103,7 +103,7 @@ fn cas_wins(rt: HostRuntime) {
 // Where the field has another word it answers so, and waits for nothing.
 #[test]
 fn cas_loses(rt: HostRuntime) {
-    let places = Places::new(&WIDE);
+    let places = Spots::of(&WIDE);
     let [register, shape] = to_record();
     for (word, reply) in [(THREE, Reply::No), (NIL, Reply::Yes)] {
         let events = [
@@ -139,7 +139,7 @@ fn both_are_refused(rt: HostRuntime) {
 // In its last pass it looks at the phase, and no more.
 #[test]
 fn idle_looks_once(rt: HostRuntime) {
-    let places = Places::new(&WIDE);
+    let places = Spots::of(&WIDE);
     let look = [(Op::load(places.phase()), INSIDE)];
     assert_eq!(rt;
         behind(&WIDE, MARK, Command::Idle { units: 3 }, &look),

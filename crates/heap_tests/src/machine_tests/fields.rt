@@ -3,7 +3,7 @@
 
 use crate::machine_tests::hand::{behind, got, over};
 use crate::machine_tests::small::{
-    FIVE, FOUR, MARK, NIL, ONE, SEVEN, SHARED, SHARED_NAME, SMALL, THREE, TO_6, TO_8, TO_9,
+    FIVE, FOUR, MARK, NIL, ONE, SEVEN, SHARED, SHARED_NAME, SMALL, Spots, THREE, TO_6, TO_8, TO_9,
 };
 use barrier_steps::FieldPass;
 use block_store::{OutOfMemory, Places, Value};
@@ -36,7 +36,7 @@ fn get_of_an_element(rt: HostRuntime) {
 
 #[test]
 fn put_in_a_field(rt: HostRuntime) {
-    let places = Places::new(&SMALL);
+    let places = Spots::of(&SMALL);
     let put = Command::Put { s: 1, i: 0, v: 2 };
     let events = [
         (Op::load(places.payload(2, 1)), TO_9),
@@ -49,7 +49,7 @@ fn put_in_a_field(rt: HostRuntime) {
 
 #[test]
 fn registers_are_shown(rt: HostRuntime) {
-    let places = Places::new(&SMALL);
+    let places = Spots::of(&SMALL);
     let from = (Op::load(places.payload(2, 0)), TO_6);
     let len = [from, (Op::load(places.shape(6)), FIVE)];
     assert_eq!(rt;
@@ -70,7 +70,7 @@ fn registers_are_shown(rt: HostRuntime) {
 
 #[test]
 fn refusals(rt: HostRuntime) {
-    let places = Places::new(&SMALL);
+    let places = Spots::of(&SMALL);
     let get = Command::Get { d: 3, s: 0, i: 5 };
     let from = Op::load(places.payload(2, 0));
     assert_eq!(rt;

@@ -24,11 +24,11 @@ pub enum TreePath {
     },
 }
 
-/// Behind the events of a part: what it wants, with which phase word it went in, and which cycle it
+/// After the events of a part: what it wants, with which phase word it went in, and which cycle it
 /// has started.
 pub type AtGate = (Op, Option<PhaseWord>, Option<u64>);
 
-/// Where the part is behind these events. `None` where an event is not as its row says, the place
+/// Where the part is after these events. `None` where an event is not as its row says, the place
 /// can't hold the word, a cycle was started before the last event, or the heap has no such thread.
 pub fn at_gate(c: &Config, way: TreePath, rows: &[Row]) -> Option<AtGate> {
     let mut gate = begun(c, way)?;

@@ -2,8 +2,8 @@
 
 use crate::machine_tests::gate_hand::{TreePath, at_gate};
 use crate::machine_tests::rows::{over, waited, waited_over, went};
-use crate::machine_tests::small::{BLACK, GREY, INSIDE, MARK, OPEN, PAIR, SMALL};
-use block_store::{Config, OutOfMemory, Places, Width};
+use crate::machine_tests::small::{BLACK, GREY, INSIDE, MARK, OPEN, PAIR, SMALL, Spots};
+use block_store::{Config, OutOfMemory, Width};
 use heap_machine::{Op, Words};
 
 const ONE: Config = Config {
@@ -28,7 +28,7 @@ const NEXT_INSIDE: u64 = 2049;
 // Grey with a link to block 1.
 const GREY_TO_FIRST: u64 = 11;
 
-// The cursor behind all 64 blocks, and at the first.
+// The cursor after all 64 blocks, and at the first.
 const BEHIND_ALL: u64 = 65;
 
 const AT_FIRST: u64 = 1;
@@ -50,7 +50,7 @@ fn operations_answer_the_word_before(rt: HostRuntime) -> Result<(), OutOfMemory>
 
 #[test]
 fn a_thread_goes_in_and_out(rt: HostRuntime) {
-    let phase = Places::new(&ONE).phase();
+    let phase = Spots::of(&ONE).phase();
     let look = Op::load(phase);
     let enter = [
         waited(look, CLOSED),
@@ -85,7 +85,7 @@ fn turn_over(thread: u32) -> TreePath {
 
 #[test]
 fn a_turn_over_that_finds_nothing_flips(rt: HostRuntime) {
-    let places = Places::new(&TWO);
+    let places = Spots::of(&TWO);
     let phase = places.phase();
     let look = Op::load(phase);
     let rows = [
@@ -104,7 +104,7 @@ fn a_turn_over_that_finds_nothing_flips(rt: HostRuntime) {
 
 #[test]
 fn a_turn_over_that_finds_a_grey_block_reopens(rt: HostRuntime) {
-    let places = Places::new(&TWO);
+    let places = Spots::of(&TWO);
     let phase = places.phase();
     let look = Op::load(phase);
     let rows = [
@@ -123,7 +123,7 @@ fn a_turn_over_that_finds_a_grey_block_reopens(rt: HostRuntime) {
 // The look whether the gate can be closed, in Mark of cycle 1, and a lost exchange.
 #[test]
 fn a_turn_over_waits_where_the_gate_is_in_use(rt: HostRuntime) {
-    let phase = Places::new(&TWO).phase();
+    let phase = Spots::of(&TWO).phase();
     let look = Op::load(phase);
     let close = Op::compare_exchange(phase, OPEN, CLOSED);
     let kept_out = Some((look, None, None));
@@ -150,7 +150,7 @@ fn a_turn_over_waits_where_the_gate_is_in_use(rt: HostRuntime) {
 fn a_sweep_pass_that_finds_nothing_starts_a_cycle(rt: HostRuntime) {
     for (width, root) in [(Width::Four, 6), (Width::Eight, 4)] {
         let c = Config { width, ..TWO };
-        let places = Places::new(&c);
+        let places = Spots::of(&c);
         let phase = places.phase();
         let look = Op::load(phase);
         let rows = [

@@ -9,9 +9,9 @@ use crate::machine_tests::held::{can_hold, has, place_of, word_at};
 use crate::machine_tests::rows::Row;
 use block_store::{Config, Places};
 use grey_steps::{GreyPass, GreyRow, rows_stay_in_the_heap};
-use heap_machine::{Given, Step, Words};
+use heap_machine::{ScriptedMemory, Step, Words};
 
-/// Whether a scan of a thread has found each list empty behind these events. `None` where an event
+/// Whether a scan of a thread has found each list empty after these events. `None` where an event
 /// is not as its row says, the place can't hold the word, nothing was found before the end, or the
 /// heap has no such thread.
 pub fn scanned(c: &Config, thread: u32, rows: &[Row]) -> Option<bool> {
@@ -31,7 +31,7 @@ pub fn shaded(c: &Config, thread: u32, block: u32, rows: &[Row]) -> Option<bool>
     Some(pass.nothing())
 }
 
-/// The row of a shading behind events at the words of a heap, and behind the same done by hand at a
+/// The row of a shading after events at the words of a heap, and after the same done by hand at a
 /// copy: each is this step, and the word at this place is then this one in both. `None` also where
 /// the two are not at the same row.
 pub fn shaded_words(
@@ -107,7 +107,7 @@ fn got(pass: &mut GreyPass, places: &Places, word: u64) -> Step
     requires word { GreyReads places.now pass.old word }
     ensures { GreyFits places.now pass.new }
 {
-    pass.event(places, &mut Given { word }, &()).step
+    pass.event(places, &mut ScriptedMemory { word }, &()).step
 }
 
 // One event at the words.

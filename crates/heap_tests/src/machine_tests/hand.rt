@@ -12,18 +12,18 @@ ghost use Rattle.heap_tests.specs.machine_tests.Links.{before_link};
 use crate::machine_tests::held::{can_hold, place_of};
 use barrier_steps::{FieldPass, rows_stay_in_the_heap};
 use block_store::{Config, PhaseWord, Places};
-use heap_machine::{Given, Op, Step};
+use heap_machine::{Op, ScriptedMemory, Step};
 use never_heap::{Command, Reply};
 
-/// Behind how many events a command was decided, what it wants now, and its reply.
+/// After how many events a command was decided, what it wants now, and its reply.
 pub type Behind = (Option<usize>, Op, Option<Reply>);
 
-/// Behind the last event of a command.
+/// After the last event of a command.
 pub fn over(decided: usize, reply: Reply) -> Option<Behind> {
     Some((Some(decided), Op::load(0), Some(reply)))
 }
 
-/// Where a command of the only thread stands behind events with these operations, which read these
+/// Where a command of the only thread comes after events with these operations, which read these
 /// words. `None` where it wants another operation, the place can't hold the word, a word that may
 /// be a link refers to nothing, or the heap has no such thread or command.
 pub fn behind(
@@ -124,5 +124,5 @@ pub fn got(pass: &mut FieldPass, places: &Places, word: u64) -> Step
     ensures step { result ≡ field_step (extent places.now) pass.old word }
     ensures fits { FieldFits places.now pass.new }
 {
-    pass.event(places, &mut Given { word }, &())
+    pass.event(places, &mut ScriptedMemory { word }, &())
 }

@@ -36,7 +36,7 @@ fn holds_cursor(blocks: u32, word: u64) -> Option<()>
     at_most(word, u64::from(blocks) + 1)
 }
 
-// A payload that refers to no block behind the last.
+// A payload that refers to no block after the last.
 fn holds_payload(blocks: u32, word: u64) -> Option<()>
     ensures { IfSome result (λ u. IsSome (payload_of word) × (target word ≤ blocks)) }
 {
@@ -47,7 +47,7 @@ fn holds_payload(blocks: u32, word: u64) -> Option<()>
     }
 }
 
-// A colour with a link to no block behind the last.
+// A colour with a link to no block after the last.
 fn holds_colour(blocks: u32, word: u64) -> Option<()>
     ensures { IfSome result (λ u. IsSome (colour_of word) × (link word ≤ blocks)) }
 {
@@ -59,7 +59,7 @@ fn holds_colour(blocks: u32, word: u64) -> Option<()>
     }
 }
 
-// A word of a block, so many words behind its colour.
+// A word of a block, so many words after its colour.
 fn holds_in_block(c: &Config, behind: usize, word: u64) -> Option<()>
     ensures { IfSome result (λ u. (x : ℕ) → CanHold (extent c.now) (in_block x behind) word) }
 {

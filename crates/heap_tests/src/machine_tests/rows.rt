@@ -3,7 +3,7 @@
 use heap_machine::{Op, Step};
 
 /// What a test expects of an event: the operation that is wanted, the word that it reads, what the
-/// event is to its part, and whether the part says behind it that it made a unit.
+/// event is to its part, and whether the part says after it that it made a unit.
 #[derive(Clone, Copy)]
 pub struct Row {
     pub op: Op,

@@ -2,12 +2,12 @@
 
 use crate::machine_tests::grey_hand::{scanned, shaded, shaded_words};
 use crate::machine_tests::rows::{over, unit, went};
-use crate::machine_tests::small::{BLACK, GREY, GREY_TO_6, NIL, PAIR, SEVEN, WHITE};
+use crate::machine_tests::small::{BLACK, GREY, GREY_TO_6, NIL, PAIR, SEVEN, Spots, WHITE};
 use block_store::{OutOfMemory, Places};
 use grey_steps::GreyRow;
 use heap_machine::{Op, Step, Words};
 
-// Grey blocks behind which block 9 or 13 stands.
+// Grey blocks after which block 9 or 13 is.
 const GREY_TO_9: u64 = 75;
 
 const GREY_TO_13: u64 = 107;
@@ -21,7 +21,7 @@ const TO_13: u64 = 26;
 // is white, and one to block 12, which is black.
 #[test]
 fn a_block_is_scanned(rt: HostRuntime) {
-    let places = Places::new(&PAIR);
+    let places = Spots::of(&PAIR);
     let rows = [
         went(Op::exchange(places.grey_list(0), 0), 0),
         went(Op::exchange(places.grey_list(1), 0), 11),
@@ -46,7 +46,7 @@ fn a_block_is_scanned(rt: HostRuntime) {
 
 #[test]
 fn nothing_is_grey(rt: HostRuntime) {
-    let places = Places::new(&PAIR);
+    let places = Spots::of(&PAIR);
     let rows = [
         went(Op::exchange(places.grey_list(1), 0), 0),
         over(Op::exchange(places.grey_list(0), 0), 0),
@@ -57,7 +57,7 @@ fn nothing_is_grey(rt: HostRuntime) {
 // The first time it is white, and the second time grey, and the own list empty.
 #[test]
 fn a_block_is_shaded(rt: HostRuntime) {
-    let places = Places::new(&PAIR);
+    let places = Spots::of(&PAIR);
     let list = places.grey_list(1);
     let colour = places.colour(12);
     let rows = [

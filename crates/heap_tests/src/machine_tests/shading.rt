@@ -3,16 +3,15 @@
 
 use crate::machine_tests::hand::{behind, over};
 use crate::machine_tests::small::{
-    BLACK, GREY, GREY_TO_6, MARK, NIL, ONE, SHARED, SHARED_NAME, SMALL, SWEEP, THREE, TO_8, TO_9,
-    WHITE, WIDE,
+    BLACK, GREY, GREY_TO_6, MARK, NIL, ONE, SHARED, SHARED_NAME, SMALL, SWEEP, Spots, THREE, TO_8,
+    TO_9, WHITE, WIDE,
 };
-use block_store::Places;
 use heap_machine::Op;
 use never_heap::{Command, Reply};
 
 #[test]
 fn mov_shades_a_white_block(rt: HostRuntime) {
-    let places = Places::new(&SMALL);
+    let places = Spots::of(&SMALL);
     let events = [
         (Op::load(places.payload(2, 1)), TO_9),
         (Op::exchange(places.grey_list(0), 0), 6),
@@ -33,7 +32,7 @@ fn mov_shades_a_white_block(rt: HostRuntime) {
 // second block of registers.
 #[test]
 fn put_finds_its_block_black(rt: HostRuntime) {
-    let places = Places::new(&WIDE);
+    let places = Spots::of(&WIDE);
     let put = Command::Put { s: 1, i: 0, v: 9 };
     let events = [
         (Op::load(places.payload(2, 1)), TO_9),
@@ -49,7 +48,7 @@ fn put_finds_its_block_black(rt: HostRuntime) {
 // It is decided, and its value known, before it shades.
 #[test]
 fn get_shades_what_it_loaded(rt: HostRuntime) {
-    let places = Places::new(&SMALL);
+    let places = Spots::of(&SMALL);
     let get = Command::Get { d: 3, s: 1, i: 0 };
     let events = [
         (Op::load(places.payload(2, 1)), TO_9),
@@ -67,7 +66,7 @@ fn get_shades_what_it_loaded(rt: HostRuntime) {
 // Nothing is shaded for a number, nor in Sweep.
 #[test]
 fn stores_come_at_once(rt: HostRuntime) {
-    let places = Places::new(&WIDE);
+    let places = Spots::of(&WIDE);
     let copy = Command::Mov { d: 2, s: 1 };
     let register = Op::load(places.payload(2, 1));
     for (phase, word) in [(MARK, THREE), (SWEEP, TO_9)] {

@@ -1,6 +1,6 @@
 //! Small heaps, and words of theirs, for the tests.
 
-use block_store::{Config, Name, PhaseWord, Value, Width};
+use block_store::{Config, Name, PhaseWord, Places, Value, Width};
 use never_heap::Reply;
 
 /// One thread, in blocks of either width. The registers are the blocks 1 to 5, or 1 to 3.
@@ -26,6 +26,67 @@ pub const PAIR: Config = Config {
     ..SMALL
 };
 
+/// The places of a heap, without their contracts: 0, that of the phase word, for one that it has
+/// not.
+#[derive(Clone, Copy)]
+pub struct Spots<'c> {
+    config: &'c Config,
+}
+
+impl<'c> Spots<'c> {
+    pub fn of(config: &'c Config) -> Spots<'c> {
+        Spots { config }
+    }
+
+    pub fn phase(&self) -> usize {
+        0
+    }
+
+    pub fn cursor(&self) -> usize {
+        1
+    }
+
+    pub fn grey_list(&self, thread: u32) -> usize {
+        let c = self.config;
+        if !c.in_bounds() || thread >= c.threads {
+            return 0;
+        }
+        Places::new(c).grey_list(thread)
+    }
+
+    pub fn colour(&self, block: u32) -> usize {
+        let c = self.config;
+        if !c.in_bounds() || block == 0 || block > c.blocks {
+            return 0;
+        }
+        Places::new(c).colour(block)
+    }
+
+    pub fn owner(&self, block: u32) -> usize {
+        let c = self.config;
+        if !c.in_bounds() || block == 0 || block > c.blocks {
+            return 0;
+        }
+        Places::new(c).owner(block)
+    }
+
+    pub fn shape(&self, block: u32) -> usize {
+        let c = self.config;
+        if !c.in_bounds() || block == 0 || block > c.blocks {
+            return 0;
+        }
+        Places::new(c).shape(block)
+    }
+
+    pub fn payload(&self, block: u32, number: u32) -> usize {
+        let c = self.config;
+        if !c.in_bounds() || block == 0 || block > c.blocks || number >= c.width.payloads() {
+            return 0;
+        }
+        Places::new(c).payload(block, number)
+    }
+}
+
 /// The phase words with which the thread went in.
 pub const MARK: PhaseWord = PhaseWord {
     inside: 0,
@@ -44,7 +105,7 @@ pub const OPEN: u64 = 1024;
 
 pub const INSIDE: u64 = 1025;
 
-/// In cycle 1 a white block, a black one, and grey ones behind which no block or block 6 stands.
+/// In cycle 1 a white block, a black one, and grey ones after which no block or block 6 is.
 pub const WHITE: u64 = 1;
 
 pub const BLACK: u64 = 2;

@@ -7,13 +7,13 @@ ghost use Rattle.sweep_steps.specs.Fits.{SweepFits, SweepReads};
 use crate::machine_tests::held::{can_hold, has, place_of, word_at};
 use crate::machine_tests::rows::Row;
 use block_store::{Config, Places};
-use heap_machine::{Given, Step, Words};
+use heap_machine::{ScriptedMemory, Step, Words};
 use sweep_steps::{SweepPass, rows_stay_in_the_heap};
 
-/// Behind the events of a sweep: how many blocks it has passed, and whether it found nothing.
+/// After the events of a sweep: how many blocks it has passed, and whether it found nothing.
 pub type Swept = (u64, bool);
 
-/// What a sweep of a thread that owes so many units has done behind these events. `None` where an
+/// What a sweep of a thread that owes so many units has done after these events. `None` where an
 /// event is not as its row says, the place can't hold the word, the blocks passed are not the units
 /// so far, or the heap has no such thread.
 pub fn swept(c: &Config, thread: u32, cycle: u64, owed: u64, rows: &[Row]) -> Option<Swept> {
@@ -29,8 +29,8 @@ pub fn swept(c: &Config, thread: u32, cycle: u64, owed: u64, rows: &[Row]) -> Op
     Some((pass.passed(), pass.nothing()))
 }
 
-/// The same at the words of a heap, by thread 0 in cycle 1: each event is this step, and the word at
-/// this place is then this one.
+/// The same at the words of a heap, by thread 0 in cycle 1: each event is this step, and the word
+/// at this place is then this one.
 pub fn swept_words(
     c: &Config,
     owed: u64,
@@ -93,7 +93,7 @@ fn got(pass: &mut SweepPass, places: &Places, word: u64) -> Step
     requires word { SweepReads places.now pass.old word }
     ensures { SweepFits places.now pass.new }
 {
-    pass.event(places, &mut Given { word }, &()).step
+    pass.event(places, &mut ScriptedMemory { word }, &()).step
 }
 
 // One event at the words.

@@ -64,7 +64,7 @@ fn white_blocks_are_freed(rt: HostRuntime) {
     assert_eq!(rt; swept(&PAIR, 1, 1, 100, &rows), Some((3, false)));
 }
 
-// Another thread claims first; then the cursor is behind the last block.
+// Another thread claims first; then the cursor is after the last block.
 #[test]
 fn nothing_is_left(rt: HostRuntime) {
     let rows = [

@@ -1,5 +1,5 @@
 use Rattle.std.proofs.Common.{◌+◌, ◌*◌, length, arith}
-use Rattle.historian_core.specs.Kept.{samples}
+use Rattle.historian_core.specs.StoredReadings.{samples}
 use Rattle.historian_core.proofs.Readings.{long_as}
 use Rattle.historian_core.proofs.Life.{left}
 use Rattle.historian_core.proofs.lives_end_with_the_heap.Goals as goal

@@ -2,10 +2,9 @@
 use Rattle.std.proofs.Common.{◌≡◌, ℕ, ◌+◌, ◌<◌, ◌≤◌, ◌^◌, refl, arith, sym, ap, ◌∙◌, List, [], ◌∷◌, ◌++◌}
 use Rattle.block_store.specs.declared.Config.{Config}
 use Rattle.block_store.specs.declared.Width.TheVariants.{Eight}
-use Rattle.array_tables.proofs.operations.Applied.{applied}
-use Rattle.array_tables.proofs.operations.LinearizedRuns.{linearized, linearized_so_far}
+use Rattle.array_tables.proofs.Lemmas.{applied, linearized, linearized_so_far, rings_owe}
 use Rattle.array_tables.specs.number_rings.Rings.{Operation, Keep, Recall, AreInCells, cell_config, rows_of}
-use Rattle.array_tables.proofs.number_rings.RingTable.{rings_owe, whole}
+use Rattle.array_tables.proofs.number_rings.RingTable.{whole}
 use Rattle.array_tables.proofs.number_rings.RingTable as table
 use Rattle.live_tables.specs.declared.rings.request.RingRequest.{RingRequest}
 use Rattle.live_tables.specs.declared.rings.request.RingRequest.TheVariants as asks

@@ -2,8 +2,8 @@
 use Rattle.std.proofs.Common.{ℕ, ◌<◌, ◌≤◌, ◌^◌, refl, arith, List, [], ◌∷◌, length}
 use Rattle.std.specs.List.{AllByRecursion}
 use Rattle.never_heap.specs.Bounds.{IsCommandInBounds}
-use Rattle.never_heap.proofs.CommandBounds.{plain_fits}
-use Rattle.array_tables.proofs.operations.Pairs.{◌▸◌}
+use Rattle.never_heap.proofs.Lemmas.{plain_fits}
+use Rattle.array_tables.proofs.Lemmas.{◌▸◌}
 use Rattle.array_tables.specs.handle_table.Handles.{Deed, Make, See, Drop, Take, Evict, handle_config, id}
 use Rattle.live_tables.specs.handles.Live.{CanFollow, commands_of}
 use Rattle.live_tables.specs.handles.Makes.{last_by, made_by}

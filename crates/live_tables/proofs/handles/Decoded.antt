@@ -4,11 +4,9 @@ use Rattle.std.proofs.lemmas.List.{append-nil}
 use Rattle.never_heap.specs.declared.Command.{Command}
 use Rattle.never_heap.specs.declared.Reply.{Reply}
 use Rattle.array_tables.specs.operations.Linearizations.{answers_told}
-use Rattle.array_tables.proofs.operations.Applied.{applied}
-use Rattle.array_tables.proofs.operations.LinearizedRuns.{linearized, linearized_so_far}
+use Rattle.array_tables.proofs.Lemmas.{applied, kept, linearized, linearized_so_far, slots_owe}
 use Rattle.array_tables.specs.handle_table.Handles.{Answer, Matched, Found, Deed, Make, See, Drop, Take, Evict, Row, AreNumbered, ends, found_by, handle_config, id, is_yes, register_of_h, rows_of}
-use Rattle.array_tables.proofs.handle_table.SlotApplication.{slots_owe, whole}
-use Rattle.array_tables.proofs.handle_table.SlotTable.{kept}
+use Rattle.array_tables.proofs.handle_table.SlotApplication.{whole}
 use Rattle.live_tables.specs.rows.Lawful.{Lawful}
 use Rattle.live_tables.specs.rows.Rows.{answer_told}
 use Rattle.live_tables.specs.handles.Decoding.{Reading, deeds_from, deeds_of, fetched_next, h_of, made_next, nothing_read, set_next}

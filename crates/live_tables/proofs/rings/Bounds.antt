@@ -2,8 +2,8 @@
 use Rattle.std.proofs.Common.{ℕ, ◌<◌, ◌≤◌, ◌^◌, refl, arith, List, [], ◌∷◌}
 use Rattle.std.specs.List.{AllByRecursion}
 use Rattle.never_heap.specs.Bounds.{IsCommandInBounds}
-use Rattle.never_heap.proofs.CommandBounds.{plain_fits}
-use Rattle.array_tables.proofs.operations.Pairs.{◌▸◌}
+use Rattle.never_heap.proofs.Lemmas.{plain_fits}
+use Rattle.array_tables.proofs.Lemmas.{◌▸◌}
 use Rattle.array_tables.specs.number_rings.Rings.{Operation, Keep, Recall, cell_config}
 use Rattle.live_tables.specs.rings.Live.{CanBeNext, commands_of}
 

@@ -4,10 +4,9 @@ use Rattle.std.proofs.lemmas.List.{append-nil}
 use Rattle.never_heap.specs.declared.Command.{Command}
 use Rattle.never_heap.specs.declared.Reply.{Reply}
 use Rattle.array_tables.specs.operations.Linearizations.{answers_told}
-use Rattle.array_tables.proofs.operations.Applied.{applied}
-use Rattle.array_tables.proofs.operations.LinearizedRuns.{linearized, linearized_so_far}
+use Rattle.array_tables.proofs.Lemmas.{applied, linearized, linearized_so_far, rings_owe}
 use Rattle.array_tables.specs.number_rings.Rings.{Cell, Operation, Keep, Recall, Row, cell_config, ends, number_of, rows_of}
-use Rattle.array_tables.proofs.number_rings.RingTable.{rings_owe, whole}
+use Rattle.array_tables.proofs.number_rings.RingTable.{whole}
 use Rattle.array_tables.proofs.number_rings.RingTable as table
 use Rattle.live_tables.specs.rows.Lawful.{Lawful}
 use Rattle.live_tables.specs.rows.Rows.{answer_told}

@@ -11,10 +11,7 @@ use Rattle.never_heap.specs.declared.Reply.{Reply}
 use Rattle.never_heap.specs.declared.Reply.TheVariants as answers
 use Rattle.shared_heap.specs.Workers.{WorkerState, HasRoom, HasAnswered, HasMade, IsSame}
 use Rattle.shared_heap.specs.declared.rules.Moment.TheVariants as moments
-use Rattle.shared_heap.proofs.Behind.{part_before}
-use Rattle.shared_heap.proofs.Crews.{same_here, same_on}
-use Rattle.shared_heap.proofs.RealTime.{invoked_before}
-use Rattle.shared_heap.proofs.Views.{starts_on}
+use Rattle.shared_heap.proofs.Lemmas.{invoked_before, part_before, same_here, same_on, starts_on}
 use Rattle.live_tables.specs.rows.Life.{Executes, HasBegun, HasRoomFor, HasRun, last_three}
 use Rattle.live_tables.proofs.rows.Rooms.{room_one, room_rest}
 

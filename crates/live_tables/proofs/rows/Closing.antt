@@ -12,18 +12,14 @@ use Rattle.never_heap.specs.declared.Entry.{Entry}
 use Rattle.never_heap.specs.Histories.{HasTraces, part, parts}
 use Rattle.never_heap.specs.Licensed.{NoFulls}
 use Rattle.never_heap.specs.Runs.{IsRun}
-use Rattle.never_heap.proofs.HistoryGrowth.{part_append}
+use Rattle.never_heap.proofs.Lemmas.{logged, part_append, parts_count}
 use Rattle.array_tables.specs.operations.Linearizations.{Call, IsLinearization, traces_of}
-use Rattle.never_heap.proofs.PartLogs.{logged, parts_count}
 use Rattle.shared_heap.specs.declared.rules.Moment.{Moment}
 use Rattle.shared_heap.specs.declared.rules.Moment.TheVariants as moments
 use Rattle.shared_heap.specs.Shared.{IsStartOf, history_of}
 use Rattle.shared_heap.specs.Workers.{WorkerState, HaveOneHistory, HasPart, IsOfMachine}
-use Rattle.shared_heap.proofs.Orders.{nobody}
-use Rattle.shared_heap.proofs.Stamps.{stamps_in_order}
-use Rattle.shared_heap.proofs.Timelines.{before_or_after, history_start}
-use Rattle.shared_heap.proofs.Views.{starts_on}
-use Rattle.atom_board.proofs.Crews.{get_or_map}
+use Rattle.shared_heap.proofs.Lemmas.{before_or_after, history_start, nobody, stamps_in_order, starts_on}
+use Rattle.atom_board.proofs.AllMutators.{get_or_map}
 use Rattle.live_tables.specs.rows.Orders.{HasScript, HaveOneOrder, OperationsAreInOrder, OperationsComeAfter, OperationsComeAfterStamps, StandBehindWhatWasSeen}
 use Rattle.live_tables.specs.rows.Rows.{Rows, IsRowHeap, answers_of, commands_in, commands_of, replies}
 use Rattle.live_tables.specs.rows.Workers.{IsRowWorker, RowWorkerState, heap_worker, row_worker, thread_of}

@@ -4,8 +4,8 @@ use Rattle.std.specs.List.{AllByRecursion}
 use Rattle.std.proofs.lemmas.List.{length-map}
 use Rattle.shared_heap.specs.Workers as heaps
 use Rattle.shared_heap.specs.Workers.{HeapState, WorkerState}
-use Rattle.shared_heap.proofs.Crews.{same_here, same_on}
-use Rattle.atom_board.proofs.Crews.{get_or_map}
+use Rattle.shared_heap.proofs.Lemmas.{same_here, same_on}
+use Rattle.atom_board.proofs.AllMutators.{get_or_map}
 use Rattle.live_tables.specs.rows.Rows.{Rows}
 use Rattle.live_tables.specs.rows.Workers.{AreEachOnce, AreInOrder, IsOf, IsSameWorker, RowWorkerState, row_worker}
 

@@ -7,7 +7,7 @@ use Rattle.std.proofs.Math.ListN.{get_or-map}
 use Rattle.never_heap.specs.declared.Command.{Command}
 use Rattle.never_heap.specs.declared.Entry.{Entry}
 use Rattle.never_heap.specs.Histories.{HistoryItem, Started, Did, HasTraces, part}
-use Rattle.never_heap.proofs.HistoryGrowth.{part_append}
+use Rattle.never_heap.proofs.Lemmas.{part_append}
 use Rattle.array_tables.specs.operations.Applications.{ops_in, op_by}
 use Rattle.array_tables.specs.operations.Linearizations.{Call, calls_of, rows_left, traces_of, decided_by, decided_next, decided_at, decided_behind}
 use Rattle.shared_heap.specs.Shared.{IsStartOf}

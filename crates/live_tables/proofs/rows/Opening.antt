@@ -5,7 +5,7 @@ use Rattle.std.proofs.lemmas.List.{length-map}
 use Rattle.block_store.specs.declared.Config.{Config}
 use Rattle.shared_heap.specs.Workers as heaps
 use Rattle.shared_heap.specs.Workers.{HeapState, IsFresh, WorkerState}
-use Rattle.atom_board.proofs.Crews.{get_or_map}
+use Rattle.atom_board.proofs.AllMutators.{get_or_map}
 use Rattle.live_tables.specs.rows.Rows.{Rows, IsRowHeap, answers_of, commands_of, replies}
 use Rattle.live_tables.specs.rows.Workers.{AreFresh, AreInOrder, IsRowWorker, RowWorkerState, row_worker}
 use Rattle.live_tables.specs.rows.Lawful.{Lawful}

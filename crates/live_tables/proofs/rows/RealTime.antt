@@ -7,9 +7,7 @@ use Rattle.array_tables.specs.operations.Applications.{ops_in, op_by}
 use Rattle.array_tables.specs.operations.Linearizations.{Call, decided_behind}
 use Rattle.shared_heap.specs.declared.rules.Moment.{Moment}
 use Rattle.shared_heap.specs.Shared.{IsWellFormed, IsStartOf, history_of}
-use Rattle.shared_heap.proofs.RealTime.{has_invoked, line_of}
-use Rattle.shared_heap.proofs.Timelines.{history_start, invoked_start}
-use Rattle.shared_heap.proofs.Views.{starts_on}
+use Rattle.shared_heap.proofs.Lemmas.{has_invoked, history_start, invoked_start, line_of, starts_on}
 use Rattle.live_tables.specs.rows.Behind.{operations_in}
 use Rattle.live_tables.specs.rows.RealTime.{ComeBefore, KeepsRealTime}
 use Rattle.live_tables.specs.rows.Rows.{Rows, commands_of}

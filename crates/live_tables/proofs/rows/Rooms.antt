@@ -11,8 +11,7 @@ use Rattle.never_heap.specs.Histories.{HistoryItem, Started, Did, part}
 use Rattle.never_heap.specs.RightWork.{RightWork, units_owed}
 use Rattle.heap_system.specs.Lives.{sum_after, objects_of, most_units}
 use Rattle.heap_system.specs.Locals.{LocalState, works}
-use Rattle.heap_system.proofs.OwedAndPaid.{works_append}
-use Rattle.heap_system.proofs.TraceSums.{sum_more}
+use Rattle.heap_system.proofs.Lemmas.{sum_more, works_append}
 use Rattle.std.specs.Prelude.{if◌then◌else◌, ◌==◌}
 use Rattle.shared_heap.specs.Workers.{WorkerState, HasRoom, HasAnswered, IsSame}
 use Rattle.live_tables.specs.rows.Life.{HasRoomFor}

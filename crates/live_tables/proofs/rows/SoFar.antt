@@ -19,20 +19,18 @@ use Rattle.heap_system.specs.Locals.{LocalState}
 use Rattle.heap_system.specs.Machines.{heap_in, local_in, no_local}
 use Rattle.heap_system.specs.Pictures.{entries_waiting}
 use Rattle.heap_system.specs.Systems.{Whole}
-use Rattle.heap_system.proofs.Kept.{Kept, LocalKept}
-use Rattle.heap_system.proofs.RunLaws.{kept_of}
+use Rattle.heap_system.proofs.Lemmas.{Kept, LocalKept, first_commands, kept_of}
 use Rattle.array_tables.specs.operations.Linearizations.{Call, calls_of, answers_told, replies_in, traces_of}
-use Rattle.array_tables.specs.operations.SoFar.{IsRunSoFar, IsLinearizationSoFar}
-use Rattle.never_heap.proofs.PartLogs.{logged, parts_count}
-use Rattle.shared_heap.specs.declared.rules.Held.{Held}
+use Rattle.array_tables.specs.operations.RunPrefixes.{IsRunSoFar, IsLinearizationSoFar}
+use Rattle.never_heap.proofs.Lemmas.{logged, parts_count}
+use Rattle.shared_heap.specs.declared.rules.ThreadView.{ThreadView}
 use Rattle.shared_heap.specs.declared.rules.View.{View}
 use Rattle.shared_heap.specs.Prefixes.{FitsOneHistory}
 use Rattle.shared_heap.specs.Shared.{AllFit, Fits, SharedKept, seats_of, threads_of}
 use Rattle.shared_heap.specs.Workers.{WorkerState}
-use Rattle.shared_heap.proofs.FirstCommands.{first_commands}
-use Rattle.shared_heap.proofs.Grown.{here}
-use Rattle.shared_heap.proofs.Prefixes.{fits_one, fits_order}
-use Rattle.atom_board.proofs.Crews.{get_or_map}
+use Rattle.control_heap.proofs.RunGrowth.{here}
+use Rattle.shared_heap.proofs.Lemmas.{fits_one, fits_order}
+use Rattle.atom_board.proofs.AllMutators.{get_or_map}
 use Rattle.live_tables.specs.rows.Behind.{answers_in, operations_in}
 use Rattle.live_tables.specs.rows.Rows.{Rows, IsRowHeap, answers_of, commands_in, commands_of, replies}
 use Rattle.live_tables.specs.rows.Workers.{IsRowWorker, row_worker}
@@ -88,7 +86,7 @@ module _ {Op Row Answer S : Type 0} (a : Rows Op Row Answer S) (law : Lawful a) 
   does : (l : LocalState) → IsWorking a l → (ops : List Op) × Does a l ops
   does l is = elim is [ inl b ↦ does_between l b | inr i ↦ does_within l i ]
 
--- of each of these, one of those that it stands in a relation with
+-- of each of these, one of those that it is in a relation with
 chosen_at : {A B : Type 0} (R : A → B → Type 0) (d : A) (x : A) (xs : List A) (y : B) (ys : List B)
     → R x y → ((i : ℕ) (e : B) → i < length xs → R (get_or xs i d) (get_or ys i e))
     → (i : ℕ) (e : B) → i < length (x ∷ xs) → R (get_or (x ∷ xs) i d) (get_or (y ∷ ys) i e)
@@ -122,7 +120,7 @@ module _ {Op Row Answer S : Type 0} (a : Rows Op Row Answer S) (law : Lawful a) 
   all = kept_of c kept.run kept.by.after
 
   -- what holds of all threads in the seats holds of each thread of the heap
-  in_view : (P : LocalState → Type 0) (t : ℕ) → t < c.threads → (hs : List Held)
+  in_view : (P : LocalState → Type 0) (t : ℕ) → t < c.threads → (hs : List ThreadView)
       → 0 < threads_of t hs → AllFit c kept.run hs → AllThreads P hs → P (local_in c kept.run t)
   in_view P t tl [] more fit each = absurd (omega (arith, more))
   in_view P t tl (h ∷ hs) more fit each = elim (cases_Bool (eqb t h.local.thread)) [
@@ -151,7 +149,7 @@ module _ {Op Row Answer S : Type 0} (a : Rows Op Row Answer S) (law : Lawful a) 
   of_each P each t tl = in_views P t tl s.views (omega (arith, kept.once t tl))
       (λ id v at. ((kept.each id v at).0, each id v at))
 
-  own_of : (h : Held) → Fits c kept.run h → h.local ≡ local_in c kept.run h.local.thread
+  own_of : (h : ThreadView) → Fits c kept.run h → h.local ≡ local_in c kept.run h.local.thread
   own_of h fit = here c h.local.thread fit.0 kept.run kept.by.after h.local fit.1
 
   module _ (rows : IsRowHeap a k.config) (scripts : List (List Op))
@@ -253,7 +251,7 @@ module _ {Op Row Answer S : Type 0} (a : Rows Op Row Answer S) (law : Lawful a) 
 
     -- ---- a worker between two operations
 
-    module _ (h : Held) (fit : Fits c kept.run h) (at : IsAt a scripts h.local) (w : WorkerState)
+    module _ (h : ThreadView) (fit : Fits c kept.run h) (at : IsAt a scripts h.local) (w : WorkerState)
         (its : w.thread ≡ h.local) (between : IsRowWorker a w) where
       abbrev l : LocalState
       l = h.local
@@ -352,13 +350,13 @@ module _ {Op Row Answer S : Type 0} (a : Rows Op Row Answer S) (law : Lawful a) 
           HasCalls orders.0 (row_worker a (record w { thread = x }))) (sym its)
           (record { done = done_is; answers = answers_are })
 
-    all_have_calls : (hs : List Held) → AllFit c kept.run hs → AllThreads (IsAt a scripts) hs
+    all_have_calls : (hs : List ThreadView) → AllFit c kept.run hs → AllThreads (IsAt a scripts) hs
         → AllHaveCalls a orders.0 hs
     all_have_calls [] fit at = tt
     all_have_calls (h ∷ hs) fit at =
         (λ w its between. has_calls h fit.0 at.0 w its between, all_have_calls hs fit.1 at.1)
 
-    all_invoked : (hs : List Held) → AllFit c kept.run hs
+    all_invoked : (hs : List ThreadView) → AllFit c kept.run hs
         → AllThreads (HaveInvoked kept.timeline) hs
     all_invoked [] fit = tt
     all_invoked (h ∷ hs) fit = (
@@ -423,7 +421,7 @@ module _ {Op Row Answer S : Type 0} (a : Rows Op Row Answer S) (law : Lawful a) 
           (law.none c.shared t)
     ]
 
-    is_at : (h : Held) → Fits c kept.run h → IsBetween a h.local → IsAt a done_scripts h.local
+    is_at : (h : ThreadView) → Fits c kept.run h → IsBetween a h.local → IsAt a done_scripts h.local
     is_at h fit b = (
       [],
       ap (commands_of a) (script_is h.local.thread fit.0 ∙ ap done_by (sym (own_of h fit)))
@@ -431,7 +429,7 @@ module _ {Op Row Answer S : Type 0} (a : Rows Op Row Answer S) (law : Lawful a) 
           ∙ sym (append-nil h.local.trace),
     )
 
-    are_at : (hs : List Held) → AllFit c kept.run hs → AllThreads (IsBetween a) hs
+    are_at : (hs : List ThreadView) → AllFit c kept.run hs → AllThreads (IsBetween a) hs
         → AllThreads (IsAt a done_scripts) hs
     are_at [] fit b = tt
     are_at (h ∷ hs) fit b = (is_at h fit.0 b.0, are_at hs fit.1 b.1)
@@ -480,12 +478,12 @@ module _ {Op Row Answer S : Type 0} (a : Rows Op Row Answer S) (law : Lawful a) 
           (law.none c.shared t)
     ]
 
-    choice_at : (h : Held) → Fits c kept.run h → IsAt a choice.0 h.local
+    choice_at : (h : ThreadView) → Fits c kept.run h → IsAt a choice.0 h.local
     choice_at h fit =
         let d = chosen_for h.local.thread fit.0 in
         (d.1, d.2 ∙ ap (λ (l : LocalState). l.trace ++ d.1) (sym (own_of h fit)))
 
-    choices_at : (hs : List Held) → AllFit c kept.run hs → AllThreads (IsAt a choice.0) hs
+    choices_at : (hs : List ThreadView) → AllFit c kept.run hs → AllThreads (IsAt a choice.0) hs
     choices_at [] fit = tt
     choices_at (h ∷ hs) fit = (choice_at h fit.0, choices_at hs fit.1)
 

@@ -7,8 +7,7 @@ use Rattle.never_heap.specs.Histories.{HistoryItem, part}
 use Rattle.shared_heap.specs.declared.rules.Moment.{Moment}
 use Rattle.shared_heap.specs.declared.rules.Moment.TheVariants as moments
 use Rattle.shared_heap.specs.Shared.{IsStartOf, history_of, invoked_in, stamps_in}
-use Rattle.shared_heap.proofs.Timelines.{before_or_after, history_append, invoked_append, part_start, stamps_append, stamps_start}
-use Rattle.shared_heap.proofs.Views.{starts_itself, starts_on}
+use Rattle.shared_heap.proofs.Lemmas.{before_or_after, history_append, invoked_append, part_start, stamps_append, stamps_start, starts_itself, starts_on}
 use Rattle.live_tables.specs.rows.Rows.{Rows, commands_of}
 use Rattle.live_tables.specs.rows.Stamped.{IsStampAfter, StampsKeepOrder}
 use Rattle.live_tables.specs.rows.Workers.{HasDrawn, HasSeenAll, RowWorkerState, thread_of}

@@ -6,7 +6,7 @@ use Rattle.heap_system.specs.Locals.{LocalState, local_got}
 use Rattle.never_heap.specs.declared.Command.{Command}
 use Rattle.shared_heap.specs.Turns.{MadeTurns}
 use Rattle.shared_heap.specs.Workers.{IsSame, WorkerState}
-use Rattle.shared_heap.proofs.Crews.{same_here, same_on}
+use Rattle.shared_heap.proofs.Lemmas.{same_here, same_on}
 use Rattle.live_tables.specs.rows.Life.{Executes}
 use Rattle.live_tables.specs.rows.Rows.{Rows, commands_of}
 use Rattle.live_tables.specs.rows.SoFar.{IsMomentOf, IsWithin, WorkAllAlong}

@@ -7,7 +7,7 @@ use Rattle.array_tables.specs.operations.Linearizations.{answers_told}
 use Rattle.array_tables.specs.declared.tag_table.operation.Operation.{Operation}
 use Rattle.array_tables.specs.declared.tag_table.operation.Operation.TheVariants.{Write, Clear, Read}
 use Rattle.array_tables.specs.tag_table.Tables.{Row, rows_of, ends, pair_of, tag_told, AreInTable, IsOperationInRange}
-use Rattle.array_tables.proofs.tag_table.TableApplication.{tables_are_kept, tables_so_far}
+use Rattle.array_tables.proofs.Lemmas.{tables_are_kept, tables_so_far}
 use Rattle.array_tables.proofs.tag_table.TagRows.{whole}
 use Rattle.live_tables.specs.rows.Life.{last_three}
 use Rattle.live_tables.specs.rows.Lawful.{Lawful}

@@ -3,8 +3,8 @@ use Rattle.std.proofs.Common.{◌≡◌, ℕ, ◌≤◌, refl, arith, List, [], 
 use Rattle.std.specs.List.{AllByRecursion}
 use Rattle.block_store.specs.declared.Width.TheVariants.{Eight}
 use Rattle.never_heap.specs.Bounds.{IsCommandInBounds}
-use Rattle.never_heap.proofs.CommandBounds.{plain_fits}
-use Rattle.array_tables.proofs.operations.Pairs.{◌▸◌}
+use Rattle.never_heap.proofs.Lemmas.{plain_fits}
+use Rattle.array_tables.proofs.Lemmas.{◌▸◌}
 use Rattle.array_tables.specs.declared.tag_table.operation.Operation.{Operation}
 use Rattle.array_tables.specs.declared.tag_table.operation.Operation.TheVariants.{Write, Clear, Read}
 use Rattle.array_tables.specs.tag_table.Tables.{tag_config, IsOperationInRange}

@@ -22,7 +22,7 @@ nothing_read = record { made = 0; last = λ h. 0; before = 0; set = 0; place = 0
 abbrev pub h_of : ℕ → ℕ
 h_of r = r - 4
 
--- behind a number that was set, a make, and a place that was fetched
+-- after a number that was set, a make, and a place that was fetched
 abbrev pub set_next : ℕ → Reading → Reading
 set_next v r = record r { before = r.set; set = v }
 

@@ -2,13 +2,13 @@
 use Rattle.std.specs.Prelude.{ℕ, ◌+◌, ◌==◌, Option, Some, None, if◌then◌else◌, List, [], ◌∷◌}
 use Rattle.array_tables.specs.handle_table.Handles.{Deed, Make, last_after}
 
--- how many handles were made, behind n others
+-- how many handles were made, after n others
 abbrev pub made_behind : ℕ → List Deed → ℕ
 made_behind n [] = n
 made_behind n (Make t j h i x ∷ ops) = made_behind (n + 1) ops
 made_behind n (op ∷ ops) = made_behind n ops
 
--- Of each h one more than the number of its last make, behind n others and where `last` tells those
+-- Of each h one more than the number of its last make, after n others and where `last` tells those
 -- before. It is 0 before the first make.
 abbrev pub last_behind : ℕ → (ℕ → ℕ) → List Deed → ℕ → ℕ
 last_behind n last [] = last

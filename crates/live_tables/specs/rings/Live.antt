@@ -18,7 +18,7 @@ use Rattle.live_tables.specs.declared.rings.request.RingRequest.{RingRequest}
 use Rattle.live_tables.specs.declared.rings.request.RingRequest.TheVariants as asks
 use Rattle.live_tables.specs.rings.Decoding.{operations_of}
 
--- how many numbers were kept, behind n others
+-- how many numbers were kept, after n others
 abbrev pub kept_behind : ℕ → List Operation → ℕ
 kept_behind n [] = n
 kept_behind n (Keep i v ∷ ops) = kept_behind (n + 1) ops

@@ -10,7 +10,7 @@ use Rattle.never_heap.specs.Licensed.{NoFulls}
 use Rattle.never_heap.specs.Runs.{IsRun}
 use Rattle.array_tables.specs.operations.Applications.{ops_in}
 use Rattle.array_tables.specs.operations.Linearizations.{Call, IsLinearization, answers_told, traces_of}
-use Rattle.array_tables.specs.operations.SoFar.{IsRunSoFar, IsLinearizationSoFar}
+use Rattle.array_tables.specs.operations.RunPrefixes.{IsRunSoFar, IsLinearizationSoFar}
 use Rattle.live_tables.specs.rows.Rows.{Rows, answer_told, commands_of}
 
 pub record Lawful {Op Row Answer S : Type 0} (a : Rows Op Row Answer S) : Type 0 where

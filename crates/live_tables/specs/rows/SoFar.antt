@@ -12,8 +12,8 @@ use Rattle.heap_system.specs.Locals.{LocalState}
 use Rattle.heap_system.specs.Systems.{Whole}
 use Rattle.control_heap.specs.Growth.{given}
 use Rattle.array_tables.specs.operations.Linearizations.{Call, traces_of}
-use Rattle.array_tables.specs.operations.SoFar.{IsRunSoFar, IsLinearizationSoFar}
-use Rattle.shared_heap.specs.declared.rules.Held.{Held}
+use Rattle.array_tables.specs.operations.RunPrefixes.{IsRunSoFar, IsLinearizationSoFar}
+use Rattle.shared_heap.specs.declared.rules.ThreadView.{ThreadView}
 use Rattle.shared_heap.specs.declared.rules.View.{View}
 use Rattle.shared_heap.specs.declared.rules.Moment.{Moment}
 use Rattle.shared_heap.specs.RealTime.{IsSeatOf, HadSeen}
@@ -26,7 +26,7 @@ use Rattle.live_tables.specs.rows.RealTime.{AreComplete, ComeBefore, KeepsRealTi
 use Rattle.live_tables.specs.rows.Rows.{Rows, commands_of}
 use Rattle.live_tables.specs.rows.Workers.{HasDone, IsNext, IsRowWorker, RowWorkerState, row_worker, thread_of}
 
-abbrev pub AllThreads : (LocalState → Type 0) → List Held → Type 0
+abbrev pub AllThreads : (LocalState → Type 0) → List ThreadView → Type 0
 AllThreads P [] = Unit {0}
 AllThreads P (h ∷ hs) = P h.local × AllThreads P hs
 
@@ -100,7 +100,7 @@ module _ {Op Row Answer S : Type 0} (a : Rows Op Row Answer S) where
       → IsMomentOf (commands_of a (op ∷ [])) old.worker new.worker did.executes l → IsWorking l
 
   -- each worker between two operations that has one of these threads
-  abbrev pub AllHaveCalls : List (Call Op Answer) → List Held → Type 0
+  abbrev pub AllHaveCalls : List (Call Op Answer) → List ThreadView → Type 0
   AllHaveCalls order [] = Unit {0}
   AllHaveCalls order (h ∷ hs) =
       ((w : WorkerState) → w.thread ≡ h.local → IsRowWorker a w → HasCalls order (row_worker a w))
@@ -136,7 +136,7 @@ module _ {Op Row Answer S : Type 0} (a : Rows Op Row Answer S) where
   abbrev pub SeenComesBeforeLater : Type 0
   SeenComesBeforeLater =
       (k : Whole) (s later : table.State Command View) (now : SharedKept k s) (p : List Moment)
-      → HadSeen s p → HadSeen later p → (h : Held) → IsSeatOf s h
+      → HadSeen s p → HadSeen later p → (h : ThreadView) → IsSeatOf s h
       → (scripts : List (List Op)) (history : List HistoryItem)
       (fits : FitsOneOrder k.config later scripts history) (t n m : ℕ)
       → AreComplete a scripts p t n

@@ -11,8 +11,9 @@ use Rattle.live_tables.specs.rows.Rows.{Rows, commands_of}
 use Rattle.live_tables.specs.rows.Workers.{RowWorkerState}
 
 module _ {Op Row Answer S : Type 0} (a : Rows Op Row Answer S) where
-  -- A stamp of this timeline has this number. Before it, all commands of these operations of thread
-  -- t have entries, and no other command of the thread was invoked.
+  -- A stamp of this timeline has this number, unless 2^64 were drawn before it. Before it thread t
+  -- has as many entries, and as many invocations, as these operations have commands. So if they are
+  -- the first of its script, they are complete there, and the thread has begun no other.
   pub record IsStampAfter (timeline : List Moment) (t : ℕ) (ops : List Op) (n : ℕ) : Type 0 where
     pub past : List Moment
     pub drawn : IsStartOf (past ++ moments.Stamped ∷ []) timeline

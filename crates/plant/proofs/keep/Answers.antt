@@ -7,16 +7,16 @@ returns c = (
   (
     c.record.new.self,
     c.record.ensures.config,
-    c.in_ok-record.ensures.told.answered,
+    c.in_ok-record.ensures.returned.answered,
     (
       c.set.new.self,
       c.set.ensures.config,
-      rw (sym c.from.ensures) c.in_ok-set.ensures.told.answered,
+      rw (sym c.from.ensures) c.in_ok-set.ensures.returned.answered,
       (
         c.put.new.self,
         c.put.ensures.config,
-        c.in_ok-put.ensures.told.answered,
-        (c.put-2.new.self, c.put-2.ensures.config, c.in_ok-put-2.ensures.told.answered, refl),
+        c.in_ok-put.ensures.returned.answered,
+        (c.put-2.new.self, c.put-2.ensures.config, c.in_ok-put-2.ensures.returned.answered, refl),
       ),
     ),
   ),

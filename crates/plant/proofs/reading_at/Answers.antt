@@ -7,11 +7,11 @@ returns-in-Int c = (
   (
     c.get.new.self,
     c.get.ensures.config,
-    c.in_ok-get.ensures.told.answered,
+    c.in_ok-get.ensures.returned.answered,
     (
       c.get-2.new.self,
       c.get-2.ensures.config,
-      rw (sym c.in-Int.is) c.in_ok-reading.ensures.told.answered,
+      rw (sym c.in-Int.is) c.in_ok-reading.ensures.returned.answered,
       refl,
     ),
   ),

@@ -1,4 +1,4 @@
--- Behind a change of phase comes a unit before the next change.
+-- After a change of phase comes a unit before the next change.
 use Rattle.std.proofs.Common.{ℕ, suc, ◌+◌, ◌<◌, ◌≡◌, ◌⊎◌, inl, inr, Bool, true, false, cond, eqb, refl, arith, subst, sym, ap, ◌∙◌, ne_eqb}
 use Rattle.rate_plan.specs.solo_bound.Moves.{Spot, Lone, Terms, at, begun, Goes, Dealt, Passed, Moves, Fresh}
 

@@ -199,13 +199,13 @@ module _ (e : Terms) (m : ℕ) (wide : 2 ≤ e.payloads) (some : 0 < m) where
       let one = mul_next e.blocks p.0 (e.payloads + 3) (sym p.1) in
       stands z (Spot.Write p.0 0) k p.2 (omega arith)
 
-  -- the row behind, in this phase
+  -- the row after, in this phase
   in_phase : (z : Scene) (r k : ℕ) (sweep : Bool) → z.lone.sweep ≡ sweep
       → A Spot.Leave r sweep z.room z.far < k → A Spot.Leave r z.lone.sweep z.room z.far < k
   in_phase z r k sweep e h =
       subst (λ q. A Spot.Leave r q z.room z.far < k) (sym e) h
 
-  -- a unit of the sweep pays for more than the events behind it
+  -- a unit of the sweep pays for more than the events after it
   paying : (s z : Scene) → suc z.lone.owed ≡ s.lone.owed → Sweeps s z
       → B (s.lone.owed - 1) + sweep_debt e m (s.lone.owed - 1) z.room + near_unit e.payloads
       ≤ B s.lone.owed + sweep_debt e m s.lone.owed s.room
@@ -417,9 +417,9 @@ module _ (e : Terms) (m : ℕ) (wide : 2 ≤ e.payloads) (some : 0 < m) where
     ]
   ]
   lower Spot.Publish s z h k = stands z Spot.LeaveDone _ h (omega arith)
-  lower (Spot.Serve j) s z h k = elim h [
+  lower (Spot.Access j) s z h k = elim h [
     | inl p ↦ stands z Spot.LeaveDone _ p.1 (let q = p.0 in omega arith)
-    | inr p ↦ stands z (Spot.Serve p.0) _ p.2 (let q = p.1 in omega arith)
+    | inr p ↦ stands z (Spot.Access p.0) _ p.2 (let q = p.1 in omega arith)
   ]
 
   -- at the look

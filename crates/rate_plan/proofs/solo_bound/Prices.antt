@@ -263,9 +263,9 @@ module _ (e : Terms) (unit : ℕ) (wide : 2 ≤ e.payloads)
     ]
   ]
   lower Spot.Publish s z h = stands z Spot.LeaveDone _ h (omega arith)
-  lower (Spot.Serve j) s z h = elim h [
+  lower (Spot.Access j) s z h = elim h [
     | inl p ↦ stands z Spot.LeaveDone _ p.1 (let q = p.0 in omega arith)
-    | inr p ↦ stands z (Spot.Serve p.0) _ p.2 (let q = p.1 in omega arith)
+    | inr p ↦ stands z (Spot.Access p.0) _ p.2 (let q = p.1 in omega arith)
   ]
 
 pub exactly : (e : Terms) (r : ℕ) (sweep ready : Bool) → 2 ≤ e.payloads → e.allocates ≡ true

@@ -1,7 +1,7 @@
 -- The rows of a thread that alone has turns, without what they read, and what one turn may do.
 use Rattle.std.specs.Prelude.{ℕ, suc, ◌+◌, ◌<◌, ◌≤◌, ◌≡◌, ◌⊎◌, Bool, true, false, ◌==◌, if◌then◌else◌}
 
--- where the thread stands. A number u is that of the list or the root that is next, and j that of
+-- where the thread is. A number u is that of the list or the root that is next, and j that of
 -- the payload word
 pub data Spot : Type 0 where
   Over : Spot  -- at rest, and the command has its entry
@@ -38,9 +38,9 @@ pub data Spot : Type 0 where
   PutRest : Spot
   Write : (o j : ℕ) → Spot  -- word j of the block of ordinal o
   Publish : Spot
-  Serve : (j : ℕ) → Spot  -- in another command, at most j events before it goes out
+  Access : (j : ℕ) → Spot  -- in another command, at most j events before it goes out
 
--- Where the thread stands, and how many units it owes; the phase; and whether a pass of this phase
+-- Where the thread is, and how many units it owes; the phase; and whether a pass of this phase
 -- will find something: a grey list that is not empty, or a block that the cursor has not passed.
 pub record Lone : Type 0 where
   pub spot : Spot
@@ -64,10 +64,10 @@ pub record Terms : Type 0 where
 -- the first row inside
 abbrev pub begun : Terms → Lone → Spot
 begun e s =
-    if s.owed == 0 then (if e.allocates then Count else Serve e.most)
+    if s.owed == 0 then (if e.allocates then Count else Access e.most)
     else (if s.sweep then ReadCursor else Take 0)
 
--- z stands at x, and owes what s owes
+-- z is at x, and owes what s owes
 abbrev pub Goes : Lone → Lone → Spot → Type 0
 Goes s z x = (z.spot ≡ x) × (z.owed ≡ s.owed)
 
@@ -75,7 +75,7 @@ Goes s z x = (z.spot ≡ x) × (z.owed ≡ s.owed)
 abbrev pub Stays : Lone → Lone → Spot → Type 0
 Stays s z x = (z.spot ≡ x) × (z.owed ≡ s.owed) × (z.sweep ≡ s.sweep)
 
--- z stands at x, and owes one unit less
+-- z is at x, and owes one unit less
 abbrev pub Pays : Lone → Lone → Spot → Type 0
 Pays s z x = (z.spot ≡ x) × (suc z.owed ≡ s.owed)
 
@@ -84,7 +84,7 @@ abbrev pub Turns : Lone → Lone → Bool → Type 0
 Turns s z sweep =
     (0 < s.owed) × (z ≡ record { spot = Look; owed = s.owed; sweep = sweep; ready = true })
 
--- from list or root u to the next, or behind the last to x
+-- from list or root u to the next, or after the last to x
 abbrev pub Each : Terms → Lone → Lone → ℕ → (ℕ → Spot) → Spot → Type 0
 Each e s z u more x =
     (u + 1 < e.threads) × Goes s z (more (u + 1)) ⊎ (u + 1 ≡ e.threads) × Goes s z x
@@ -173,8 +173,8 @@ Moves e (Collect u h) s z = (h < e.blocks) × Collected e z u h
 Moves e PutRest s z = Writes e z
 Moves e (Write o j) s z = Wrote e z o j
 Moves e Publish s z = z.spot ≡ LeaveDone
-Moves e (Serve j) s z =
-    (0 < j) × (z.spot ≡ LeaveDone) ⊎ (i : ℕ) × (i < j) × (z.spot ≡ Serve i)
+Moves e (Access j) s z =
+    (0 < j) × (z.spot ≡ LeaveDone) ⊎ (i : ℕ) × (i < j) × (z.spot ≡ Access i)
 
 -- before the unit of a pass that will make one
 abbrev pub Fresh : Spot → Lone → Type 0

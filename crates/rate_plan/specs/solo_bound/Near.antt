@@ -1,7 +1,7 @@
 -- A bound that is near the most turns that a lone thread's command can take: what a unit costs and
 -- what a change of phase costs are counted apart.
 use Rattle.std.specs.Prelude.{ℕ, zero, suc, ◌+◌, ◌-◌, ◌*◌, ◌/◌, ◌<◌, ◌≤◌, ◌≡◌, max, Bool, true, false}
-use Rattle.rate_plan.specs.solo_bound.Moves.{Spot, Over, LeaveDone, Look, Enter, Leave, LeaveNone, CloseLook, Close, Check, SetCursor, Flip, ShadeRoot, PutRoots, Start, Take, Pop, Scan, Shade, Blacken, PutGrey, ReadCursor, Claim, Pass, TakeFree, Free, PutFree, Credit, Count, Reserve, Grab, Collect, PutRest, Write, Publish, Serve, Lone, Terms, Moves}
+use Rattle.rate_plan.specs.solo_bound.Moves.{Spot, Over, LeaveDone, Look, Enter, Leave, LeaveNone, CloseLook, Close, Check, SetCursor, Flip, ShadeRoot, PutRoots, Start, Take, Pop, Scan, Shade, Blacken, PutGrey, ReadCursor, Claim, Pass, TakeFree, Free, PutFree, Credit, Count, Reserve, Grab, Collect, PutRest, Write, Publish, Access, Lone, Terms, Moves}
 use Rattle.rate_plan.specs.solo_bound.Prices.{inside_cost}
 
 -- the turns of a unit on blocks of w payload words, with no change of phase
@@ -22,7 +22,7 @@ farthest zero passes = 0
 farthest (suc n) zero = 0
 farthest (suc n) (suc passes) = n + farthest n passes
 
--- of the changes of phase among r units, in a heap of m blocks: a Mark that ends behind passes to
+-- of the changes of phase among r units, in a heap of m blocks: a Mark that ends after passes to
 -- others' lists, or both changes of a cycle; and one cycle more for each m units
 abbrev pub changes_cost : ℕ → ℕ → ℕ → ℕ
 changes_cost n m zero = 0
@@ -83,7 +83,7 @@ pub record NearMoves (e : Terms) (m : ℕ) (s z : Scene) : Type 0 where
   pub keeps : Keeps m s.lone.spot s z
 
 module _ (e : Terms) (m : ℕ) where
-  -- the units, and what comes behind them
+  -- the units, and what comes after them
   abbrev pub paid : ℕ → ℕ
   paid r = r * near_unit e.payloads + inside_cost e 0
 
@@ -153,7 +153,7 @@ module _ (e : Terms) (m : ℕ) where
   near_at (Write o j) r sweep room far =
       (e.payloads + 3) * o + (e.payloads + 3 - j) + 2
   near_at Publish r sweep room far = 2
-  near_at (Serve j) r sweep room far = j + 1
+  near_at (Access j) r sweep room far = j + 1
 
   abbrev pub near_left : Scene → ℕ
   near_left s = near_at s.lone.spot s.lone.owed s.lone.sweep s.room s.far

@@ -1,6 +1,6 @@
 -- How many turns a lone thread has left at most, before its command has its entry.
 use Rattle.std.specs.Prelude.{ℕ, zero, suc, ◌+◌, ◌-◌, ◌*◌, Bool, true, false, if◌then◌else◌}
-use Rattle.rate_plan.specs.solo_bound.Moves.{Spot, Over, LeaveDone, Look, Enter, Leave, LeaveNone, CloseLook, Close, Check, SetCursor, Flip, ShadeRoot, PutRoots, Start, Take, Pop, Scan, Shade, Blacken, PutGrey, ReadCursor, Claim, Pass, TakeFree, Free, PutFree, Credit, Count, Reserve, Grab, Collect, PutRest, Write, Publish, Serve, Lone, Terms}
+use Rattle.rate_plan.specs.solo_bound.Moves.{Spot, Over, LeaveDone, Look, Enter, Leave, LeaveNone, CloseLook, Close, Check, SetCursor, Flip, ShadeRoot, PutRoots, Start, Take, Pop, Scan, Shade, Blacken, PutGrey, ReadCursor, Claim, Pass, TakeFree, Free, PutFree, Credit, Count, Reserve, Grab, Collect, PutRest, Write, Publish, Access, Lone, Terms}
 
 -- the bounds: of an allocation of k blocks on n threads, at this rate; of a command that is told to
 -- make u units; and of another command, where the largest object has b blocks
@@ -46,7 +46,7 @@ module _ (e : Terms) (unit : ℕ) where
   abbrev pub at_look : ℕ → Bool → Bool → ℕ
   at_look r sweep ready = at_enter r sweep ready + 1
 
-  -- what comes behind the change from this phase to the other
+  -- what comes after the change from this phase to the other
   abbrev pub next_pass : Bool → ℕ
   next_pass false = 10
   next_pass true = e.threads + 2 * e.payloads + 6
@@ -93,7 +93,7 @@ module _ (e : Terms) (unit : ℕ) where
   left_at PutRest r sweep ready = writing e.blocks + 3
   left_at (Write o j) r sweep ready = writing o + (e.payloads + 3 - j) + 2
   left_at Publish r sweep ready = 2
-  left_at (Serve j) r sweep ready = j + 1
+  left_at (Access j) r sweep ready = j + 1
 
   abbrev pub left : Lone → ℕ
   left s = left_at s.spot s.owed s.sweep s.ready

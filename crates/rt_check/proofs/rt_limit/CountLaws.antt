@@ -10,7 +10,7 @@ use Rattle.rt_check.specs.declared.moves.Move.{Move}
 use Rattle.rt_check.specs.declared.rt_limit.counts.Counter.{Counter}
 use Rattle.rt_check.specs.rt_limit.Counting.{Knows}
 use Rattle.rt_check.specs.rt_limit.Moments.{graph_after, graph_behind, blocks_made, most_live, IsMoment}
-use Rattle.never_heap.proofs.LiveGrows.{grows}
+use Rattle.never_heap.proofs.Lemmas.{grows}
 
 -- ---- an order that goes on by a command
 
@@ -80,7 +80,7 @@ moment_most w g (m ∷ before) behind =
 part_less : (a b : ℕ) → a ≤ b → a / 64 ≤ b / 64
 part_less a b l = omega arith
 
--- ---- what is known at first, and behind one more command
+-- ---- what is known at first, and after one more command
 
 pub knows_first : (w : Width) (g : Graph) (k : Counter) → k.figures.allocated ≡ 0
     → k.figures.reached ≡ live_blocks w g → k.figures.enough ≡ live_blocks w g

@@ -12,7 +12,7 @@ use Rattle.never_heap.specs.Bounds.{IsCommandInBounds}
 use Rattle.never_heap.specs.Coming.{left_of}
 use Rattle.never_heap.specs.Histories.{HistoryItem, Started, Did, part}
 use Rattle.never_heap.specs.Jobs.{IsTraceInBounds}
-use Rattle.never_heap.proofs.HistoryGrowth.{part_append}
+use Rattle.never_heap.proofs.Lemmas.{part_append}
 use Rattle.trace_text.specs.Jobs.{Job, IsJobInBounds}
 use Rattle.rt_check.specs.declared.moves.Move.{Move}
 use Rattle.rt_check.specs.Moves.{moves_in, commands_of, AreMovesOf}
@@ -174,7 +174,7 @@ module _ (c : Config) (traces : List (List Command)) where
 
 -- ---- ranges, and how many there are
 
--- a command stands among those of its thread
+-- a command is among those of its thread
 pub own_place : (ms : List Move) (k : ℕ) (d : Move) → k < length ms
     → (j : ℕ) × (j < length (commands_of (get_or ms k d).thread ms))
     × (get_or (commands_of (get_or ms k d).thread ms) j (New 0 0) ≡ (get_or ms k d).command)

@@ -13,9 +13,7 @@ use Rattle.never_heap.specs.Licensed.{NoFulls}
 use Rattle.never_heap.specs.LiveBlocks.{live_blocks}
 use Rattle.never_heap.specs.Runs.{IsRun}
 use Rattle.never_heap.specs.Steps.{step}
-use Rattle.never_heap.proofs.HistoryGrowth.{replay_more, part_append}
-use Rattle.never_heap.proofs.RunInduction.{walk_all}
-use Rattle.never_heap.proofs.ItemsOfRuns.{thread_low}
+use Rattle.never_heap.proofs.Lemmas.{part_append, replay_more, thread_low, walk_all}
 use Rattle.rt_check.specs.declared.moves.Move.{Move}
 use Rattle.rt_check.specs.rt_limit.Moments.{graph_behind, most_live, moves_of}
 use Rattle.rt_check.proofs.rt_limit.CountLaws.{behind_more, moment_most}

@@ -8,17 +8,14 @@ use Rattle.std.proofs.Math.Seq.{take-suc}
 use Rattle.block_store.specs.declared.Config.{Config}
 use Rattle.block_store.specs.declared.Width.{Width}
 use Rattle.block_store.specs.Configs.{IsInBounds}
-use Rattle.block_store.proofs.Registers.{end_few}
+use Rattle.block_store.proofs.Lemmas.{end_few}
 use Rattle.array_trees.proofs.Counts.{few_shared}
 use Rattle.never_heap.specs.declared.Command.{Command}
 use Rattle.never_heap.specs.Bounds.{IsCommandInBounds}
 use Rattle.never_heap.specs.Graphs.{Graph, WideGraph, with_graph, start_graph, count_of}
 use Rattle.never_heap.specs.LiveBlocks.{live_blocks}
 use Rattle.never_heap.specs.Steps.{step, blocks_of}
-use Rattle.never_heap.proofs.OpeningLiveBlocks.{opening_live}
-use Rattle.never_heap.proofs.StartGraph.{threads_of_start, count_of_start}
-use Rattle.never_heap.proofs.UnchangedBySteps.{step_past, step_counts}
-use Rattle.never_heap.proofs.StepChanges.{step_threads, step_counts_one}
+use Rattle.never_heap.proofs.Lemmas.{count_of_start, opening_live, step_counts, step_counts_one, step_past, step_threads, threads_of_start}
 use Rattle.rt_check.specs.declared.moves.Move.{Move}
 use Rattle.rt_check.specs.Moves.{commands_of}
 use Rattle.rt_check.specs.declared.rt_limit.counts.Counter.{Counter}
@@ -154,7 +151,7 @@ module _ (c : Config) (moves : List Move) (i : ℕ) (m : Move) (bounds : IsInBou
   one_further : take (i + 1) moves ≡ past ++ next ∷ []
   one_further = ap (λ (n : ℕ). take n moves) (add-one i) ∙ take-suc moves i m low
 
-  -- the graph behind the next command
+  -- the graph after the next command
   pub next_graph : (old new : WideGraph) → old ≡ wide past
       → new ≡ with_graph old (step old.graph next.thread next.command).0
       → new ≡ wide (take (i + 1) moves)

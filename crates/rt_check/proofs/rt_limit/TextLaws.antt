@@ -2,7 +2,7 @@
 use Rattle.std.proofs.Common.{ℕ, ◌+◌, ◌≡◌, ◌<◌, List, [], ◌∷◌, ◌++◌, length, take, get_or, decimal, ap, sym, ◌∙◌, refl, subst, append_assoc, append-nil, add-one}
 use Rattle.std.proofs.Math.Seq.{take-suc}
 use Rattle.block_store.specs.declared.Config.{Config}
-use Rattle.rt_check.specs.rt_limit.Texts.{IsRow, AreRows}
+use Rattle.rt_check.specs.rt_limit.NeedTexts.{IsRow, AreRows}
 
 -- the last of some rates, or where there is none the one before them
 abbrev pub last_of : ℕ → List ℕ → ℕ
@@ -60,7 +60,7 @@ four_parts none first second third whole a b c d one empty two three four =
     four ∙ ap (λ (t : List ℕ). t ++ d) (three ∙ ap (λ (t : List ℕ). t ++ c)
     (two ∙ ap (λ (t : List ℕ). t ++ b) (one ∙ ap (λ (t : List ℕ). t ++ a) empty)))
 
--- a word and a number, made from behind, in front of what was made before
+-- a word and a number, made from after, in front of what was made before
 pub figure : (front word : List ℕ) (n m : ℕ) (whole a b rest : List ℕ) → whole ≡ front ++ a
     → a ≡ word ++ b → b ≡ decimal n ++ rest → n ≡ m
     → whole ≡ ((front ++ word) ++ decimal m) ++ rest

@@ -16,7 +16,7 @@ use Rattle.rt_check.specs.declared.rt_limit.counts.Figures.{Figures}
 use Rattle.rt_check.specs.declared.rt_limit.top.LimitExit.{LimitExit}
 use Rattle.rt_check.specs.rt_limit.Figures.{AreFigures}
 use Rattle.rt_check.specs.rt_limit.Moments.{by_threads}
-use Rattle.rt_check.specs.rt_limit.Texts.{IsText}
+use Rattle.rt_check.specs.rt_limit.NeedTexts.{IsText}
 
 -- the order of a job's commands: the one that these lines tell, or where there is none one thread
 -- after the other

@@ -21,7 +21,7 @@ graph_behind g (m ∷ ms) = graph_behind (graph_after g m) ms
 abbrev pub blocks_made : Width → List Move → ℕ
 blocks_made w ms = sum_by (λ (m : Move). blocks_of w m.command) ms
 
--- the greatest number of live blocks at any moment of an order: before each command, and behind the
+-- the greatest number of live blocks at any moment of an order: before each command, and after the
 -- last
 abbrev pub most_live : Width → Graph → List Move → ℕ
 most_live w g [] = live_blocks w g

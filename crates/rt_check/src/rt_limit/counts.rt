@@ -29,7 +29,7 @@ pub struct Figures {
     pub enough: u64,
 }
 
-/// What is known behind the commands so far.
+/// What is known after the commands so far.
 #[derive(Clone, Copy, Debug, PartialEq, Eq)]
 pub(crate) struct Counter {
     figures: Figures,
@@ -53,7 +53,7 @@ impl Counter {
         })
     }
 
-    // Behind one more command, which made so many blocks. They are counted anew only where they may
+    // After one more command, which made so many blocks. They are counted anew only where they may
     // be more than the greatest count by more than its 64th part.
     fn went(&mut self, graph: &Graph, scan: &mut Scan, made: u32) -> Result<(), OutOfMemory>
         requires { HasRoom self.old made }

@@ -2,7 +2,7 @@
 
 ghost use Rattle.std.specs.Prelude.{◌≡◌, ◌≤◌, ◌<◌, ◌++◌, ℕ, List, length, codes, decimal, take, IfOk, OnOk};
 ghost use Rattle.block_store.specs.Configs.{IsInBounds};
-ghost use Rattle.rt_check.specs.rt_limit.Texts.{number_line, order_line, figures_text, heap_line, heap_text, IsRow, AreRows, IsText, rates};
+ghost use Rattle.rt_check.specs.rt_limit.NeedTexts.{number_line, order_line, figures_text, heap_line, heap_text, IsRow, AreRows, IsText, rates};
 
 use crate::rt_limit::blocks::least_heap;
 use crate::rt_limit::counts::Figures;

@@ -14,7 +14,7 @@ ghost use Rattle.rt_check.specs.Inputs.{check_limit};
 ghost use Rattle.rt_check.specs.Moves.{AreMovesOf};
 ghost use Rattle.rt_check.specs.declared.rt_limit.counts.Figures.{Figures};
 ghost use Rattle.rt_check.specs.rt_limit.Figures.{AreFigures};
-ghost use Rattle.rt_check.specs.rt_limit.Texts.{IsText};
+ghost use Rattle.rt_check.specs.rt_limit.NeedTexts.{IsText};
 
 use crate::rt_limit::counts::figures_of;
 use crate::rt_limit::orders::thread_by_thread;
@@ -35,7 +35,7 @@ pub struct LimitExit {
 }
 
 /// Tells which heap a job needs: how many blocks are live at most along an order of its commands,
-/// and the least numbers of blocks for some rates. The source gives a job's text and, behind its
+/// and the least numbers of blocks for some rates. The source gives a job's text and, after its
 /// line `end`, nothing or the lines of an order. Words are refused with the line `rt_limit: usage`.
 pub fn limit<S: Source, K: Sink>(
     alloc: Global,

@@ -15,7 +15,7 @@ use Rattle.rt_mail.specs.declared.mail_post.views.View.{View}
 use Rattle.rt_mail.specs.declared.mail_post.views.View.TheVariants.{Taking}
 use Rattle.rt_mail.specs.mail_post.Letters.{numbers_of, sent_by}
 use Rattle.rt_mail.specs.mail_post.Rule.{IsSplit, Tells, letters_in, gathered_in, senders_in}
-use Rattle.rt_mail.specs.mail_post.Rows.{Taken, rows_of, no_row, took}
+use Rattle.rt_mail.specs.mail_post.NumberRows.{Taken, rows_of, no_row, took}
 use Rattle.rt_mail.specs.mail_post.PostStates.{SenderState, is_among, AllOrNone, IsTaker, IsTakenState, all_sent, known_sent, whole_of, AreAll, OfPost, fresh_sender, fresh_senders}
 use Rattle.rt_mail.proofs.mail_post.Moves.{numbers_snoc, upd, upd_here, upd_else}
 

@@ -62,7 +62,7 @@ numbers_snoc t xs x =
           (numbers_of x.thread xs ++ x.number ∷ []) ne)
     ]
 
--- a letter that stands in a list is one of its thread's
+-- a letter that is in a list is one of its thread's
 is_there : (xs ys : List Letter) (x : Letter) → numbers_of x.thread (xs ++ x ∷ ys) ≡ [] → ⊥
 is_there xs ys x e =
     let p : numbers_of x.thread xs ++ numbers_of x.thread (x ∷ ys)
@@ -129,7 +129,7 @@ fits_taken reader seat sent taken taken' j ne Spent f = tt
 fits_taken reader seat sent taken taken' j ne (Sending t list) f = f
 fits_taken reader seat sent taken taken' j ne (Taking n letters gathered) f = absurd (ne f.0)
 
--- what stands at a place of a list with one more at its end
+-- what is at a place of a list with one more at its end
 at_end : (l : List View) (a b : View) (j : ℕ) → get_elem? (l ++ a ∷ []) j ≡ some b
     → (get_elem? l j ≡ some b) ⊎ ((j ≡ length l) × (a ≡ b))
 at_end [] a b zero e = inr (refl, some-injective a b e)

@@ -9,12 +9,12 @@ use Rattle.std.proofs.lemmas.List.{same_lists, length-map, get_or_default}
 use Rattle.block_store.specs.declared.Config.{Config}
 use Rattle.never_heap.specs.declared.Command.{Command}
 use Rattle.never_heap.specs.declared.Entry.{Entry}
-use Rattle.never_heap.proofs.PartLogs.{parts_count}
+use Rattle.never_heap.proofs.Lemmas.{parts_count}
 use Rattle.heap_system.specs.Systems.{IsFinished}
 use Rattle.heap_system.specs.Locals.{is_done}
 use Rattle.atom_board.specs.Mutators.{BoardState, MutatorState, AreInOrder, AllAreDone, AreLogsOf, log_of}
-use Rattle.atom_board.proofs.Crews.{get_or_map, map_map}
-use Rattle.atom_board.proofs.Orders.{nobody}
+use Rattle.atom_board.proofs.AllMutators.{get_or_map, map_map}
+use Rattle.atom_board.proofs.MutatorsInOrder.{nobody}
 use Rattle.rt_mail.specs.mail_post.Letters.{sent_by}
 use Rattle.rt_mail.specs.mail_post.PostStates.{SenderState, TakerState, OfPost, AreAll, whole_of, all_sent, fresh_taker}
 use Rattle.rt_mail.specs.said_numbers.Said.{numbers_said}
@@ -119,7 +119,7 @@ module _ (o : MailBoard) where
       → all_sent (length rs) (map whole_of (map sender_of rs)) ≡ map said_by (map mutator_of rs)
   all_is_said rs e = sent_from (λ t. sent_by t (map whole_of (map sender_of rs))) 0 rs e (λ i low. refl)
 
-  -- what is left when all was taken behind the senders' end
+  -- what is left when all was taken after the senders' end
   pub received : (rs : List MailThread) (ms : List MutatorState) (ss : List SenderState)
       (last : TakerState) (n : ℕ) → Each (HasSentAll o) 0 rs
       → length rs ≡ o.board.config.threads → ms ≡ map mutator_of rs → ss ≡ map sender_of rs

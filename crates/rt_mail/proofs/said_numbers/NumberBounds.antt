@@ -260,7 +260,7 @@ numbers_small c g (Did e ∷ h) t s b legal =
       | inr ne ↦ rw (ne_eqb e.thread t ne) rest
     ]
 
--- each entry stands in its thread's part, whose commands are in their ranges
+-- each entry is in its thread's part, whose commands are in their ranges
 abbrev PartsInBounds : Config → List HistoryItem → Type 0
 PartsInBounds c h = (t : ℕ) → AllByRecursion (IsEntryInBounds c) (part t h)
 

@@ -1,4 +1,4 @@
--- The rule of the queue: for each sender, what was taken and what stands in the queue, in this
+-- The rule of the queue: for each sender, what was taken and what is in the queue, in this
 -- order, is what the sender sent.
 use Rattle.std.specs.Prelude.{ℕ, ◌+◌, ◌≤◌, ◌≡◌, List, [], ◌∷◌, ◌++◌}
 use Rattle.std.specs.List.{AllByRecursion}
@@ -16,7 +16,8 @@ abbrev pub IsWhole : (ℕ → maybe.Option ℕ) → (ℕ → List ℕ) → Whole
 IsWhole seat sent w = (seat w.thread ≡ none) × (w.sent ≡ sent w.thread)
 
 -- What a pass knows is so. Each thread that still sends has one pass, its seat, which knows what it
--- sent. The one taker knows what was taken; no thread from its count on has a seat or sent anything.
+-- sent. The one taker knows what was taken; no thread from its count on has a seat or sent
+-- anything.
 abbrev pub Fits : ℕ → (ℕ → maybe.Option ℕ) → (ℕ → List ℕ) → List Letter → ℕ → View → Type 0
 Fits reader seat sent taken pass Spent = Unit {0}
 Fits reader seat sent taken pass (Sending t list) = (seat t ≡ some pass) × (list ≡ sent t)
@@ -80,7 +81,7 @@ gathering (Taking n letters gathered) (Sending t list) = Taking n letters
     (gathered ++ whole t list ∷ [])
 gathering v w = v
 
--- what a sender that was gathered sent is what was taken of it, and then what stands in the queue
+-- what a sender that was gathered sent is what was taken of it, and then what is in the queue
 abbrev pub IsSplit : List Letter → List Letter → Whole → Type 0
 IsSplit letters items w = w.sent ≡ numbers_of w.thread letters ++ numbers_of w.thread items
 

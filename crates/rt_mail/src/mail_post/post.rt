@@ -6,7 +6,7 @@ ghost use Rattle.rt_mail.specs.declared.mail_post.views.Letter.{Letter};
 ghost use Rattle.rt_mail.specs.declared.mail_post.views.View.TheVariants.{Sending, Taking};
 ghost use Rattle.rt_mail.specs.mail_post.Rule.{IsTaking, sent_in, letters_in, gathered_in, senders_in, Tells};
 ghost use Rattle.rt_mail.specs.mail_post.PostStates.{fresh_sender, fresh_senders, fresh_taker, all_sent, whole_of, AreAll, OfPost, Begins};
-ghost use Rattle.rt_mail.specs.mail_post.Rows.{rows_of, took};
+ghost use Rattle.rt_mail.specs.mail_post.NumberRows.{rows_of, took};
 
 use crate::mail_post::rows::{Row, make_room, put_in};
 use crate::mail_post::rule::{End, Line, Roles, Sends, Takes};
@@ -74,7 +74,7 @@ impl Model for Taker {
     ghost use Rattle.std.specs.Prelude.{◌≡◌, [], length};
     ghost use Rattle.crossbeam_queue.specs.Passes.{view as known};
     ghost use Rattle.rt_mail.specs.mail_post.Rule.{gathered_in};
-    ghost use Rattle.rt_mail.specs.mail_post.Rows.{rows_of};
+    ghost use Rattle.rt_mail.specs.mail_post.NumberRows.{rows_of};
     ghost use Rattle.rt_mail.specs.mail_post.PostStates.{TakerState, IsTaker, known_sent};
 
     ghost Value = { TakerState };
@@ -99,7 +99,7 @@ impl Model for Taken {
     ghost use Rattle.std.specs.Prelude.{length};
     ghost use Rattle.crossbeam_queue.specs.Passes.{view as known};
     ghost use Rattle.rt_mail.specs.mail_post.Rule.{gathered_in};
-    ghost use Rattle.rt_mail.specs.mail_post.Rows.{rows_of};
+    ghost use Rattle.rt_mail.specs.mail_post.NumberRows.{rows_of};
     ghost use Rattle.rt_mail.specs.mail_post.PostStates.{TakenState, IsTakenState, all_sent};
 
     ghost Value = { TakenState };

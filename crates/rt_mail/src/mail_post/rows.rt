@@ -1,7 +1,7 @@
 //! The numbers that were taken, by sender.
 
 ghost use Rattle.std.specs.Prelude.{◌≡◌, ◌<◌, ◌+◌, ◌∷◌, ◌++◌, [], ℕ, length, slice_index_or, OnOk};
-ghost use Rattle.rt_mail.specs.mail_post.Rows.{no_row, rows_of, took};
+ghost use Rattle.rt_mail.specs.mail_post.NumberRows.{no_row, rows_of, took};
 
 use block_store::OutOfMemory;
 use std::marker::Model;
@@ -15,7 +15,7 @@ pub(crate) struct Row {
 impl Model for Row {
     ghost use Rattle.std.specs.Prelude.{◌-◌};
     ghost use Rattle.std.specs.Vec.{vec_capacity, vec_len};
-    ghost use Rattle.rt_mail.specs.mail_post.Rows.{Taken};
+    ghost use Rattle.rt_mail.specs.mail_post.NumberRows.{Taken};
 
     ghost Value = { Taken };
 

@@ -4,7 +4,7 @@ use crate::mail_post::views::{Letter, View};
 use crossbeam_queue::protocol::{Join, Lesson, Outcome, Protocol, Split};
 use crossbeam_queue::{Pass, RuledArrayQueue};
 
-/// What was taken of a sender and what stands in the queue is what it sent.
+/// What was taken of a sender and what is in the queue is what it sent.
 pub(crate) struct InOrder;
 
 impl Protocol<Letter, View> for InOrder {

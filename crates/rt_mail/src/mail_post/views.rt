@@ -9,7 +9,7 @@ pub struct Letter {
     pub number: u64,
 }
 
-/// What a sender sent in all. It stands in the proofs alone.
+/// What a sender sent in all. It is in the proofs alone.
 pub struct Whole {
     pub thread: u32,
     pub sent: LinkedList<u64>,

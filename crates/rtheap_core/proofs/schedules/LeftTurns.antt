@@ -8,8 +8,7 @@ use Rattle.block_store.specs.declared.Config.{Config}
 use Rattle.heap_system.specs.Locals.{LocalState, is_done}
 use Rattle.heap_system.specs.Machines.{State, local_at, no_local, has_event, turned}
 use Rattle.heap_system.specs.Systems.{Ordered, Whole, after_event, ordered_after, AllDone, IsReached}
-use Rattle.heap_system.proofs.OrderKept.{left_after}
-use Rattle.heap_system.proofs.TurnFacts.{reached_kept}
+use Rattle.heap_system.proofs.Lemmas.{left_after, reached_kept}
 use Rattle.rtheap_core.specs.declared.schedules.Schedule.{Schedule}
 use Rattle.rtheap_core.specs.declared.schedules.Schedule.TheVariants as schedules
 use Rattle.rtheap_core.specs.declared.schedules.replaying.Next.{Next}

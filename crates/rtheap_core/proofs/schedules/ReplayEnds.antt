@@ -1,5 +1,5 @@
--- The turns of a serial schedule are a serial list, which goes on until all threads are done; and where
--- there is one thread it has all turns.
+-- The turns of a serial schedule are a serial list, which goes on until all threads are done; and
+-- where there is one thread it has all turns.
 use Rattle.std.proofs.Common.{◌≡◌, ℕ, zero, suc, ◌+◌, ◌%◌, ◌≤◌, ◌⊎◌, inl, inr, Bool, not, cond, ltb, lt-ltb, le-ltb, Some, None, List, length, length-set, refl, sym, ap, ◌∙◌, subst, arith}
 use Rattle.std.proofs.lemmas.Bool.{cases_Bool}
 use Rattle.std.proofs.lemmas.Nat.{mod_below}
@@ -13,8 +13,7 @@ use Rattle.heap_system.specs.Locals.{LocalState, is_done, local_got}
 use Rattle.heap_system.specs.Machines.{State, Run, local_at, no_local, word_read, has_event, event_done, turned, next, opened, after_turns, IsJob, IsOpening}
 use Rattle.heap_system.specs.Serials.{IsSerial, job_bound}
 use Rattle.heap_system.specs.Systems.{AllDone, IsLeastUndone}
-use Rattle.heap_system.proofs.alone.Serials.{least_of, serial_ends, single_few}
-use Rattle.heap_system.proofs.SystemStart.{length_starts}
+use Rattle.heap_system.proofs.Lemmas.{least_of, length_starts, serial_ends, single_few}
 use Rattle.rtheap_core.specs.declared.schedules.Schedule.{Schedule}
 use Rattle.rtheap_core.specs.declared.schedules.Schedule.TheVariants.{Robin, Serial, Key}
 use Rattle.rtheap_core.specs.schedules.Schedules.{least_undone, thread_of, turns_on, turns_from, turns_of, word_of}
@@ -41,7 +40,7 @@ turned_many c t s = elim (cases_Bool (has_event c t s)) [
   | inr none ↦ ap (λ b. length (cond b (event_done c t s) s).locals) none
 ]
 
--- a list of turns that is serial, and is as long as it may be unless all threads are done behind it
+-- a list of turns that is serial, and is as long as it may be unless all threads are done after it
 abbrev Goes : Config → Run → ℕ → List ℕ → Type 0
 Goes c r n ts = IsSerial c r.state ts × ((length ts ≡ n) ⊎ AllDone c (after_turns c r ts).state)
 

@@ -4,10 +4,10 @@ use Rattle.std.proofs.Common.{◌≡◌, ℕ, zero, suc, ◌+◌, Option, Some, 
 use Rattle.block_store.specs.declared.Config.{Config}
 use Rattle.never_heap.specs.declared.Command.{Command}
 use Rattle.never_heap.specs.Histories.{HistoryItem}
-use Rattle.never_heap.specs.Orders.{item_of}
+use Rattle.never_heap.specs.HistoryOfOrder.{item_of}
 use Rattle.heap_system.specs.Machines.{State, Run, has_event, next_effect, turned, next, opened, after_turns}
 use Rattle.heap_system.specs.Systems.{Ordered, Whole, items_by_effect, items_added, after_event, ordered_after}
-use Rattle.heap_system.proofs.OrderKept.{items_grow}
+use Rattle.heap_system.proofs.Lemmas.{items_grow}
 use Rattle.rtheap_core.specs.declared.schedules.Schedule.TheVariants.{Serial}
 use Rattle.rtheap_core.specs.schedules.Schedules.{least_undone, turns_on, turns_from, turns_of}
 use Rattle.rtheap_core.specs.schedules.Replays.{IsReplayed, ShowsRun, system_turned, system_after}

@@ -7,7 +7,7 @@ use Rattle.never_heap.specs.declared.Command.{Command}
 use Rattle.heap_system.specs.Locals.{LocalState, is_done}
 use Rattle.heap_system.specs.Machines.{State, Run, turned, opened, after_turns, IsRunOf}
 use Rattle.heap_system.specs.Rooms.{without_room}
-use Rattle.heap_system.proofs.Rooms.{state_without_room, done_room, turned_room, openings_agree}
+use Rattle.heap_system.proofs.Lemmas.{done_room, openings_agree, state_without_room, turned_room}
 use Rattle.rtheap_core.specs.declared.schedules.Schedule.{Schedule}
 use Rattle.rtheap_core.specs.declared.schedules.Schedule.TheVariants.{Robin, Serial, Key}
 use Rattle.rtheap_core.specs.schedules.Schedules.{least_undone, thread_of, turns_on, turns_from, turns_of}

@@ -2,7 +2,7 @@
 use Rattle.std.specs.Prelude.{ℕ, ◌≡◌, IfSome, List, [], ◌∷◌, map}
 use Rattle.block_store.specs.declared.Config.{Config}
 use Rattle.never_heap.specs.declared.Command.{Command}
-use Rattle.never_heap.specs.Orders.{item_of}
+use Rattle.never_heap.specs.HistoryOfOrder.{item_of}
 use Rattle.heap_system.specs.Machines.{State, turned, Run, opened, after_turns, IsOpening}
 use Rattle.heap_system.specs.Systems.{Whole, ordered_after}
 use Rattle.rtheap_core.specs.declared.schedules.Schedule.{Schedule}

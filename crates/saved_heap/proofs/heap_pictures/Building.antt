@@ -158,7 +158,7 @@ loaded rs sh n os d (Ref a) has within = loaded_name rs sh n os d a has within
 abbrev pub object_with : ObjectKind → List Value → Object
 object_with k vs = record { kind = k; fields = vs }
 
--- the name of the object behind these
+-- the name of the object after these
 abbrev pub name_behind : List Object → Name
 name_behind front = record { thread = 0; serial = suc (suc (length front)) }
 

@@ -16,11 +16,7 @@ use Rattle.never_heap.specs.Bounds.{IsCommandInRange}
 use Rattle.never_heap.specs.Histories.{HistoryItem, replay}
 use Rattle.never_heap.specs.Graphs.{Graph, Object, ObjectKind, Record, Array, field_of, has_name, next_name, nil_object, object_of, register_of, same_name, start_graph, with_field, with_object, with_register}
 use Rattle.never_heap.specs.Steps.{at_field, at_object, made, same_value, step, swapped}
-use Rattle.never_heap.proofs.FieldStores.{registers_with_field, registers_with_object, threads_with_field}
-use Rattle.never_heap.proofs.NameLists.{one_name, same_itself, ref_name}
-use Rattle.never_heap.proofs.StartGraph.{registers_of_start, threads_of_start}
-use Rattle.never_heap.proofs.UnchangedBySteps.{replay_keeps, step_registers}
-use Rattle.never_heap.proofs.StepChanges.{step_threads, with_object_threads}
+use Rattle.never_heap.proofs.Lemmas.{one_name, ref_name, registers_of_start, registers_with_field, registers_with_object, replay_keeps, same_itself, step_registers, step_threads, threads_of_start, threads_with_field, with_object_threads}
 use Rattle.saved_heap.specs.heap_pictures.Following.{HasOneThread, StayOneUpToNames, names_only, renamed_reply, replies_to}
 use Rattle.saved_heap.specs.heap_pictures.Plans.{graph_after}
 use Rattle.saved_heap.specs.heap_pictures.UpToNames.{AreOneUpToNames, renamed}

@@ -3,7 +3,7 @@ use Rattle.std.proofs.Common.{◌≡◌, ℕ, zero, suc, Bool, true, List, [], �
 use Rattle.std.specs.List.{list_all}
 use Rattle.std.proofs.lemmas.Bool.{and_parts}
 
--- the element behind a front
+-- the element after a front
 pub at_front : {A : Type 0} (front : List A) (x : A) (back : List A) (d : A) → get_or (front ++ x ∷ back) (length front) d ≡ x
 at_front [] x back d = refl
 at_front (y ∷ front) x back d = at_front front x back d

@@ -12,9 +12,7 @@ use Rattle.block_store.specs.Registers.{registers_end}
 use Rattle.never_heap.specs.Graphs.{Graph, Mutator, field_of, no_mutator, object_of, register_of, same_name}
 use Rattle.never_heap.specs.LiveBlocks.{blocks_of_kind, live_blocks, live_of, object_blocks}
 use Rattle.never_heap.specs.Reach.{is_among, names, reachable}
-use Rattle.never_heap.proofs.LiveBlocksBound.{within}
-use Rattle.never_heap.proofs.NameLists.{any_of_names, one_name, same_itself, ref_name}
-use Rattle.never_heap.proofs.ReachableNames.{reachable_closed, reachable_within}
+use Rattle.never_heap.proofs.Lemmas.{any_of_names, one_name, reachable_closed, reachable_within, ref_name, same_itself, within}
 use Rattle.saved_heap.specs.heap_pictures.Following.{HasOneThread}
 use Rattle.saved_heap.specs.heap_pictures.UpToNames.{AreOneUpToNames, renamed}
 
@@ -43,7 +41,7 @@ live_names T g [] = []
 live_names T g (a ∷ list) = kept_if (reachable g a) (T a) (live_names T g list)
 
 module _ (T : Name → Name) (g : Graph) where
-  -- each stands there
+  -- each is there
   kept_head : (b : Bool) (a c : Name) (list : List Name) → b ≡ true → same_name a c ≡ true
       → is_among (kept_if b c list) a ≡ true
   kept_head true a c list y same = or_left (same_name a c) (is_among list a) same

@@ -7,11 +7,7 @@ use Rattle.block_store.specs.declared.TheConstants.{REGISTERS}
 use Rattle.block_store.specs.declared.Value.{Value}
 use Rattle.block_store.specs.declared.Value.TheVariants.{Nil, Int, Ref}
 use Rattle.never_heap.specs.Graphs.{Graph, Object, ObjectKind, field_of, has_name, next_name, nil_object, nils, object_of, register_of, same_name, set_field, with_field, with_object, with_register}
-use Rattle.never_heap.proofs.FieldStores.{has_name_with_field, has_name_with_object, object_with_field, object_with_object, registers_with_field, registers_with_object}
-use Rattle.never_heap.proofs.GraphMoves.{get_or_set, has_name_with_register, object_with_register, register_with_register}
-use Rattle.never_heap.proofs.NameLists.{one_name, same_itself}
-use Rattle.never_heap.proofs.UnchangedBySteps.{next_is_new}
-use Rattle.never_heap.proofs.ReachSteps.{nil_of}
+use Rattle.never_heap.proofs.Lemmas.{get_or_set, has_name_with_field, has_name_with_object, has_name_with_register, next_is_new, nil_of, object_with_field, object_with_object, object_with_register, one_name, register_with_register, registers_with_field, registers_with_object, same_itself}
 use Rattle.saved_heap.specs.heap_pictures.Following.{HasOneThread}
 use Rattle.saved_heap.specs.heap_pictures.UpToNames.{AreOneUpToNames, renamed, renamed_object}
 

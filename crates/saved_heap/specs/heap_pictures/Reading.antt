@@ -87,7 +87,7 @@ body_at bytes = do
   objects ← items_at n.0 n.1
   sound_only (record { registers = registers.0; objects = objects.0 }) objects.1
 
--- the bytes behind the first eight, which are those of a saved heap
+-- the bytes after the first eight, which are those of a saved heap
 abbrev pub behind_magic : List ℕ → Result (List ℕ) SaveFault
 behind_magic bytes =
     if bytes_eq (take 8 bytes) magic then Ok (drop 8 bytes) else Err NotASave

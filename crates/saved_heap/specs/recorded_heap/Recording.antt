@@ -48,7 +48,7 @@ IsOpened held faults sink r =
     ((r.torn ≡ false) × HasRecorded held (held sink) r.heap [] [] r)
     ⊎ ((r.torn ≡ true) × Rose (faults sink) (faults r.sink))
 
--- whatever was on record, the command and its reply are on record behind it
+-- whatever was on record, the command and its reply are on record after it
 abbrev pub RecordsOne : {S : Type 0} → (S → Option (List ℕ)) → RecorderOf S → Command → Reply
     → RecorderOf S → Type 0
 RecordsOne held old k reply new =

@@ -4,7 +4,7 @@ ghost use Rattle.std.specs.Prelude.{◌≡◌, ◌≤◌, ◌+◌, ◌⊎◌, tr
 ghost use Rattle.saved_heap.specs.heap_pictures.Pictures.{content_of, is_sound, view};
 ghost use Rattle.control_heap.specs.Controls.{Control};
 ghost use Rattle.control_heap.specs.Images.{image_of};
-ghost use Rattle.saved_heap.specs.Orders.{IsInOrder};
+ghost use Rattle.saved_heap.specs.SearchOrder.{IsInOrder};
 ghost use Rattle.saved_heap.specs.Renewals.{IsPictureOf};
 ghost use Rattle.saved_heap.specs.Walks.{State, Walks, is_whole, state_of};
 

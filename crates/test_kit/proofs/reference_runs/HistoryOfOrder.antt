@@ -6,8 +6,8 @@ use Rattle.never_heap.specs.declared.Entry.{Entry}
 use Rattle.never_heap.specs.declared.Item.{Item}
 use Rattle.never_heap.specs.declared.Item.TheVariants as items
 use Rattle.never_heap.specs.Histories.{HistoryItem, Started, Did, part}
-use Rattle.never_heap.specs.Orders.{item_of, IsHistoryOf}
-use Rattle.never_heap.proofs.OneHistory.{own_part, other_part}
+use Rattle.never_heap.specs.HistoryOfOrder.{item_of, IsHistoryOf}
+use Rattle.never_heap.proofs.Lemmas.{other_part, own_part}
 use Rattle.test_kit.specs.declared.reference_runs.Happened.{Happened}
 use Rattle.test_kit.specs.declared.reference_runs.Happened.TheVariants as happened
 use Rattle.test_kit.specs.reference_runs.Happenings.{item, history}

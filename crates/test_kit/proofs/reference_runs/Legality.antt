@@ -5,7 +5,7 @@ use Rattle.never_heap.specs.Graphs.{Graph, WideGraph, with_graph, start_graph}
 use Rattle.never_heap.specs.Histories.{HistoryItem, Started, Did, after, IsAnswered, LegalFrom, Legal}
 use Rattle.test_kit.specs.declared.reference_runs.Happened.{Happened}
 use Rattle.test_kit.specs.reference_runs.Happenings.{item, history, BeginsWithStart}
-use Rattle.test_kit.proofs.reference_runs.Rests.{goes_on, ends, begins}
+use Rattle.test_kit.proofs.reference_runs.ListRemainder.{goes_on, ends, begins}
 
 begun : (c : Config) (h : List HistoryItem) → BeginsWithStart h → LegalFrom (start_graph c) h
     → Legal c h

@@ -7,10 +7,7 @@ use Rattle.never_heap.specs.declared.Entry.{Entry}
 use Rattle.never_heap.specs.Graphs.{Graph, WideGraph, with_graph, start_graph, count_of}
 use Rattle.never_heap.specs.Histories.{HistoryItem, Started, Did, is_full, after, replay_from, replay}
 use Rattle.never_heap.specs.Steps.{step}
-use Rattle.never_heap.proofs.HistoryGrowth.{replay_more}
-use Rattle.never_heap.proofs.CommandBounds.{in_range}
-use Rattle.never_heap.proofs.StartGraph.{threads_of_start, count_of_start}
-use Rattle.never_heap.proofs.StepChanges.{step_threads, step_counts_one}
+use Rattle.never_heap.proofs.Lemmas.{count_of_start, in_range, replay_more, step_counts_one, step_threads, threads_of_start}
 use Rattle.test_kit.specs.declared.reference_runs.Happened.{Happened}
 use Rattle.test_kit.specs.reference_runs.Happenings.{item, history}
 use Rattle.test_kit.specs.reference_runs.HistoryBounds.{IsHistoryInBounds, IsItemInBounds, CanFollow}

@@ -24,7 +24,7 @@ pub const SHARING: Config = Config {
 };
 
 // Each thread tries to make of each number the next one: of nil 1, of 1 2, and so on. The number
-// before and the next one stand in registers 1 and 2 in turn, and register 3 is nil. At last it
+// before and the next one are in registers 1 and 2 in turn, and register 3 is nil. At last it
 // loads what the element has become.
 struct Counts {}
 

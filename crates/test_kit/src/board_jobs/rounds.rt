@@ -3,7 +3,7 @@
 
 ghost use Rattle.std.specs.Prelude.{◌≡◌, ◌≤◌, ◌<◌, ℕ, IsTrue, false, [], length, slice_index_or, map, IfOk, IfSome};
 ghost use Rattle.never_heap.specs.Histories.{is_full, is_refusal};
-ghost use Rattle.never_heap.specs.RightWork.{units_told};
+ghost use Rattle.never_heap.specs.RightWork.{requested_units};
 ghost use Rattle.never_heap.specs.Steps.{length_made};
 ghost use Rattle.heap_system.specs.Machines.{IsJob};
 ghost use Rattle.test_kit.specs.board_jobs.Served.{IsServed, AreServed};
@@ -36,7 +36,7 @@ pub const TWO: Config = Config {
 // array of three blocks, and the array in the shared array. Both stay until the array of the next
 // round takes its place there.
 fn command(thread: u32, number: u32) -> Command
-    ensures { (length_made result ≤ 65535) × (units_told result ≡ 0) }
+    ensures { (length_made result ≤ 65535) × (requested_units result ≡ 0) }
 {
     let own = u64::from(thread);
     match number % COMMANDS {
@@ -134,7 +134,7 @@ fn is_right(thread: u32, number: u32, entry: &Entry) -> bool
 {
     let command = command(thread, number);
     entry.command == command
-        && entry.work == RATE * u64::from(command.blocks(Width::Four)) + command.told()
+        && entry.work == RATE * u64::from(command.blocks(Width::Four)) + command.requested_units()
         && is_answer(thread, number, entry.reply)
 }
 

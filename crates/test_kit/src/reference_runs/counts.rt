@@ -2,7 +2,7 @@
 
 ghost use Rattle.std.specs.Prelude.{◌↔◌, ◌<◌, ◌≤◌, ◌≡◌, ◌+◌, ◌^◌, IsTrue, length, take, drop};
 ghost use Rattle.never_heap.specs.Cycles as cycles;
-ghost use Rattle.never_heap.specs.Given.{given};
+ghost use Rattle.never_heap.specs.GivenBlocks.{given};
 ghost use Rattle.never_heap.specs.Histories.{starts_in, work_in};
 ghost use Rattle.never_heap.specs.RightWork.{RightWork, IsRightWork};
 ghost use Rattle.never_heap.specs.Bounds.{IsCommandInBounds};
@@ -43,7 +43,7 @@ pub fn work(h: &[Happened]) -> u64
     sum
 }
 
-// How many items stand before the start of a cycle; all of them, where it did not start.
+// How many items come before the start of a cycle; all of them, where it did not start.
 fn start_at(h: &[Happened], cycle: u64) -> usize
     ensures within { result ≤ length h.now }
     ensures before { history (take result h.now) ≡ cycles.before_start cycle (history h.now) }
@@ -134,7 +134,8 @@ fn is_right_item(c: &Config, rate: u64, happened: Happened) -> bool
     match happened {
         Happened::Started => true,
         Happened::Did(entry) => {
-            entry.work == rate * u64::from(entry.command.blocks(c.width)) + entry.command.told()
+            entry.work
+                == rate * u64::from(entry.command.blocks(c.width)) + entry.command.requested_units()
         }
     }
 }

@@ -2,7 +2,7 @@
 
 ghost use Rattle.std.specs.Prelude.{◌≡◌, ◌↔◌, List, [], ℕ, IsTrue, IfOk, MatchOption, length};
 ghost use Rattle.never_heap.specs.Histories.{HistoryItem};
-ghost use Rattle.never_heap.specs.Orders.{IsHistoryOf};
+ghost use Rattle.never_heap.specs.HistoryOfOrder.{IsHistoryOf};
 ghost use Rattle.test_kit.specs.reference_runs.Happenings.{history};
 ghost use Rattle.test_kit.specs.reference_runs.Making.{left_of, IsNext, NoNext};
 

@@ -19,7 +19,7 @@ use never_heap::{Command, Entry, Graph, Reply};
 use std::alloc::Global;
 
 /// Whether the first item is a start, and each entry is answered as the heap that never frees
-/// answers it behind the items before it, or with a full where it makes an object. The history is
+/// answers it after the items before it, or with a full where it makes an object. The history is
 /// in its ranges.
 ///
 /// # Errors

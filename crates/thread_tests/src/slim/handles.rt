@@ -118,6 +118,40 @@ impl<'t> Model for Seat<'t> {
     ghost invariant = { λ s. IsOf s.table.now s.who };
 }
 
+/// What a worker is asked.
+#[derive(Clone, Copy)]
+pub enum Request {
+    Make { handle: u8, slot: u32, number: u64 },
+    See { handle: u8 },
+    Release { handle: u8 },
+    Take { slot: u32 },
+    Evict { slot: u32 },
+    /// To make a note and learn it.
+    Note,
+}
+
+#[derive(Clone, Copy, Debug, PartialEq, Eq)]
+pub enum Answer {
+    Matched(bool),
+    Found(Shown),
+    Refused(Refused),
+    Noted,
+}
+
+fn matched(told: Result<bool, Refused>) -> Answer {
+    match told {
+        Ok(yes) => Answer::Matched(yes),
+        Err(refused) => Answer::Refused(refused),
+    }
+}
+
+fn found(told: Result<Shown, Refused>) -> Answer {
+    match told {
+        Ok(shown) => Answer::Found(shown),
+        Err(refused) => Answer::Refused(refused),
+    }
+}
+
 impl<'t> Seat<'t> {
     pub fn of(table: &'t LiveHandles, who: HandleWorker) -> Seat<'t>
         requires { IsOf table.now who }
@@ -129,35 +163,44 @@ impl<'t> Seat<'t> {
         self.who.thread()
     }
 
-    pub fn make<R: Wait>(
-        &mut self,
-        rt: &R,
-        handle: u8,
-        slot: u32,
-        number: u64,
-    ) -> Result<bool, Refused> {
-        self.table.make(rt, &mut self.who, handle, slot, number)
+    pub fn ask<R: Wait>(&mut self, rt: &R, request: Request) -> Answer {
+        match request {
+            Request::Make {
+                handle,
+                slot,
+                number,
+            } => self.make(rt, handle, slot, number),
+            Request::See { handle } => self.see(rt, handle),
+            Request::Release { handle } => self.release(rt, handle),
+            Request::Take { slot } => self.take(rt, slot),
+            Request::Evict { slot } => self.evict(rt, slot),
+            Request::Note => self.learn_own_note(),
+        }
     }
 
-    pub fn see<R: Wait>(&mut self, rt: &R, handle: u8) -> Result<bool, Refused> {
-        self.table.see(rt, &mut self.who, handle)
+    fn make<R: Wait>(&mut self, rt: &R, handle: u8, slot: u32, number: u64) -> Answer {
+        matched(self.table.make(rt, &mut self.who, handle, slot, number))
     }
 
-    pub fn release<R: Wait>(&mut self, rt: &R, handle: u8) -> Result<bool, Refused> {
-        self.table.release(rt, &mut self.who, handle)
+    fn see<R: Wait>(&mut self, rt: &R, handle: u8) -> Answer {
+        matched(self.table.see(rt, &mut self.who, handle))
     }
 
-    pub fn take<R: Wait>(&mut self, rt: &R, slot: u32) -> Result<Shown, Refused> {
-        self.table.take(rt, &mut self.who, slot)
+    fn release<R: Wait>(&mut self, rt: &R, handle: u8) -> Answer {
+        matched(self.table.release(rt, &mut self.who, handle))
     }
 
-    pub fn evict<R: Wait>(&mut self, rt: &R, slot: u32) -> Result<Shown, Refused> {
-        self.table.evict(rt, &mut self.who, slot)
+    fn take<R: Wait>(&mut self, rt: &R, slot: u32) -> Answer {
+        found(self.table.take(rt, &mut self.who, slot))
     }
 
-    // Makes a note and learns it.
-    pub fn learn_own_note(&mut self) {
+    fn evict<R: Wait>(&mut self, rt: &R, slot: u32) -> Answer {
+        found(self.table.evict(rt, &mut self.who, slot))
+    }
+
+    fn learn_own_note(&mut self) -> Answer {
         let note = self.table.note(&mut self.who);
         self.table.learn(&mut self.who, note);
+        Answer::Noted
     }
 }

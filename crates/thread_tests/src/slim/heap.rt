@@ -3,7 +3,7 @@
 ghost use Rattle.std.specs.Prelude.{◌≡◌, ◌<◌, ◌∷◌, length, IfOk};
 ghost use Rattle.shared_heap.specs.Workers.{AreEachOnce, AreInOrder, IsSame, IsWorkerOf};
 
-use block_store::{Config, OutOfMemory, Value, Width};
+use block_store::{Config, Name, OutOfMemory, Value, Width};
 use never_heap::{Command, Reply};
 use shared_heap::{Fault, OpenFault, Pending, Refused, SharedHeap, Worker};
 use std::alloc::Global;
@@ -57,7 +57,7 @@ pub fn objects_left(who: &Worker) -> u64 {
 }
 
 // Gives the second worker a note of the first.
-#[tactic(auto, using(shared_heap::proofs::Crews::same_here, shared_heap::proofs::Crews::same_on))]
+#[tactic(auto, using(shared_heap::proofs::AllWorkers::same_here, shared_heap::proofs::AllWorkers::same_on))]
 pub fn pass_note(heap: &SharedHeap, from: &mut Worker, to: &mut Worker)
     requires from { from.old.heap ≡ heap.now.id }
     requires to { to.old.heap ≡ heap.now.id }
@@ -69,7 +69,7 @@ pub fn pass_note(heap: &SharedHeap, from: &mut Worker, to: &mut Worker)
 }
 
 // Draws a stamp for the first worker, and then for the second.
-#[tactic(auto, using(shared_heap::proofs::Stamps::drawn_same))]
+#[tactic(auto, using(shared_heap::proofs::DrawnStamps::drawn_same))]
 pub fn stamps(heap: &SharedHeap, first: &mut Worker, second: &mut Worker) -> (u64, u64)
     requires first { first.old.heap ≡ heap.now.id }
     requires second { second.old.heap ≡ heap.now.id }
@@ -79,7 +79,7 @@ pub fn stamps(heap: &SharedHeap, first: &mut Worker, second: &mut Worker) -> (u6
 }
 
 // The first of the workers, and the others.
-#[tactic(auto, using(shared_heap::proofs::Crews::taken_first))]
+#[tactic(auto, using(shared_heap::proofs::AllWorkers::taken_first))]
 fn first_and_rest(who: Vec<Worker>) -> (Worker, Vec<Worker>)
     requires { 0 < length who.items }
     ensures { result.0 ∷ result.1.items ≡ who.items }
@@ -220,56 +220,121 @@ impl<'h> Seat<'h> {
         }
     }
 
-    pub fn record<R: Wait>(&mut self, rt: &R, d: u8, fields: u32) -> bool {
-        self.heap.record(rt, &mut self.who, d, fields).is_ok()
+    /// Makes a command by its own call.
+    pub fn call<R: Wait>(&mut self, rt: &R, command: Command) -> Told {
+        match command {
+            Command::New { d, fields } => self.record(rt, d, fields),
+            Command::Arr { d, elements } => self.array(rt, d, elements),
+            Command::Get { d, s, i } => self.get(rt, d, s, i),
+            Command::Put { s, i, v } => self.put(rt, s, i, v),
+            Command::Swap { s, i, v } => self.swap(rt, s, i, v),
+            Command::Cas { s, i, a, v } => self.cas(rt, s, i, a, v),
+            Command::Set { d, value } => self.set(rt, d, value),
+            Command::Nil { d } => self.nil(rt, d),
+            Command::Mov { d, s } => self.mov(rt, d, s),
+            Command::Len { s } => self.len(rt, s),
+            Command::Same { a, b } => self.same(rt, a, b),
+            Command::Say { s } => self.say(rt, s),
+            Command::Idle { units } => self.idle(rt, units),
+        }
     }
 
-    pub fn array<R: Wait>(&mut self, rt: &R, d: u8, elements: u32) -> bool {
-        self.heap.array(rt, &mut self.who, d, elements).is_ok()
+    fn record<R: Wait>(&mut self, rt: &R, d: u8, fields: u32) -> Told {
+        made(self.heap.record(rt, &mut self.who, d, fields))
     }
 
-    pub fn get<R: Wait>(&mut self, rt: &R, d: u8, s: u8, i: u64) -> Result<Value, Fault> {
-        self.heap.get(rt, &mut self.who, d, s, i)
+    fn array<R: Wait>(&mut self, rt: &R, d: u8, elements: u32) -> Told {
+        made(self.heap.array(rt, &mut self.who, d, elements))
     }
 
-    pub fn put<R: Wait>(&mut self, rt: &R, s: u8, i: u64, v: u8) -> Result<(), Fault> {
-        self.heap.put(rt, &mut self.who, s, i, v)
+    fn get<R: Wait>(&mut self, rt: &R, d: u8, s: u8, i: u64) -> Told {
+        shown(self.heap.get(rt, &mut self.who, d, s, i))
     }
 
-    pub fn swap<R: Wait>(&mut self, rt: &R, s: u8, i: u64, v: u8) -> Result<Value, Fault> {
-        self.heap.swap(rt, &mut self.who, s, i, v)
+    fn put<R: Wait>(&mut self, rt: &R, s: u8, i: u64, v: u8) -> Told {
+        done(self.heap.put(rt, &mut self.who, s, i, v))
     }
 
-    pub fn cas<R: Wait>(&mut self, rt: &R, s: u8, i: u64, a: u8, v: u8) -> Result<bool, Fault> {
-        self.heap.cas(rt, &mut self.who, s, i, a, v)
+    fn swap<R: Wait>(&mut self, rt: &R, s: u8, i: u64, v: u8) -> Told {
+        shown(self.heap.swap(rt, &mut self.who, s, i, v))
     }
 
-    pub fn set<R: Wait>(&mut self, rt: &R, d: u8, value: u64) -> Result<(), Fault> {
-        self.heap.set(rt, &mut self.who, d, value)
+    fn cas<R: Wait>(&mut self, rt: &R, s: u8, i: u64, a: u8, v: u8) -> Told {
+        compared(self.heap.cas(rt, &mut self.who, s, i, a, v))
     }
 
-    pub fn nil<R: Wait>(&mut self, rt: &R, d: u8) -> Result<(), Fault> {
-        self.heap.nil(rt, &mut self.who, d)
+    fn set<R: Wait>(&mut self, rt: &R, d: u8, value: u64) -> Told {
+        done(self.heap.set(rt, &mut self.who, d, value))
     }
 
-    pub fn mov<R: Wait>(&mut self, rt: &R, d: u8, s: u8) -> Result<(), Fault> {
-        self.heap.mov(rt, &mut self.who, d, s)
+    fn nil<R: Wait>(&mut self, rt: &R, d: u8) -> Told {
+        done(self.heap.nil(rt, &mut self.who, d))
     }
 
-    pub fn len<R: Wait>(&mut self, rt: &R, s: u8) -> Result<u64, Fault> {
-        self.heap.len(rt, &mut self.who, s)
+    fn mov<R: Wait>(&mut self, rt: &R, d: u8, s: u8) -> Told {
+        done(self.heap.mov(rt, &mut self.who, d, s))
     }
 
-    pub fn same<R: Wait>(&mut self, rt: &R, a: u8, b: u8) -> Result<bool, Fault> {
-        self.heap.same(rt, &mut self.who, a, b)
+    fn len<R: Wait>(&mut self, rt: &R, s: u8) -> Told {
+        counted(self.heap.len(rt, &mut self.who, s))
     }
 
-    pub fn say<R: Wait>(&mut self, rt: &R, s: u8) -> Result<Value, Fault> {
-        self.heap.say(rt, &mut self.who, s)
+    fn same<R: Wait>(&mut self, rt: &R, a: u8, b: u8) -> Told {
+        compared(self.heap.same(rt, &mut self.who, a, b))
     }
 
-    pub fn idle<R: Wait>(&mut self, rt: &R, units: u64) -> Result<(), Fault> {
-        self.heap.idle(rt, &mut self.who, units)
+    fn say<R: Wait>(&mut self, rt: &R, s: u8) -> Told {
+        shown(self.heap.say(rt, &mut self.who, s))
+    }
+
+    fn idle<R: Wait>(&mut self, rt: &R, units: u64) -> Told {
+        done(self.heap.idle(rt, &mut self.who, units))
+    }
+}
+
+/// What the call of a command returned.
+#[derive(Clone, Copy, Debug, PartialEq, Eq)]
+pub enum Told {
+    Made,
+    Done,
+    Shown(Value),
+    Counted(u64),
+    Compared(bool),
+    Fault(Fault),
+}
+
+fn made(told: Result<Name, Fault>) -> Told {
+    match told {
+        Ok(_) => Told::Made,
+        Err(fault) => Told::Fault(fault),
+    }
+}
+
+fn done(told: Result<(), Fault>) -> Told {
+    match told {
+        Ok(()) => Told::Done,
+        Err(fault) => Told::Fault(fault),
+    }
+}
+
+fn shown(told: Result<Value, Fault>) -> Told {
+    match told {
+        Ok(value) => Told::Shown(value),
+        Err(fault) => Told::Fault(fault),
+    }
+}
+
+fn counted(told: Result<u64, Fault>) -> Told {
+    match told {
+        Ok(count) => Told::Counted(count),
+        Err(fault) => Told::Fault(fault),
+    }
+}
+
+fn compared(told: Result<bool, Fault>) -> Told {
+    match told {
+        Ok(yes) => Told::Compared(yes),
+        Err(fault) => Told::Fault(fault),
     }
 }
 

@@ -1,15 +1,16 @@
-//! Calls of `rt_mail`, `rt_mail` and `rt_mail`.
+//! Calls of `rt_mail`.
 
-ghost use Rattle.std.specs.Prelude.{◌≡◌, ◌≤◌, length, IfOk};
+ghost use Rattle.std.specs.Prelude.{◌≡◌, ◌≤◌, length, IfOk, IsSome, OnOk};
 ghost use Rattle.rate_plan.specs.Rates.{IsAdmitted};
 ghost use Rattle.trace_text.specs.Jobs.{IsJobInBounds};
 
 use atom_board::Closed;
+use block_store::OutOfMemory;
 use heap_system::Pace;
 use never_heap::Logs;
 use rate_plan::plan;
-use rt_mail::{Letter, Post, Taken, Taker, deliver, deliver_through, mail};
-use std::alloc::Global;
+use rt_mail::{Letter, Post, Sender, Taken, Taker, deliver, deliver_through, mail};
+use std::alloc::{AllocError, Global};
 use std::marker::Model;
 use std::process::Abort;
 use std::sync::Wait;
@@ -17,22 +18,141 @@ use std::test::Fail;
 use std::thread::Threads;
 use trace_text::{Job, MemSink, MemSource, read_trace};
 
-// The next letter is this one: a thread and a number.
-pub fn comes<R: Wait + Abort>(
+// A post with room for so many letters, its only sender, and its taker.
+pub fn post_of_one(alloc: Global, room: usize) -> Result<(Post, Sender, Taker), OutOfMemory>
+    requires { 1 ≤ room }
+    ensures sender { IfOk result (λ r. (r.1.post ≡ r.0.id) × (r.1.thread ≡ 0)) }
+    ensures taker { IfOk result (λ r. (r.2.post ≡ r.0.id) × (length r.2.taken ≡ 1)) }
+{
+    let (post, mut senders, taker) = Post::new(alloc, 1, room)?;
+    let sender = senders.remove(0);
+    Ok((post, sender, taker))
+}
+
+// A post with room for two letters, its two senders, and its taker.
+pub fn post_of_two(alloc: Global) -> Result<(Post, Sender, Sender, Taker), OutOfMemory>
+    ensures first { IfOk result (λ r. (r.1.post ≡ r.0.id) × (r.1.thread ≡ 0)) }
+    ensures second { IfOk result (λ r. (r.2.post ≡ r.0.id) × (r.2.thread ≡ 1)) }
+    ensures taker { IfOk result (λ r. (r.3.post ≡ r.0.id) × (length r.3.taken ≡ 2)) }
+{
+    let (post, mut senders, taker) = Post::new(alloc, 2, 2)?;
+    let second = senders.remove(1);
+    let first = senders.remove(0);
+    Ok((post, first, second, taker))
+}
+
+// What a sender does, or which letter, of a thread and a number, comes next.
+#[derive(Clone, Copy)]
+pub enum Row {
+    Sends(u64),
+    Comes(Option<(u32, u64)>),
+}
+
+// Does these rows with one of the senders.
+pub fn works<R: Wait + Abort>(
     rt: &R,
     post: &Post,
-    who: &mut Taker,
-    wanted: Option<(u32, u64)>,
-) -> Result<(), Fail>
-    requires { who.old.post ≡ post.now.id }
-    ensures post { who.new.post ≡ who.old.post }
-    ensures sent { who.new.sent ≡ who.old.sent }
-    ensures size { length who.new.taken ≡ length who.old.taken }
+    sender: &mut Sender,
+    taker: &mut Taker,
+    rows: &[Row],
+)
+    requires sender { sender.old.post ≡ post.now.id }
+    requires taker { taker.old.post ≡ post.now.id }
+    ensures sender { (sender.new.post ≡ sender.old.post) × (sender.new.thread ≡ sender.old.thread) }
+    ensures taker { (taker.new.post ≡ taker.old.post)
+        × (length taker.new.taken ≡ length taker.old.taken) }
 {
-    let letter = post.take(rt, who)?;
-    let wanted = wanted.map(|(thread, number)| Letter { thread, number });
-    assert_eq!(rt; letter, wanted);
+    for row in rows {
+        match *row {
+            Row::Sends(number) => sends(rt, post, sender, number),
+            Row::Comes(letter) => comes(rt, post, taker, letter),
+        }
+    }
+}
+
+fn sends<R: Wait>(rt: &R, post: &Post, sender: &mut Sender, number: u64)
+    requires { sender.old.post ≡ post.now.id }
+    ensures { (sender.new.post ≡ sender.old.post) × (sender.new.thread ≡ sender.old.thread) }
+{
+    post.send(rt, sender, number);
+}
+
+// The next letter is this one.
+fn comes<R: Wait + Abort>(rt: &R, post: &Post, taker: &mut Taker, wanted: Option<(u32, u64)>)
+    requires { taker.old.post ≡ post.now.id }
+    ensures { (taker.new.post ≡ taker.old.post) × (taker.new.sent ≡ taker.old.sent)
+        × (length taker.new.taken ≡ length taker.old.taken) }
+{
+    match post.take(rt, taker) {
+        Ok(letter) => is_letter(rt, letter, wanted),
+        Err(_) => panic!(rt; "no memory"),
+    }
+}
+
+fn is_letter(rt: &impl Abort, letter: Option<Letter>, wanted: Option<(u32, u64)>) {
+    let found = match letter {
+        Some(Letter { thread, number }) => Some((thread, number)),
+        None => None,
+    };
+    assert_eq!(rt; found, wanted);
+}
+
+// Gathers the only sender.
+#[tactic(auto, using(crate::proofs::Pairs::one_is_all))]
+pub fn gathers_one<R: Wait>(
+    rt: &R,
+    alloc: Global,
+    post: &Post,
+    sender: Sender,
+    taker: &mut Taker,
+) -> Result<(), AllocError>
+    requires sender { (sender.post ≡ post.now.id) × (sender.thread ≡ 0) }
+    requires taker { (taker.old.post ≡ post.now.id) × (length taker.old.taken ≡ 1) }
+    ensures taker { OnOk result ((taker.new.post ≡ taker.old.post) × IsSome taker.new.sent
+        × (length taker.new.taken ≡ length taker.old.taken)) }
+{
+    let senders = vec![in alloc; sender]?;
+    post.gather(rt, taker, senders);
     Ok(())
+}
+
+// Gathers the two senders, the second one first.
+#[tactic(auto, using(crate::proofs::Pairs::two_are_all))]
+pub fn gathers_two<R: Wait>(
+    rt: &R,
+    alloc: Global,
+    post: &Post,
+    first: Sender,
+    second: Sender,
+    taker: &mut Taker,
+) -> Result<(), AllocError>
+    requires first { (first.post ≡ post.now.id) × (first.thread ≡ 0) }
+    requires second { (second.post ≡ post.now.id) × (second.thread ≡ 1) }
+    requires taker { (taker.old.post ≡ post.now.id) × (length taker.old.taken ≡ 2) }
+    ensures taker { OnOk result ((taker.new.post ≡ taker.old.post) × IsSome taker.new.sent
+        × (length taker.new.taken ≡ length taker.old.taken)) }
+{
+    let senders = vec![in alloc; second, first]?;
+    post.gather(rt, taker, senders);
+    Ok(())
+}
+
+// Closes a post after these letters.
+pub fn closes<R: Wait + Abort>(
+    rt: &R,
+    post: Post,
+    taker: Taker,
+    letters: &[Option<(u32, u64)>],
+) -> Taken
+    requires post { taker.post ≡ post.id }
+    requires gathered { IsSome taker.sent }
+    ensures { length result.taken ≡ length taker.taken }
+{
+    let mut taker = taker;
+    for letter in letters {
+        comes(rt, &post, &mut taker, *letter);
+    }
+    post.close(taker)
 }
 
 // The job of one or two threads that a text spells.

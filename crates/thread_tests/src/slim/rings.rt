@@ -71,6 +71,39 @@ impl<'t> Model for Seat<'t> {
     ghost invariant = { λ s. IsOf s.rings.now s.who };
 }
 
+/// What a worker is asked.
+#[derive(Clone, Copy)]
+pub enum Request {
+    Keep { number: u64 },
+    Recall { thread: u32, place: u32 },
+    /// How many numbers it has kept.
+    Count,
+    /// To make a note and learn it.
+    Note,
+}
+
+#[derive(Clone, Copy, Debug, PartialEq, Eq)]
+pub enum Answer {
+    Done,
+    Found(Option<u64>),
+    Refused(Refused),
+    Kept(u64),
+}
+
+fn done(told: Result<(), Refused>) -> Answer {
+    match told {
+        Ok(()) => Answer::Done,
+        Err(refused) => Answer::Refused(refused),
+    }
+}
+
+fn found(told: Result<Option<u64>, Refused>) -> Answer {
+    match told {
+        Ok(number) => Answer::Found(number),
+        Err(refused) => Answer::Refused(refused),
+    }
+}
+
 impl<'t> Seat<'t> {
     pub fn of(rings: &'t LiveRings, who: RingWorker) -> Seat<'t>
         requires { IsOf rings.now who }
@@ -82,26 +115,26 @@ impl<'t> Seat<'t> {
         self.who.thread()
     }
 
-    pub fn kept(&self) -> u64 {
-        self.who.kept()
+    pub fn ask<R: Wait>(&mut self, rt: &R, request: Request) -> Answer {
+        match request {
+            Request::Keep { number } => self.keep(rt, number),
+            Request::Recall { thread, place } => self.recall(rt, thread, place),
+            Request::Count => Answer::Kept(self.who.kept()),
+            Request::Note => self.learn_own_note(),
+        }
     }
 
-    pub fn keep<R: Wait>(&mut self, rt: &R, number: u64) -> Result<(), Refused> {
-        self.rings.keep(rt, &mut self.who, number)
+    fn keep<R: Wait>(&mut self, rt: &R, number: u64) -> Answer {
+        done(self.rings.keep(rt, &mut self.who, number))
     }
 
-    pub fn recall<R: Wait>(
-        &mut self,
-        rt: &R,
-        thread: u32,
-        place: u32,
-    ) -> Result<Option<u64>, Refused> {
-        self.rings.recall(rt, &mut self.who, thread, place)
+    fn recall<R: Wait>(&mut self, rt: &R, thread: u32, place: u32) -> Answer {
+        found(self.rings.recall(rt, &mut self.who, thread, place))
     }
 
-    // Makes a note and learns it.
-    pub fn learn_own_note(&mut self) {
+    fn learn_own_note(&mut self) -> Answer {
         let note = self.rings.note(&mut self.who);
         self.rings.learn(&mut self.who, note);
+        Answer::Done
     }
 }

@@ -86,6 +86,32 @@ impl<'t> Model for Seat<'t> {
     ghost invariant = { λ s. IsOf s.table.now s.who };
 }
 
+/// What a worker is asked.
+#[derive(Clone, Copy)]
+pub enum Request {
+    Read { place: u32 },
+    Write { place: u32, tag: (u64, u64) },
+    Clear { place: u32 },
+    /// To make a note and learn it.
+    Note,
+    Stamp,
+}
+
+#[derive(Clone, Copy, Debug, PartialEq, Eq)]
+pub enum Answer {
+    Was(Tag),
+    Refused(Refused),
+    Noted,
+    Drawn(u64),
+}
+
+fn was(told: Result<Tag, Refused>) -> Answer {
+    match told {
+        Ok(tag) => Answer::Was(tag),
+        Err(refused) => Answer::Refused(refused),
+    }
+}
+
 impl<'t> Seat<'t> {
     pub fn of(table: &'t LiveTags, who: TagWorker) -> Seat<'t>
         requires { IsOf table.now who }
@@ -97,26 +123,36 @@ impl<'t> Seat<'t> {
         self.who.thread()
     }
 
-    pub fn write<R: Wait>(&mut self, rt: &R, place: u32, tag: (u64, u64)) -> Result<Tag, Refused> {
-        self.table.write(rt, &mut self.who, place, tag.0, tag.1)
+    pub fn ask<R: Wait>(&mut self, rt: &R, request: Request) -> Answer {
+        match request {
+            Request::Read { place } => self.read(rt, place),
+            Request::Write { place, tag } => self.write(rt, place, tag),
+            Request::Clear { place } => self.clear(rt, place),
+            Request::Note => self.learn_own_note(),
+            Request::Stamp => self.stamp(),
+        }
     }
 
-    pub fn clear<R: Wait>(&mut self, rt: &R, place: u32) -> Result<Tag, Refused> {
-        self.table.clear(rt, &mut self.who, place)
+    fn write<R: Wait>(&mut self, rt: &R, place: u32, tag: (u64, u64)) -> Answer {
+        was(self.table.write(rt, &mut self.who, place, tag.0, tag.1))
     }
 
-    pub fn read<R: Wait>(&mut self, rt: &R, place: u32) -> Result<Tag, Refused> {
-        self.table.read(rt, &mut self.who, place)
+    fn clear<R: Wait>(&mut self, rt: &R, place: u32) -> Answer {
+        was(self.table.clear(rt, &mut self.who, place))
     }
 
-    // Makes a note and learns it.
-    pub fn learn_own_note(&mut self) {
+    fn read<R: Wait>(&mut self, rt: &R, place: u32) -> Answer {
+        was(self.table.read(rt, &mut self.who, place))
+    }
+
+    fn learn_own_note(&mut self) -> Answer {
         let note = self.table.note(&mut self.who);
         self.table.learn(&mut self.who, note);
+        Answer::Noted
     }
 
-    #[tactic(auto, using(crate::proofs::Crews::of_drawn))]
-    pub fn stamp(&mut self) -> u64 {
-        self.table.stamp(&mut self.who)
+    #[tactic(auto, using(crate::proofs::WorkersOfHeap::of_drawn))]
+    fn stamp(&mut self) -> Answer {
+        Answer::Drawn(self.table.stamp(&mut self.who))
     }
 }

@@ -2,7 +2,7 @@
 
 ghost use Rattle.std.specs.Prelude.{ℕ, ◌≡◌, ◌<◌, ◌≤◌, ◌*◌, ◌^◌};
 ghost use Rattle.timed_runs.specs.time_histograms.Counts.{between, IsOneOf};
-ghost use Rattle.timed_runs.specs.time_histograms.Rows.{marks_of};
+ghost use Rattle.timed_runs.specs.time_histograms.BarTexts.{marks_of};
 ghost use Rattle.timed_runs.specs.declared.time_histograms.bars.TheConstants.{CLASSES};
 
 use crate::time_histograms::counting::count_below;
@@ -56,7 +56,7 @@ pub fn power(class: u32) -> u64
 
 impl fmt::Display for Bar {
     ghost use Rattle.std.specs.Prelude.{Some};
-    ghost use Rattle.timed_runs.specs.time_histograms.Rows.{row_of};
+    ghost use Rattle.timed_runs.specs.time_histograms.BarTexts.{row_of};
 
     ghost output = { λ bar. Some (row_of bar) };
 

@@ -28,7 +28,7 @@ read_none (Some bytes) line e = record {
   none = λ k l. absurd (omega arith);
 }
 
--- the byte that leads what is left stands at i
+-- the byte that leads what is left is at i
 record IsAt (bytes : List ℕ) (i : ℕ) (b : ℕ) (left : Option (List ℕ)) : Type 0 where
   inside : i < length bytes
   is : get_or bytes i 0 ≡ b
@@ -91,7 +91,7 @@ read_short : (bytes : List ℕ) (i : ℕ) (line : List ℕ) (left : Option (List
 read_short bytes i line left r few =
     omega (arith, few, ap length r.read, length-take-le i bytes r.within)
 
--- the line feed behind it
+-- the line feed after it
 pub read_line : (all left new : Option (List ℕ)) (i b : ℕ) (line : List ℕ) → i < 40
     → IfSome all (λ bytes. IsReadTo bytes i line left) → LeadsBy b left new → b ≡ 10
     → IfSome all (λ bytes. IsFound bytes new line (Ok Line))
@@ -111,7 +111,7 @@ all_there [] i l e = omega arith
 all_there (x ∷ bytes) zero l e = absurd cc
 all_there (x ∷ bytes) (suc i) l e = let rest = all_there bytes i (omega arith) e in omega (arith, rest)
 
--- the end of the source behind it
+-- the end of the source after it
 pub read_end : (all left new : Option (List ℕ)) (i : ℕ) (line : List ℕ) (next : Next) → i < 40
     → IfSome all (λ bytes. IsReadTo bytes i line left) → EndsAt left new
     → (i ≡ 0 → next ≡ End) → (0 < i → next ≡ Line)

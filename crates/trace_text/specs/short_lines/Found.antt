@@ -1,4 +1,4 @@
--- What is found where the next line of a source should stand. Where the source tells nothing,
+-- What is found where the next line of a source should be. Where the source tells nothing,
 -- nothing is said.
 use Rattle.std.specs.Prelude.{ℕ, ◌≡◌, ◌≢◌, ◌≤◌, ◌<◌, ◌++◌, length, List, [], ◌∷◌, Option, Some, Result, Ok, Err, IfSome, drop}
 use Rattle.std.specs.List.{AllByRecursion}
@@ -16,7 +16,7 @@ LeadsBy b old new = IfSome old (λ bytes. (rest : List ℕ) × (bytes ≡ b ∷ 
 abbrev pub EndsAt : Option (List ℕ) → Option (List ℕ) → Type 0
 EndsAt old new = IfSome old (λ bytes. (bytes ≡ []) × (new ≡ Some []))
 
--- the first line is this one, of fewer than 40 bytes, and what is left are the lines behind it
+-- the first line is this one, of fewer than 40 bytes, and what is left are the lines after it
 pub record LeadsByLine (bytes : List ℕ) (left : Option (List ℕ)) (line : List ℕ) : Type 0 where
   pub short : length line < 40
   pub rest : List ℕ

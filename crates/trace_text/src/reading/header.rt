@@ -47,7 +47,7 @@ fn labels_of(line: &[u8]) -> Option<(Width, &[u8], &[u8], &[u8], &[u8], &[u8])>
     Some((width, threads, blocks, live, object, shared))
 }
 
-/// The width that the version names with which the tokens begin, and the tokens behind it.
+/// The width that the version names with which the tokens begin, and the tokens after it.
 #[tactic(auto, unfolding(crate::specs::Headers::version_at))]
 fn version_of(tokens: Option<&[u8]>) -> Option<(Width, Option<&[u8]>)>
     ensures { Gives (λ x. (x.0, tokens_left (option_copied x.1))) result
@@ -68,7 +68,7 @@ fn width_of(version: &[u8]) -> Option<Width>
     }
 }
 
-/// The token behind a label that the tokens begin with, and the tokens behind it.
+/// The token after a label that the tokens begin with, and the tokens after it.
 #[tactic(auto, unfolding(crate::specs::Headers::labelled_at))]
 pub fn labelled<'a>(tokens: Option<&'a [u8]>, label: &[u8]) -> Option<(&'a [u8], Option<&'a [u8]>)>
     ensures { Gives (λ x. (x.0.now, tokens_left (option_copied x.1))) result
@@ -78,7 +78,7 @@ pub fn labelled<'a>(tokens: Option<&'a [u8]>, label: &[u8]) -> Option<(&'a [u8],
     Some(first_token(others?))
 }
 
-/// The tokens behind a word that the tokens begin with.
+/// The tokens after a word that the tokens begin with.
 #[tactic(auto, unfolding(crate::specs::Headers::behind_at))]
 pub fn behind<'a>(tokens: Option<&'a [u8]>, word: &[u8]) -> Option<Option<&'a [u8]>>
     ensures { Gives (λ x. tokens_left (option_copied x)) result

@@ -1,4 +1,4 @@
-//! The lines behind the header.
+//! The lines after the header.
 
 ghost use Rattle.std.specs.Prelude.{◌≡◌, ◌<◌, ◌∷◌, [], IfOk};
 ghost use Rattle.std.specs.Option.{option_copied};
@@ -17,7 +17,7 @@ use crate::trace_faults::Why;
 use block_store::{Config, REGISTERS};
 use never_heap::Command;
 
-/// What a line behind the header says.
+/// What a line after the header says.
 #[derive(Clone, Copy, Debug, PartialEq, Eq)]
 pub enum Line {
     /// The commands of the thread with this number follow.

@@ -7,7 +7,7 @@ ghost use Rattle.trace_text.specs.Reading.{Gives, parted, tokenized, tokens_left
 
 use memchr::memchr;
 
-/// The first line of an input, and what stands behind it. An empty input has no line.
+/// The first line of an input, and what comes after it. An empty input has no line.
 pub fn first_line(input: &[u8]) -> Option<(&[u8], &[u8])>
     ensures bytes { Gives (λ x. (x.0.now, lines_of x.1.now)) result (parted (lines_of input.now)) }
     ensures lines { Gives (λ x. (tokens_of x.0.now, tokenized x.1.now)) result
@@ -24,7 +24,7 @@ pub fn first_line(input: &[u8]) -> Option<(&[u8], &[u8])>
     }
 }
 
-/// Where a byte stands first.
+/// Where a byte is first.
 fn index_of(bytes: &[u8], sought: u8) -> Option<usize>
     ensures { result ≡ position (λ b. b == sought) bytes.now }
 {

@@ -53,7 +53,7 @@ pub fn job_of(alloc: Global, input: &[u8]) -> Result<Job, TraceFault>
     Ok(Job { config, traces })
 }
 
-/// What the header and the line of the first thread say, and what stands behind them.
+/// What the header and the line of the first thread say, and what comes after them.
 fn opening_of(input: &[u8]) -> Result<(Config, Rest<'_>), TraceFault>
     requires { length input.now ≤ INPUT_LIMIT }
     ensures begun { MatchResult result
@@ -88,8 +88,8 @@ fn opening_of(input: &[u8]) -> Result<(Config, Rest<'_>), TraceFault>
     }
 }
 
-/// The commands up to the line behind them, when this many threads had their line, and what stands
-/// behind that line.
+/// The commands up to the line after them, when this many threads had their line, and what is
+/// after that line.
 fn trace_of<'a>(
     alloc: Global,
     config: Config,

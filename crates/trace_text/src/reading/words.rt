@@ -1,11 +1,11 @@
-//! The words that a line behind the header begins with.
+//! The words that a line after the header begins with.
 
 ghost use Rattle.std.specs.Prelude.{◌≡◌};
 ghost use Rattle.trace_text.specs.Words.{word_at, word_in, has_word, is_command};
 
 use block_store::Width;
 
-/// The first token of a line behind the header.
+/// The first token of a line after the header.
 #[derive(Clone, Copy, Debug, PartialEq, Eq)]
 pub enum Word {
     Thread,

@@ -3,7 +3,7 @@ use Rattle.std.specs.Vec.Iter.{into_iter_items}
 use Rattle.atom_board.specs.Boards.{turns_in}
 use Rattle.atom_board.specs.Mutators.{MutatorState}
 use Rattle.atom_board.proofs.Steps.{joins}
-use Rattle.atom_board.proofs.Crews.{at_middle, first_seat, first_local}
+use Rattle.atom_board.proofs.AllMutators.{at_middle, first_seat, first_local}
 use Rattle.atom_board.proofs.board.gathered.Goals as goal
 
 pub join_seat-requires : goal.join_seat-requires

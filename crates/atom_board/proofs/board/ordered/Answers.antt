@@ -1,6 +1,6 @@
 use Rattle.std.proofs.Common.{◌<◌, arith, length, ap, subst, sym, List}
 use Rattle.atom_board.specs.Mutators.{MutatorState}
-use Rattle.atom_board.proofs.Orders.{is_at, sorted_none, sorted_more}
+use Rattle.atom_board.proofs.MutatorsInOrder.{is_at, sorted_none, sorted_more}
 use Rattle.atom_board.proofs.board.ordered.Goals as goal
 
 pub loop-t-init : goal.loop-t-init

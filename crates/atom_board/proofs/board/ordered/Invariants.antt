@@ -1,5 +1,5 @@
 use Rattle.std.proofs.Common.{◌≤◌}
-use Rattle.atom_board.proofs.Orders.{IsSorted}
+use Rattle.atom_board.proofs.MutatorsInOrder.{IsSorted}
 use Rattle.atom_board.proofs.board.ordered.Given as goal
 
 abbrev pub invariant-loop-t : goal.invariant-loop-t

@@ -4,7 +4,7 @@ use Rattle.atom_board.proofs.driver.drives.Given.{Over}
 use Rattle.atom_board.proofs.driver.drives.Goals as goal
 use Rattle.atom_board.proofs.driver.drives.Goals.{After-events}
 
--- behind the events of a turn of the loop
+-- after the events of a turn of the loop
 driven : (g : Over) (c : After-events g)
     → HasDriven g.C.Memory.acts c.args.shared.now c.args.memory.now c.args.local.now
     c.events.new.memory c.events.new.local

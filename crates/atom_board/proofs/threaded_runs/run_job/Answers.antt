@@ -1,8 +1,8 @@
 use Rattle.std.proofs.Common.{◌≡◌, sym, subst}
 use Rattle.heap_system.specs.Machines.{IsJob}
-use Rattle.heap_system.proofs.TextLives.{job_of_text}
+use Rattle.heap_system.proofs.Lemmas.{job_of_text}
 use Rattle.trace_text.specs.Jobs.{Job}
-use Rattle.atom_board.proofs.Orders.{in_order_each}
+use Rattle.atom_board.proofs.MutatorsInOrder.{in_order_each}
 use Rattle.atom_board.specs.threaded_runs.EndedRuns.{HasTurns, job_of}
 use Rattle.atom_board.proofs.threaded_runs.Shown.{run_shows}
 use Rattle.atom_board.proofs.threaded_runs.run_job.Given.{Over}

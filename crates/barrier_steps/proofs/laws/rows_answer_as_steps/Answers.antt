@@ -1,4 +1,4 @@
-use Rattle.barrier_steps.proofs.Dues.{promised, kept, given}
+use Rattle.barrier_steps.proofs.RepliesDue.{promised, kept, given}
 use Rattle.barrier_steps.proofs.laws.rows_answer_as_steps.Goals as goal
 
 pub returns : goal.returns

@@ -1,6 +1,6 @@
-use Rattle.heap_invariant.specs.graph_relation.Shown.{named}
+use Rattle.heap_invariant.specs.graph_relation.GraphOfWords.{named}
 use Rattle.barrier_steps.proofs.RowReads.{row_reads, row_shown, row_named}
-use Rattle.barrier_steps.proofs.Dues.{due_shows, after, row_decides, row_due}
+use Rattle.barrier_steps.proofs.RepliesDue.{due_shows, after, row_decides, row_due}
 use Rattle.barrier_steps.proofs.laws.rows_read_the_graph.Goals as goal
 
 pub returns : goal.returns

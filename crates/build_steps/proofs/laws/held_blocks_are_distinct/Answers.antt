@@ -1,5 +1,5 @@
 use Rattle.std.proofs.Common.{arith}
-use Rattle.build_steps.proofs.Once.{keeps_once, one_place, holds_left, left_free}
+use Rattle.build_steps.proofs.DistinctHeldBlocks.{keeps_once, one_place, holds_left, left_free}
 use Rattle.build_steps.proofs.laws.held_blocks_are_distinct.Goals as goal
 
 pub returns : goal.returns

@@ -1,4 +1,4 @@
-use Rattle.build_steps.proofs.Together.{keeps_phase, phase_stays}
+use Rattle.build_steps.proofs.AllRules.{keeps_phase, phase_stays}
 use Rattle.build_steps.proofs.laws.rows_keep_the_heap.Goals as goal
 
 pub returns : goal.returns

@@ -1,5 +1,5 @@
 use Rattle.block_store.specs.Places.{extent}
-use Rattle.heap_machine.proofs.Held.{held_after}
+use Rattle.heap_machine.proofs.Lemmas.{held_after}
 use Rattle.build_steps.specs.Rows.{build_want}
 use Rattle.build_steps.proofs.BuildOfState.{stands, pictured_stands}
 use Rattle.build_steps.proofs.WantedPlaces.{stores_held}

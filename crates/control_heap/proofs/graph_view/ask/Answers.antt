@@ -5,7 +5,7 @@ use Rattle.never_heap.specs.Bounds.{IsCommandInBounds}
 use Rattle.heap_system.specs.Lives.{objects_of}
 use Rattle.control_heap.specs.declared.control.Refused.{Refused}
 use Rattle.control_heap.specs.Controls.{Control, HasLeft, HasAnswered, asked}
-use Rattle.control_heap.specs.graph_view.Asked.{HasDone}
+use Rattle.control_heap.specs.graph_view.RunsOfCommands.{HasDone}
 use Rattle.control_heap.proofs.graph_view.GraphAnswers.{follows_ok, goes_ok, never_ok}
 use Rattle.control_heap.proofs.graph_view.ask.Goals as goal
 

@@ -1,6 +1,6 @@
 use Rattle.std.proofs.Common.{◌∙◌, ◌<◌, drop, length, arith}
 use Rattle.std.proofs.lemmas.List.{drop_all}
-use Rattle.control_heap.specs.graph_view.Shown.{HasMetNoFull, Shows}
+use Rattle.control_heap.specs.graph_view.ShownGraph.{HasMetNoFull, Shows}
 use Rattle.control_heap.proofs.graph_view.Leading.{done_on, leads_on, led, refused_on, replied, replied_on}
 use Rattle.control_heap.proofs.graph_view.ask_all.Goals as goal
 

@@ -6,8 +6,8 @@ use Rattle.never_heap.specs.declared.Reply.TheVariants.{Stored}
 use Rattle.control_heap.specs.Controls.{Control}
 use Rattle.control_heap.specs.declared.control.Refused.{Refused}
 use Rattle.control_heap.specs.WayBack.{AllDone}
-use Rattle.control_heap.specs.graph_view.Asked.{HasDoneAll, RefusesOne, last_told}
-use Rattle.control_heap.specs.graph_view.Shown.{HasMetNoFull, Leads, Shows}
+use Rattle.control_heap.specs.graph_view.RunsOfCommands.{HasDoneAll, RefusesOne, last_told}
+use Rattle.control_heap.specs.graph_view.ShownGraph.{HasMetNoFull, Leads, Shows}
 use Rattle.control_heap.proofs.graph_view.ask_all.Given as goal
 
 abbrev pub invariant-loop-command : goal.invariant-loop-command

@@ -1,4 +1,4 @@
-use Rattle.heap_system.proofs.alone.Near.{stated}
+use Rattle.heap_system.proofs.Lemmas.{stated}
 use Rattle.control_heap.proofs.laws.commands_take_what_is_told.Goals as goal
 
 pub returns-clause-stated : goal.returns-clause-stated

@@ -1,10 +1,6 @@
 use Rattle.std.proofs.Common.{◌∙◌}
 use Rattle.heap_system.specs.Machines.{no_local}
-use Rattle.heap_system.proofs.RunBounds.{licensed, never_full}
-use Rattle.heap_system.proofs.LawsOf.{laws_of}
-use Rattle.heap_system.proofs.TurnFacts.{right_work}
-use Rattle.heap_system.proofs.TalliesOf.{tallies_of}
-use Rattle.heap_system.proofs.SystemStart.{one_log}
+use Rattle.heap_system.proofs.Lemmas.{laws_of, licensed, never_full, one_log, right_work, tallies_of}
 use Rattle.control_heap.proofs.HeapAsRun.{kept_of}
 use Rattle.control_heap.proofs.laws.histories_are_right.Goals as goal
 

@@ -1,4 +1,4 @@
-use Rattle.never_heap.proofs.NoFullRuns.{none_full}
+use Rattle.never_heap.proofs.Lemmas.{none_full}
 use Rattle.heap_invariant.proofs.cycle_tally.few_live_are_never_refused.Goals as goal
 
 pub returns : goal.returns

@@ -1,4 +1,4 @@
-use Rattle.heap_invariant.specs.graph_relation.Shown.{named}
+use Rattle.heap_invariant.specs.graph_relation.GraphOfWords.{named}
 use Rattle.heap_invariant.proofs.graph_relation.CommandEvents.{opening_follows, run_follows}
 use Rattle.heap_invariant.proofs.graph_relation.commands_are_shown.Goals as goal
 

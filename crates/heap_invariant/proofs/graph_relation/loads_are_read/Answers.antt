@@ -1,4 +1,4 @@
-use Rattle.heap_invariant.specs.graph_relation.Shown.{named}
+use Rattle.heap_invariant.specs.graph_relation.GraphOfWords.{named}
 use Rattle.heap_invariant.proofs.graph_relation.Loads.{value_shown, compared, name_shown, length_shown}
 use Rattle.heap_invariant.proofs.graph_relation.loads_are_read.Goals as goal
 

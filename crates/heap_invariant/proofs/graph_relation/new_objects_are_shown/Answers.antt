@@ -1,4 +1,4 @@
-use Rattle.heap_invariant.specs.graph_relation.Shown.{named}
+use Rattle.heap_invariant.specs.graph_relation.GraphOfWords.{named}
 use Rattle.heap_invariant.proofs.graph_relation.Publish.{publish}
 use Rattle.heap_invariant.proofs.graph_relation.Every.{every_new}
 use Rattle.heap_invariant.proofs.graph_relation.new_objects_are_shown.Goals as goal

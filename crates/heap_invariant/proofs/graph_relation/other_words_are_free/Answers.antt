@@ -1,4 +1,4 @@
-use Rattle.heap_invariant.specs.graph_relation.Shown.{named}
+use Rattle.heap_invariant.specs.graph_relation.GraphOfWords.{named}
 use Rattle.heap_invariant.proofs.graph_relation.Stores.{words_change, later_last, fewer_names}
 use Rattle.heap_invariant.proofs.graph_relation.Every.{words_behind}
 use Rattle.heap_invariant.proofs.graph_relation.other_words_are_free.Goals as goal

@@ -1,4 +1,4 @@
-use Rattle.heap_invariant.specs.graph_relation.Shown.{named}
+use Rattle.heap_invariant.specs.graph_relation.GraphOfWords.{named}
 use Rattle.heap_invariant.proofs.graph_relation.WordReads.{owner_read, length_read, value_read, one_value, register_read, walk_ends, blocks_apart}
 use Rattle.heap_invariant.proofs.graph_relation.shown_words_are_read.Goals as goal
 

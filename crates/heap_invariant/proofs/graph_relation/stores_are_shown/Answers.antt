@@ -1,4 +1,4 @@
-use Rattle.heap_invariant.specs.graph_relation.Shown.{named}
+use Rattle.heap_invariant.specs.graph_relation.GraphOfWords.{named}
 use Rattle.heap_invariant.proofs.graph_relation.Stores.{register_store, register_pending, pending_store, field_store}
 use Rattle.heap_invariant.proofs.graph_relation.stores_are_shown.Goals as goal
 

@@ -1,4 +1,4 @@
-use Rattle.heap_structures.proofs.AlarmLists.{gone, once_acknowledged, once_cleared, once_raised}
+use Rattle.heap_structures.proofs.alarm_lists.AlarmLists.{gone, once_acknowledged, once_cleared, once_raised}
 use Rattle.heap_structures.proofs.alarms.alarms_stand_once.Goals as goal
 
 pub returns : goal.returns

@@ -1,5 +1,5 @@
 use Rattle.std.proofs.Common.{refl, arith}
-use Rattle.heap_structures.proofs.Chained.{from_err}
+use Rattle.heap_structures.proofs.cell_arrays.Chained.{from_err}
 use Rattle.heap_structures.proofs.cells.made.Goals as goal
 
 pub returns-clause-opens : goal.returns-clause-opens

@@ -1,4 +1,4 @@
-use Rattle.heap_structures.proofs.Rounds.{round_stays}
+use Rattle.heap_structures.proofs.rings.Rounds.{round_stays}
 use Rattle.heap_structures.proofs.laws.others_stay.Goals as goal
 
 pub returns : goal.returns

@@ -1,4 +1,4 @@
-use Rattle.heap_structures.proofs.Quiet.{quiet_done}
+use Rattle.heap_structures.proofs.cell_arrays.NoAllocation.{quiet_done}
 use Rattle.heap_structures.proofs.laws.quiet_commands_keep_graphs.Goals as goal
 
 pub returns : goal.returns

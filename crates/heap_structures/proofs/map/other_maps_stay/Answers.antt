@@ -1,4 +1,4 @@
-use Rattle.heap_structures.proofs.CellMoves.{cells_spared, saves_of}
+use Rattle.heap_structures.proofs.cell_arrays.CellMoves.{cells_spared, saves_of}
 use Rattle.heap_structures.proofs.map.other_maps_stay.Goals as goal
 
 pub returns : goal.returns

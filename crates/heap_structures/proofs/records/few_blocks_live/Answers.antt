@@ -1,4 +1,4 @@
-use Rattle.heap_structures.proofs.NumberRings.{few_live}
+use Rattle.heap_structures.proofs.rings.NumberRings.{few_live}
 use Rattle.heap_structures.proofs.records.few_blocks_live.Goals as goal
 
 pub returns : goal.returns

@@ -1,4 +1,4 @@
-use Rattle.heap_structures.proofs.NumberRings.{records_stay}
+use Rattle.heap_structures.proofs.rings.NumberRings.{records_stay}
 use Rattle.heap_structures.proofs.records.other_records_stay.Goals as goal
 
 pub returns : goal.returns

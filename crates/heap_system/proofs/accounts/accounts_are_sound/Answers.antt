@@ -1,6 +1,6 @@
-use Rattle.heap_system.proofs.ThreadAccounts.{account_sound, not_later, present}
-use Rattle.heap_system.proofs.SharesKept.{run_shares}
-use Rattle.heap_system.proofs.CycleShares.{given_here, given_later}
+use Rattle.heap_system.proofs.accounting.ThreadAccounts.{account_sound, not_later, present}
+use Rattle.heap_system.proofs.accounting.SharesKept.{run_shares}
+use Rattle.heap_system.proofs.accounting.CycleShares.{given_here, given_later}
 use Rattle.heap_system.proofs.accounts.accounts_are_sound.Goals as goal
 
 pub returns-clause-sound : goal.returns-clause-sound

@@ -1,9 +1,9 @@
 use Rattle.std.proofs.Common.{◌∙◌}
-use Rattle.block_store.proofs.Functions.{total_same}
-use Rattle.heap_system.proofs.RunBounds.{least, most, right, small, all_done, by_thread}
-use Rattle.heap_system.proofs.LawsOf.{laws_of}
-use Rattle.heap_system.proofs.UnitsOfTurns.{run_makes}
-use Rattle.heap_system.proofs.TalliesOf.{tallies_of}
+use Rattle.block_store.proofs.Lemmas.{total_same}
+use Rattle.heap_system.proofs.accounting.RunBounds.{least, most, right, small, all_done, by_thread}
+use Rattle.heap_system.proofs.step_rows.LawsOfParts.{laws_of}
+use Rattle.heap_system.proofs.accounting.UnitsOfTurns.{run_makes}
+use Rattle.heap_system.proofs.accounting.TalliesOfParts.{tallies_of}
 use Rattle.heap_system.proofs.bound.cycles_cost_few_units.Goals as goal
 
 pub returns-clause-least : goal.returns-clause-least

@@ -1,6 +1,6 @@
-use Rattle.heap_system.proofs.RunBounds.{gives}
-use Rattle.heap_system.proofs.LawsOf.{laws_of}
-use Rattle.heap_system.proofs.TalliesOf.{tallies_of}
+use Rattle.heap_system.proofs.accounting.RunBounds.{gives}
+use Rattle.heap_system.proofs.step_rows.LawsOfParts.{laws_of}
+use Rattle.heap_system.proofs.accounting.TalliesOfParts.{tallies_of}
 use Rattle.heap_system.proofs.bound.cycles_give_few_blocks.Goals as goal
 
 pub returns : goal.returns

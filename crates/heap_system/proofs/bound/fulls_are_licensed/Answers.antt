@@ -1,6 +1,6 @@
-use Rattle.heap_system.proofs.RunBounds.{licensed, never_full}
-use Rattle.heap_system.proofs.LawsOf.{laws_of}
-use Rattle.heap_system.proofs.TalliesOf.{tallies_of}
+use Rattle.heap_system.proofs.accounting.RunBounds.{licensed, never_full}
+use Rattle.heap_system.proofs.step_rows.LawsOfParts.{laws_of}
+use Rattle.heap_system.proofs.accounting.TalliesOfParts.{tallies_of}
 use Rattle.heap_system.proofs.bound.fulls_are_licensed.Goals as goal
 
 pub returns-clause-licensed : goal.returns-clause-licensed

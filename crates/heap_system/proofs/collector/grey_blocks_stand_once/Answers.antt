@@ -1,6 +1,6 @@
-use Rattle.heap_system.proofs.Always.{run_kept}
-use Rattle.heap_system.proofs.LawsOf.{laws_of}
-use Rattle.heap_system.proofs.FlipAndStart.{grey_put}
+use Rattle.heap_system.proofs.invariant.InvariantHolds.{run_kept}
+use Rattle.heap_system.proofs.step_rows.LawsOfParts.{laws_of}
+use Rattle.heap_system.proofs.step_rows.FlipAndStart.{grey_put}
 use Rattle.heap_system.proofs.collector.grey_blocks_stand_once.Goals as goal
 
 pub returns-clause-kept : goal.returns-clause-kept

@@ -1,8 +1,7 @@
-use Rattle.heap_invariant.proofs.name_invariant.KeptStates.{build_of}
-use Rattle.heap_invariant.proofs.name_invariant.ReachedBlocks.{coloured_refers, marked_is}
+use Rattle.heap_invariant.proofs.Lemmas.{build_of, coloured_refers, marked_is}
 use Rattle.heap_system.specs.Pictures.{kept_state}
-use Rattle.heap_system.proofs.Always.{run_kept}
-use Rattle.heap_system.proofs.LawsOf.{laws_of}
+use Rattle.heap_system.proofs.invariant.InvariantHolds.{run_kept}
+use Rattle.heap_system.proofs.step_rows.LawsOfParts.{laws_of}
 use Rattle.heap_system.proofs.collector.marking_is_tricolour.Goals as goal
 
 pub returns-clause-tricolour : goal.returns-clause-tricolour

@@ -1,6 +1,6 @@
-use Rattle.heap_system.proofs.Always.{run_kept}
-use Rattle.heap_system.proofs.LawsOf.{laws_of}
-use Rattle.heap_system.proofs.FlipAndStart.{phase_same, flip_mark, flip_word, start_sweep, start_word, turns_alone}
+use Rattle.heap_system.proofs.invariant.InvariantHolds.{run_kept}
+use Rattle.heap_system.proofs.step_rows.LawsOfParts.{laws_of}
+use Rattle.heap_system.proofs.step_rows.FlipAndStart.{phase_same, flip_mark, flip_word, start_sweep, start_word, turns_alone}
 use Rattle.heap_system.proofs.collector.phases_turn_with_nobody_inside.Goals as goal
 
 pub returns-clause-stays : goal.returns-clause-stays

@@ -1,8 +1,8 @@
 use Rattle.heap_system.specs.Pictures.{kept_state}
-use Rattle.heap_system.proofs.Always.{run_kept}
-use Rattle.heap_system.proofs.LawsOf.{laws_of}
-use Rattle.heap_system.proofs.FlipAndStart.{start_sweep, start_white, start_black}
-use Rattle.heap_system.proofs.LoadedBlocks.{or_grey}
+use Rattle.heap_system.proofs.invariant.InvariantHolds.{run_kept}
+use Rattle.heap_system.proofs.step_rows.LawsOfParts.{laws_of}
+use Rattle.heap_system.proofs.step_rows.FlipAndStart.{start_sweep, start_white, start_black}
+use Rattle.heap_system.proofs.step_rows.LoadedBlocks.{or_grey}
 use Rattle.heap_system.proofs.collector.starts_find_no_white.Goals as goal
 
 pub returns-clause-white : goal.returns-clause-white

@@ -1,7 +1,7 @@
 use Rattle.heap_system.specs.Pictures.{kept_state}
-use Rattle.heap_system.proofs.Always.{run_kept}
-use Rattle.heap_system.proofs.LawsOf.{laws_of}
-use Rattle.heap_system.proofs.LoadedBlocks.{reached_or_grey, spared_refers}
+use Rattle.heap_system.proofs.invariant.InvariantHolds.{run_kept}
+use Rattle.heap_system.proofs.step_rows.LawsOfParts.{laws_of}
+use Rattle.heap_system.proofs.step_rows.LoadedBlocks.{reached_or_grey, spared_refers}
 use Rattle.heap_system.proofs.collector.sweeping_spares_what_is_reached.Goals as goal
 
 pub returns-clause-reached : goal.returns-clause-reached

@@ -1,6 +1,6 @@
-use Rattle.heap_system.proofs.Always.{run_kept}
-use Rattle.heap_system.proofs.LawsOf.{laws_of}
-use Rattle.heap_system.proofs.FlipAndStart.{flip_grey, flip_black}
+use Rattle.heap_system.proofs.invariant.InvariantHolds.{run_kept}
+use Rattle.heap_system.proofs.step_rows.LawsOfParts.{laws_of}
+use Rattle.heap_system.proofs.step_rows.FlipAndStart.{flip_grey, flip_black}
 use Rattle.heap_system.proofs.collector.the_flip_finds_what_is_reached.Goals as goal
 
 pub returns-clause-grey : goal.returns-clause-grey

@@ -2,10 +2,10 @@ use Rattle.std.proofs.Common.{arith, ◌+◌}
 use Rattle.never_heap.specs.declared.Entry.{Entry}
 use Rattle.never_heap.specs.declared.Command.TheVariants as commands
 use Rattle.never_heap.specs.declared.Reply.TheVariants as replies
-use Rattle.heap_system.proofs.OwedAndPaid.{works_take, works_at}
+use Rattle.heap_system.proofs.accounting.OwedAndPaid.{works_take, works_at}
 use Rattle.heap_system.proofs.counting.sum_of_works.Goals as goal
 
--- what stands for no entry
+-- what represents no entry
 abbrev none : Entry
 none = record { thread = 0; command = commands.New 0 0; reply = replies.New (record { thread = 0; serial = 0 }); work = 0 }
 

@@ -1,6 +1,6 @@
-use Rattle.heap_system.proofs.OncePerCycle.{scanned_once, passed_once, passed_all, in_mark, in_sweep, units_taken}
-use Rattle.heap_system.proofs.LawsOf.{laws_of}
-use Rattle.heap_system.proofs.TalliesOf.{tallies_of}
+use Rattle.heap_system.proofs.accounting.OncePerCycle.{scanned_once, passed_once, passed_all, in_mark, in_sweep, units_taken}
+use Rattle.heap_system.proofs.step_rows.LawsOfParts.{laws_of}
+use Rattle.heap_system.proofs.accounting.TalliesOfParts.{tallies_of}
 use Rattle.heap_system.proofs.cycles.cycles_take_each_block_once.Goals as goal
 
 pub returns-clause-scanned : goal.returns-clause-scanned

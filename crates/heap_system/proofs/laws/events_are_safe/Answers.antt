@@ -1,10 +1,10 @@
 use Rattle.std.proofs.Common.{◌<◌, ◌^◌, subst}
-use Rattle.heap_system.proofs.Always.{run_kept}
-use Rattle.heap_system.proofs.ThreadAccounts.{local_reads}
-use Rattle.heap_system.proofs.RunBounds.{small}
-use Rattle.heap_system.proofs.LawsOf.{laws_of}
-use Rattle.heap_system.proofs.TalliesOf.{tallies_of}
-use Rattle.heap_system.proofs.KeptByTurns.{place, sums}
+use Rattle.heap_system.proofs.invariant.InvariantHolds.{run_kept}
+use Rattle.heap_system.proofs.accounting.ThreadAccounts.{local_reads}
+use Rattle.heap_system.proofs.accounting.RunBounds.{small}
+use Rattle.heap_system.proofs.step_rows.LawsOfParts.{laws_of}
+use Rattle.heap_system.proofs.accounting.TalliesOfParts.{tallies_of}
+use Rattle.heap_system.proofs.invariant.InvariantByTurns.{place, sums}
 use Rattle.heap_system.proofs.laws.events_are_safe.Goals as goal
 
 pub returns-clause-place : goal.returns-clause-place

@@ -1,6 +1,6 @@
-use Rattle.heap_system.proofs.Always.{run_kept}
-use Rattle.heap_system.proofs.LawsOf.{laws_of}
-use Rattle.heap_system.proofs.RunLaws.{rest_told, decided_told, undecided_told, building_told}
+use Rattle.heap_system.proofs.invariant.InvariantHolds.{run_kept}
+use Rattle.heap_system.proofs.step_rows.LawsOfParts.{laws_of}
+use Rattle.heap_system.proofs.invariant.RunLaws.{rest_told, decided_told, undecided_told, building_told}
 use Rattle.heap_system.proofs.laws.logs_are_parts.Goals as goal
 
 pub returns-clause-each : goal.returns-clause-each

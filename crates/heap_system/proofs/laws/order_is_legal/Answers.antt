@@ -1,6 +1,6 @@
-use Rattle.heap_system.proofs.Always.{run_kept}
-use Rattle.heap_system.proofs.LawsOf.{laws_of}
-use Rattle.heap_system.proofs.TurnFacts.{right_work}
+use Rattle.heap_system.proofs.invariant.InvariantHolds.{run_kept}
+use Rattle.heap_system.proofs.step_rows.LawsOfParts.{laws_of}
+use Rattle.heap_system.proofs.work.TurnFacts.{right_work}
 use Rattle.heap_system.proofs.laws.order_is_legal.Goals as goal
 
 pub returns-clause-legal : goal.returns-clause-legal

@@ -1,10 +1,10 @@
 use Rattle.std.proofs.Common.{sym}
 use Rattle.block_store.specs.Places.{Phase}
-use Rattle.heap_machine.proofs.Gatings.{inside_most}
+use Rattle.heap_machine.proofs.Lemmas.{inside_most}
 use Rattle.heap_system.specs.Machines.{heap_in}
 use Rattle.heap_system.specs.Pictures.{gates_in}
-use Rattle.heap_system.proofs.Always.{run_kept}
-use Rattle.heap_system.proofs.LawsOf.{laws_of}
+use Rattle.heap_system.proofs.invariant.InvariantHolds.{run_kept}
+use Rattle.heap_system.proofs.step_rows.LawsOfParts.{laws_of}
 use Rattle.heap_system.proofs.laws.threads_inside_are_counted.Goals as goal
 
 pub returns-clause-count : goal.returns-clause-count

@@ -1,5 +1,5 @@
-use Rattle.heap_system.proofs.Always.{run_kept}
-use Rattle.heap_system.proofs.LawsOf.{laws_of}
+use Rattle.heap_system.proofs.invariant.InvariantHolds.{run_kept}
+use Rattle.heap_system.proofs.step_rows.LawsOfParts.{laws_of}
 use Rattle.heap_system.proofs.laws.turns_keep_the_rules.Goals as goal
 
 pub returns-clause-held : goal.returns-clause-held

@@ -1,6 +1,6 @@
 use Rattle.std.proofs.Common.{refl}
 use Rattle.heap_system.specs.Machines.{local_at, word_read}
-use Rattle.heap_system.proofs.WaitingTurns.{part_waits, done_stays}
+use Rattle.heap_system.proofs.work.WaitingTurns.{part_waits, done_stays}
 use Rattle.heap_system.proofs.laws.turns_wait.Goals as goal
 
 pub returns-clause-waits : goal.returns-clause-waits

@@ -1,15 +1,13 @@
-use Rattle.heap_system.proofs.Always.{run_kept}
-use Rattle.heap_system.proofs.LawsOf.{laws_of}
-use Rattle.heap_invariant.proofs.name_invariant.ReachedBlocks.{reached_solid, reached_not_held}
-use Rattle.heap_invariant.proofs.name_invariant.FlipAndStart.{reached_kept}
+use Rattle.heap_system.proofs.invariant.InvariantHolds.{run_kept}
+use Rattle.heap_system.proofs.step_rows.LawsOfParts.{laws_of}
+use Rattle.heap_invariant.proofs.Lemmas.{blocks_apart, reached_kept, reached_not_held, reached_solid}
 use Rattle.heap_invariant.specs.name_invariant.States.{Kept}
 use Rattle.never_heap.specs.Histories.{replay}
 use Rattle.heap_invariant.specs.graph_relation.Events.{pending_registers}
 use Rattle.heap_invariant.specs.graph_relation.Words.{block_words}
-use Rattle.heap_invariant.proofs.graph_relation.WordReads.{blocks_apart}
 use Rattle.heap_system.specs.Machines.{heap_in}
 use Rattle.heap_system.specs.Pictures.{tasks_in, kept_state}
-use Rattle.heap_system.proofs.LoadedBlocks.{loaded_safe, pending_get}
+use Rattle.heap_system.proofs.step_rows.LoadedBlocks.{loaded_safe, pending_get}
 use Rattle.heap_system.proofs.laws.words_show_the_order.Goals as goal
 
 pub returns-clause-words : goal.returns-clause-words

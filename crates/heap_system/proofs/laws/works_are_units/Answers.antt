@@ -2,11 +2,11 @@ use Rattle.std.proofs.Common.{cond, ap, sym, ◌∙◌}
 use Rattle.barrier_steps.specs.Operands.{is_idle}
 use Rattle.heap_system.specs.Locals.{command_of}
 use Rattle.heap_system.specs.Machines.{local_in}
-use Rattle.heap_system.proofs.Always.{run_kept}
-use Rattle.heap_system.proofs.LawsOf.{laws_of}
-use Rattle.heap_system.proofs.MadeFor.{each_made, hand_made}
-use Rattle.heap_system.proofs.UnitsOfTurns.{run_makes, run_units}
-use Rattle.heap_system.proofs.RunLaws.{paid_low, paid_made, rest_settled, leave_settled, build_settled, serve_settled, rate_is, entries_right}
+use Rattle.heap_system.proofs.invariant.InvariantHolds.{run_kept}
+use Rattle.heap_system.proofs.step_rows.LawsOfParts.{laws_of}
+use Rattle.heap_system.proofs.accounting.MadeFor.{each_made, hand_made}
+use Rattle.heap_system.proofs.accounting.UnitsOfTurns.{run_makes, run_units}
+use Rattle.heap_system.proofs.invariant.RunLaws.{paid_low, paid_made, rest_settled, leave_settled, build_settled, serve_settled, rate_is, entries_right}
 use Rattle.heap_system.proofs.laws.works_are_units.Goals as goal
 
 pub returns-clause-made : goal.returns-clause-made

@@ -1,6 +1,6 @@
 use Rattle.std.proofs.Common.{◌≡◌, ◌+◌, ◌∙◌, List, length, arith, Vec, Global}
 use Rattle.never_heap.specs.declared.Command.{Command}
-use Rattle.heap_system.proofs.OrderKept.{commands_at, commands_low}
+use Rattle.heap_system.proofs.history.OrderKept.{commands_at, commands_low}
 use Rattle.heap_system.proofs.orders.commands_of.Goals as goal
 
 abbrev items_of : Vec Command Global → List Command

@@ -5,9 +5,9 @@ use Rattle.rate_plan.specs.Rates.{IsRate}
 use Rattle.rate_plan.proofs.Rates.{one_rate}
 use Rattle.heap_system.specs.Locals.{command_of}
 use Rattle.heap_system.specs.Machines.{local_at}
-use Rattle.heap_system.proofs.Always.{run_kept}
-use Rattle.heap_system.proofs.LawsOf.{laws_of}
-use Rattle.heap_system.proofs.UnitsOfTurns.{turn_makes, decided_owed}
+use Rattle.heap_system.proofs.invariant.InvariantHolds.{run_kept}
+use Rattle.heap_system.proofs.step_rows.LawsOfParts.{laws_of}
+use Rattle.heap_system.proofs.accounting.UnitsOfTurns.{turn_makes, decided_owed}
 use Rattle.heap_system.proofs.payments.turns_pay.Goals as goal
 
 pub returns-clause-units : goal.returns-clause-units

@@ -1,5 +1,5 @@
-use Rattle.heap_system.proofs.Always.{run_kept}
-use Rattle.heap_system.proofs.LawsOf.{laws_of}
+use Rattle.heap_system.proofs.invariant.InvariantHolds.{run_kept}
+use Rattle.heap_system.proofs.step_rows.LawsOfParts.{laws_of}
 use Rattle.heap_system.proofs.alone.Near.{makes_near, near_ends, serves_near, stated}
 use Rattle.heap_system.proofs.progress.a_lone_command_ends_near_its_bound.Goals as goal
 

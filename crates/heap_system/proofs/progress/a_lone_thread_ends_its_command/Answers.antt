@@ -1,12 +1,12 @@
 use Rattle.std.proofs.Common.{cond, ap, ◌∙◌, arith, le-ltb, lt-ltb}
-use Rattle.never_heap.specs.RightWork.{units_told}
+use Rattle.never_heap.specs.RightWork.{requested_units}
 use Rattle.never_heap.specs.Steps.{blocks_of}
 use Rattle.barrier_steps.specs.Operands.{is_idle}
 use Rattle.rate_plan.specs.solo_bound.Prices.{allocation_bound, idle_bound, other_bound}
 use Rattle.heap_system.specs.Locals.{command_of}
 use Rattle.heap_system.specs.Machines.{local_in}
-use Rattle.heap_system.proofs.Always.{run_kept}
-use Rattle.heap_system.proofs.LawsOf.{laws_of}
+use Rattle.heap_system.proofs.invariant.InvariantHolds.{run_kept}
+use Rattle.heap_system.proofs.step_rows.LawsOfParts.{laws_of}
 use Rattle.heap_system.proofs.alone.Near.{near_ends, stated, within}
 use Rattle.heap_system.proofs.progress.a_lone_thread_ends_its_command.Goals as goal
 
@@ -20,10 +20,10 @@ returns-clause-command _ c r t rate is planned quiet low has =
 pub returns-clause-allocation : goal.returns-clause-allocation
 returns-clause-allocation _ c k rate some =
     ap (λ b. cond b (allocation_bound c.threads (blocks_of c.width k) rate)
-    (cond (is_idle k) (idle_bound c.threads (units_told k)) (other_bound c.object))) (lt-ltb 0 (blocks_of c.width k) some)
+    (cond (is_idle k) (idle_bound c.threads (requested_units k)) (other_bound c.object))) (lt-ltb 0 (blocks_of c.width k) some)
 
 pub returns-clause-other : goal.returns-clause-other
 returns-clause-other _ c k rate none quick =
     ap (λ b. cond b (allocation_bound c.threads (blocks_of c.width k) rate)
-    (cond (is_idle k) (idle_bound c.threads (units_told k)) (other_bound c.object))) (le-ltb 0 (blocks_of c.width k) (omega (arith, none)))
-    ∙ ap (λ b. cond b (idle_bound c.threads (units_told k)) (other_bound c.object)) quick
+    (cond (is_idle k) (idle_bound c.threads (requested_units k)) (other_bound c.object))) (le-ltb 0 (blocks_of c.width k) (omega (arith, none)))
+    ∙ ap (λ b. cond b (idle_bound c.threads (requested_units k)) (other_bound c.object)) quick

@@ -1,5 +1,5 @@
-use Rattle.heap_system.proofs.Always.{run_kept}
-use Rattle.heap_system.proofs.LawsOf.{laws_of}
+use Rattle.heap_system.proofs.invariant.InvariantHolds.{run_kept}
+use Rattle.heap_system.proofs.step_rows.LawsOfParts.{laws_of}
 use Rattle.heap_system.proofs.alone.Changes.{changes_apart}
 use Rattle.heap_system.proofs.progress.units_part_the_changes_of_a_lone_thread.Goals as goal
 

@@ -1,6 +1,6 @@
 use Rattle.std.proofs.Common.{ap}
 use Rattle.heap_system.specs.Machines.{Run}
-use Rattle.heap_system.proofs.Rooms.{runs_agree, logs_agree, done_agree}
+use Rattle.heap_system.proofs.work.Rooms.{runs_agree, logs_agree, done_agree}
 use Rattle.heap_system.proofs.replays.jobs_have_one_order.Goals as goal
 
 pub returns-clause-order : goal.returns-clause-order

@@ -1,5 +1,5 @@
 use Rattle.std.proofs.Common.{arith, sym, ◌∙◌}
-use Rattle.heap_system.proofs.OpeningArrays.{link_low}
+use Rattle.heap_system.proofs.openings.OpeningArrays.{link_low}
 use Rattle.heap_system.proofs.start.link_at.Goals as goal
 
 pub overflow_add-first : goal.overflow_add-first

@@ -1,7 +1,7 @@
 use Rattle.std.proofs.Common.{arith, ap, ◌∙◌, length, length-set}
 use Rattle.block_store.specs.Places.{extent, place_at}
 use Rattle.heap_system.specs.InitialHeaps.{opening_heap}
-use Rattle.heap_system.proofs.OpeningArrays.{by_places, one_more}
+use Rattle.heap_system.proofs.openings.OpeningArrays.{by_places, one_more}
 use Rattle.heap_system.proofs.start.opening.Goals as goal
 
 pub loop-i-preserved : goal.loop-i-preserved

@@ -1,12 +1,12 @@
 use Rattle.std.proofs.Common.{arith, sym, ap, ◌∙◌, ◌+◌}
 use Rattle.block_store.specs.declared.TheConstants.{REGISTERS}
 use Rattle.block_store.specs.Payloads.{reference_word}
-use Rattle.block_store.proofs.Registers.{root_low, end_few}
+use Rattle.block_store.proofs.Lemmas.{end_few, root_low}
 use Rattle.object_lists.specs.Parts.{link_in}
 use Rattle.array_trees.specs.Levels.{array_part}
 use Rattle.array_trees.proofs.RegisterArrays.{array_of}
 use Rattle.heap_invariant.specs.graph_relation.Made.{link_word}
-use Rattle.heap_system.proofs.OpeningArrays.{first_register, other_register}
+use Rattle.heap_system.proofs.openings.OpeningArrays.{first_register, other_register}
 use Rattle.heap_system.proofs.start.register_payload.Goals as goal
 use Rattle.heap_system.proofs.start.register_payload.Goals.{else-ordinal-eq1-via-then-ordinal-eq1+else-j-eq0, else-ordinal-eq1-via-else-ordinal-eq1}
 

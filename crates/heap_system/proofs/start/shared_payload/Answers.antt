@@ -2,7 +2,7 @@ use Rattle.std.proofs.Common.{arith, ap, ◌∙◌, ◌+◌}
 use Rattle.object_lists.specs.Parts.{link_in}
 use Rattle.array_trees.specs.Levels.{array_part}
 use Rattle.heap_invariant.specs.graph_relation.Made.{link_word}
-use Rattle.heap_system.proofs.OpeningArrays.{last_low, shared_links}
+use Rattle.heap_system.proofs.openings.OpeningArrays.{last_low, shared_links}
 use Rattle.heap_system.proofs.start.shared_payload.Goals as goal
 
 pub returns : goal.returns

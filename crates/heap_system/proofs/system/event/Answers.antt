@@ -1,7 +1,7 @@
 use Rattle.std.proofs.Common.{ap, ◌∙◌, refl}
 use Rattle.heap_system.specs.Locals.{is_done, op_wanted}
 use Rattle.heap_system.specs.Machines.{State}
-use Rattle.heap_system.proofs.TurnFacts.{cell_here, sum_here, reads_here, turn_made}
+use Rattle.heap_system.proofs.work.TurnFacts.{cell_here, sum_here, reads_here, turn_made}
 use Rattle.heap_system.proofs.system.event.Goals as goal
 
 pub event-requires-clause-may : goal.event-requires-clause-may

@@ -1,4 +1,4 @@
-use Rattle.heap_system.proofs.OrderKept.{long_here, phase_here, long_after, phase_after, room_met, kept_on, order_on}
+use Rattle.heap_system.proofs.history.OrderKept.{long_here, phase_here, long_after, phase_after, room_met, kept_on, order_on}
 use Rattle.heap_system.proofs.system.ordered_event.Goals as goal
 
 pub cycle_in-cycle-requires-clause-there : goal.cycle_in-cycle-requires-clause-there

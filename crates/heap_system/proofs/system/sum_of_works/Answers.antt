@@ -1,5 +1,5 @@
 use Rattle.std.proofs.Common.{arith}
-use Rattle.heap_system.proofs.SystemStart.{units_at}
+use Rattle.heap_system.proofs.openings.SystemStart.{units_at}
 use Rattle.heap_system.proofs.system.sum_of_works.Goals as goal
 
 pub overflow_add-sum : goal.overflow_add-sum

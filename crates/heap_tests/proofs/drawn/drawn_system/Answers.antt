@@ -4,7 +4,7 @@ use Rattle.std.proofs.lemmas.List.{length-map}
 use Rattle.std.proofs.lemmas.List.Elements.{recursion_from_All}
 use Rattle.never_heap.specs.declared.Command.{Command}
 use Rattle.never_heap.specs.Jobs.{IsTraceInBounds}
-use Rattle.heap_system.proofs.TextLives.{job_of_text}
+use Rattle.heap_system.proofs.Lemmas.{job_of_text}
 use Rattle.heap_tests.proofs.drawn.drawn_system.Goals as goal
 
 abbrev items_of : Vec Command Global → List Command

@@ -1,6 +1,6 @@
 use Rattle.std.proofs.Common.{map, Vec, List, Global}
 use Rattle.never_heap.specs.declared.Command.{Command}
-use Rattle.heap_system.proofs.TextLives.{job_of_text, text_few}
+use Rattle.heap_system.proofs.Lemmas.{job_of_text, text_few}
 use Rattle.heap_tests.proofs.judging.run_of.Goals as goal
 
 abbrev items_of : Vec Command Global → List Command

@@ -1,7 +1,7 @@
 use Rattle.std.proofs.Common.{map, sym, subst, Vec, Global}
 use Rattle.never_heap.specs.declared.Command.{Command}
 use Rattle.heap_system.specs.Machines.{IsJob}
-use Rattle.heap_system.proofs.Jobs.{lone}
+use Rattle.heap_system.proofs.Lemmas.{lone}
 use Rattle.heap_tests.proofs.lone.run.Goals as goal
 
 pub new-requires : goal.new-requires

@@ -2,7 +2,7 @@ use Rattle.std.proofs.Common.{map, sym, subst, Vec, Global}
 use Rattle.never_heap.specs.declared.Command.{Command}
 use Rattle.block_store.specs.declared.Width.TheVariants.{Four}
 use Rattle.heap_system.specs.Machines.{IsJob}
-use Rattle.heap_system.proofs.Jobs.{lone}
+use Rattle.heap_system.proofs.Lemmas.{lone}
 use Rattle.heap_tests.proofs.ordered.run.Goals as goal
 
 pub new_ordered-requires-clause-job : goal.new_ordered-requires-clause-job

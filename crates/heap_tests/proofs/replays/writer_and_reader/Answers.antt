@@ -3,10 +3,10 @@ use Rattle.block_store.specs.declared.Width.TheVariants.{Four}
 use Rattle.never_heap.specs.declared.Command.{Command}
 use Rattle.never_heap.specs.declared.Command.TheVariants.{Set, Put, Get}
 use Rattle.never_heap.specs.Jobs.{IsTraceInBounds}
-use Rattle.never_heap.proofs.CommandBounds.{plain_fits}
+use Rattle.never_heap.proofs.Lemmas.{plain_fits}
 use Rattle.heap_system.specs.Machines.{IsJob}
 use Rattle.heap_system.specs.Systems.{commands_in}
-use Rattle.heap_system.proofs.Jobs.{config, two, both}
+use Rattle.heap_system.proofs.Lemmas.{both, config, two}
 use Rattle.heap_tests.proofs.replays.writer_and_reader.Goals as goal
 
 writes_fit : IsTraceInBounds (config Four) (Set 1 7 ∷ Put 0 2 1 ∷ [])

@@ -1,7 +1,7 @@
 use Rattle.std.proofs.Common.{map, sym, subst, Vec, Global}
 use Rattle.never_heap.specs.declared.Command.{Command}
 use Rattle.heap_system.specs.Machines.{IsJob}
-use Rattle.heap_system.proofs.Jobs.{both_of}
+use Rattle.heap_system.proofs.Lemmas.{both_of}
 use Rattle.heap_tests.proofs.tests.of_two.Goals as goal
 
 pub new-requires : goal.new-requires

@@ -1,4 +1,4 @@
-use Rattle.atom_board.proofs.Orders.{in_order_each}
+use Rattle.atom_board.proofs.MutatorsInOrder.{in_order_each}
 use Rattle.heap_tests.proofs.threads.run.Goals as goal
 
 pub close-requires-clause-mutators : goal.close-requires-clause-mutators

@@ -1,8 +1,8 @@
 use Rattle.std.proofs.Common.{inl, inr, ◌+◌, ◌*◌, length, arith}
 use Rattle.std.proofs.lemmas.List.{length_push}
 use Rattle.heap_structures.specs.declared.trend.Sample.{Sample}
-use Rattle.heap_structures.proofs.Answered.{ok_map}
-use Rattle.historian_core.specs.Kept.{heap_config, samples}
+use Rattle.heap_structures.proofs.cell_arrays.Answered.{ok_map}
+use Rattle.historian_core.specs.StoredReadings.{heap_config, samples}
 use Rattle.historian_core.proofs.Life.{left, room}
 use Rattle.historian_core.proofs.Readings.{keeps_on, long_as}
 use Rattle.historian_core.proofs.Historian.add.Goals as goal

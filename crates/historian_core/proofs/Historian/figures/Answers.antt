@@ -4,11 +4,11 @@ use Rattle.std.proofs.lemmas.List.{drop_all, length-map}
 use Rattle.heap_structures.specs.Circles.{last_of}
 use Rattle.heap_structures.specs.Trends.{alarms_in, values_in}
 use Rattle.heap_structures.specs.declared.trend.Sample.{Sample}
-use Rattle.heap_structures.proofs.NumberRings.{first_is}
-use Rattle.heap_structures.proofs.TrendCalls.{widened}
-use Rattle.heap_structures.proofs.TrendLists.{few_last}
+use Rattle.heap_structures.proofs.rings.NumberRings.{first_is}
+use Rattle.heap_structures.proofs.trends.TrendCalls.{widened}
+use Rattle.heap_structures.proofs.trends.TrendLists.{few_last}
 use Rattle.historian_core.specs.declared.Figures.{Figures}
-use Rattle.historian_core.specs.Kept.{counted, heap_config}
+use Rattle.historian_core.specs.StoredReadings.{counted, heap_config}
 use Rattle.historian_core.proofs.Life.{room}
 use Rattle.historian_core.proofs.Readings.{counted_next}
 use Rattle.historian_core.proofs.Historian.figures.Goals as goal

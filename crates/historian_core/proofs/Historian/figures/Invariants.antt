@@ -3,7 +3,7 @@ use Rattle.std.proofs.Common.{◌≡◌, ◌≤◌, ◌+◌, ◌-◌, ◌*◌, �
 use Rattle.heap_structures.specs.Circles.{last_of}
 use Rattle.heap_structures.specs.Trends.{alarms_in, values_in}
 use Rattle.heap_structures.specs.declared.trend.Sample.{Sample}
-use Rattle.historian_core.specs.Kept.{Fits, IsGiven, counted}
+use Rattle.historian_core.specs.StoredReadings.{Fits, IsGiven, counted}
 use Rattle.historian_core.proofs.Historian.figures.Given as goal
 
 abbrev pub invariant-loop-back : goal.invariant-loop-back

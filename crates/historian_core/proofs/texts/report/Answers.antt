@@ -1,6 +1,6 @@
 use Rattle.std.proofs.Common.{[], ap, refl, Ok, Err}
 use Rattle.trace_text.proofs.AppendedTexts.{appends_none}
-use Rattle.historian_core.specs.Texts.{first_at, due_in, due_after, due_from}
+use Rattle.historian_core.specs.ReportTexts.{first_at, due_in, due_after, due_from}
 use Rattle.historian_core.proofs.ReportLaws.{ends_here, goes_on, fine_reported}
 use Rattle.historian_core.proofs.texts.report.Goals as goal
 

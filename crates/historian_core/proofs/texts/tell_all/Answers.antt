@@ -1,6 +1,6 @@
 use Rattle.std.proofs.Common.{◌++◌, ◌∷◌, [], length-append, refl, Err, Some, arith, rules}
 use Rattle.historian_core.specs.declared.stops.Stop.TheVariants.{WriteFault}
-use Rattle.historian_core.specs.Texts.{reading_at, due_after}
+use Rattle.historian_core.specs.ReportTexts.{reading_at, due_after}
 use Rattle.historian_core.specs.Windows.{told_line}
 use Rattle.historian_core.proofs.ReportLaws.{ends_here, goes_on, breaks_off, due_more}
 use Rattle.historian_core.proofs.texts.tell_all.Goals as goal

@@ -1,4 +1,4 @@
-use Rattle.plantrun_core.proofs.Crews.{closing}
+use Rattle.plantrun_core.proofs.WorkersApart.{closing}
 use Rattle.plantrun_core.proofs.crew.close_all.Goals as goal
 
 pub close-requires : goal.close-requires

@@ -2,10 +2,10 @@ use Rattle.std.proofs.Common.{◌∙◌, sym, refl, subst}
 use Rattle.std.specs.Prelude.{IsNone}
 use Rattle.plantrun_core.specs.declared.crew.Crew.{Crew}
 use Rattle.plantrun_core.specs.declared.roles.Role.TheVariants.{Alarms}
-use Rattle.plantrun_core.specs.Crews.{IsGone}
+use Rattle.plantrun_core.specs.PlantWorkers.{IsGone}
 use Rattle.plantrun_core.specs.Roles.{closed}
 use Rattle.plantrun_core.specs.Works.{CountsInput}
-use Rattle.plantrun_core.proofs.Gone.{counts_on, finished_gone, through}
+use Rattle.plantrun_core.proofs.EndOfPlant.{counts_on, finished_gone, through}
 use Rattle.plantrun_core.proofs.crew.finished.Goals as goal
 
 pub returns-clause-gone : goal.returns-clause-gone

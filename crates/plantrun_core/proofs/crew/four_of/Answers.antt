@@ -1,4 +1,4 @@
-use Rattle.plantrun_core.proofs.Crews.{four_heads}
+use Rattle.plantrun_core.proofs.WorkersApart.{four_heads}
 use Rattle.plantrun_core.proofs.crew.four_of.Goals as goal
 
 pub returns : goal.returns

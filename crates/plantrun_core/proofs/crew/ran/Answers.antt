@@ -4,7 +4,7 @@ use Rattle.plantrun_core.specs.declared.crew.Works.{Works}
 use Rattle.plantrun_core.specs.declared.hand.Hand.{Hand}
 use Rattle.plantrun_core.specs.declared.roles.Role.TheVariants.{History}
 use Rattle.plantrun_core.specs.Works.{most_in}
-use Rattle.plantrun_core.proofs.Gone.{have_ended, theirs_on, worker_on}
+use Rattle.plantrun_core.proofs.EndOfPlant.{have_ended, theirs_on, worker_on}
 use Rattle.plantrun_core.proofs.crew.ran.Goals as goal
 
 pub returns-clause-crew : goal.returns-clause-crew

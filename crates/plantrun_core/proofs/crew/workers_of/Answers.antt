@@ -1,6 +1,6 @@
 use Rattle.std.proofs.Common.{◌∙◌, ap}
 use Rattle.block_store.specs.declared.Config.{Config}
-use Rattle.plantrun_core.proofs.Crews.{fresh_four, order_four}
+use Rattle.plantrun_core.proofs.WorkersApart.{fresh_four, order_four}
 use Rattle.plantrun_core.proofs.crew.workers_of.Goals as goal
 
 pub four_of-requires : goal.four_of-requires

@@ -5,7 +5,7 @@ use Rattle.live_tables.proofs.rows.Crews.{same_first, same_then}
 use Rattle.plantrun_core.specs.Logs.{operation_of}
 use Rattle.plantrun_core.specs.Readings.{IsNext, puts}
 use Rattle.plantrun_core.proofs.Lines.{input_many, read_first, read_length, read_on}
-use Rattle.plantrun_core.proofs.Worked.{ok_of}
+use Rattle.plantrun_core.proofs.LogOfTicks.{ok_of}
 use Rattle.plantrun_core.proofs.input.reads.Goals as goal
 
 pub loop-taken-init : goal.loop-taken-init

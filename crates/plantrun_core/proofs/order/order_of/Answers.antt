@@ -1,4 +1,4 @@
-use Rattle.plantrun_core.proofs.Mixing.{input_on, input_over, merged_init}
+use Rattle.plantrun_core.proofs.MergedOrders.{input_on, input_over, merged_init}
 use Rattle.plantrun_core.proofs.order.order_of.Goals as goal
 
 pub loop-next-init : goal.loop-next-init

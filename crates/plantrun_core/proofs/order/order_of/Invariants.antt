@@ -1,6 +1,6 @@
 -- What is merged so far.
 use Rattle.std.proofs.Common.{drop}
-use Rattle.plantrun_core.specs.Orders.{IsMerged, by_thread, logs_of}
+use Rattle.plantrun_core.specs.MergedLogs.{IsMerged, by_thread, logs_of}
 use Rattle.plantrun_core.proofs.order.order_of.Given as goal
 
 abbrev pub invariant-loop-next : goal.invariant-loop-next

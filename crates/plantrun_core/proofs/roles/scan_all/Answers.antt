@@ -2,7 +2,7 @@ use Rattle.std.proofs.Common.{◌∙◌, arith, subst}
 use Rattle.live_tables.proofs.rows.Crews.{same_then}
 use Rattle.plantrun_core.specs.declared.alarms.Limits.{Limits}
 use Rattle.plantrun_core.specs.Roles.{HasScanned}
-use Rattle.plantrun_core.proofs.Worked.{scanned_more, scanned_to_length}
+use Rattle.plantrun_core.proofs.LogOfTicks.{scanned_more, scanned_to_length}
 use Rattle.plantrun_core.proofs.roles.scan_all.Goals as goal
 
 pub scan-requires-clause-room : goal.scan-requires-clause-room

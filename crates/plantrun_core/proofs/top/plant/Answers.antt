@@ -2,10 +2,10 @@ use Rattle.std.proofs.Common.{◌≡◌, Some, sym, subst}
 use Rattle.std.proofs.lemmas.Result.{IfOk-weaker}
 use Rattle.plantrun_core.specs.declared.calls.Logs.{Logs}
 use Rattle.plantrun_core.specs.declared.top.Ended.{Ended}
-use Rattle.plantrun_core.specs.Crews.{CrewHasWorked, HaveWorked, IsGone}
+use Rattle.plantrun_core.specs.PlantWorkers.{CrewHasWorked, HaveWorked, IsGone}
 use Rattle.plantrun_core.specs.Works.{CountsInput}
-use Rattle.plantrun_core.proofs.Gone.{counts_order, counts_stop, have_worked, order_of_plant, stop_of_gone}
-use Rattle.plantrun_core.proofs.Homes.{homes_of}
+use Rattle.plantrun_core.proofs.EndOfPlant.{counts_order, counts_stop, have_worked, order_of_plant, stop_of_gone}
+use Rattle.plantrun_core.proofs.OwnPlaces.{homes_of}
 use Rattle.plantrun_core.proofs.top.plant.Goals as goal
 
 pub put_in_order-requires-clause-homes : goal.put_in_order-requires-clause-homes

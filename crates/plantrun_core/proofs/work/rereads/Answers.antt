@@ -4,7 +4,7 @@ use Rattle.plantrun_core.specs.declared.roles.Role.{Role}
 use Rattle.plantrun_core.specs.declared.roles.Role.TheVariants.{History}
 use Rattle.plantrun_core.specs.Roles.{AfterTicks, HasReread}
 use Rattle.plantrun_core.specs.Works.{most_in}
-use Rattle.plantrun_core.proofs.Worked.{kept_short, reread_on}
+use Rattle.plantrun_core.proofs.LogOfTicks.{kept_short, reread_on}
 use Rattle.plantrun_core.proofs.work.rereads.Goals as goal
 
 pub does-requires-clause-room : goal.does-requires-clause-room

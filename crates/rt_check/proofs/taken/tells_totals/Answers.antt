@@ -1,5 +1,5 @@
 use Rattle.std.proofs.Common.{◌≡◌, true, false, sym, ◌∙◌}
-use Rattle.trace_text.specs.Texts.{totals_text}
+use Rattle.trace_text.specs.RunTexts.{totals_text}
 use Rattle.rt_check.proofs.TakenLaws.{no_cycles, no_units, tells_these, totals_told}
 use Rattle.rt_check.proofs.taken.tells_totals.Goals as goal
 

@@ -2,7 +2,7 @@ use Rattle.std.proofs.Common.{map, string_bytes, codes}
 use Rattle.array_scripts.proofs.CarriedOut.{carried_out_as}
 use Rattle.exit_statuses.specs.Sides.{sides}
 use Rattle.array_scripts.specs.script_runs.Runs.{IsAnswered}
-use Rattle.rt_handles.specs.Calls.{Headline}
+use Rattle.rt_handles.specs.HandleCalls.{Headline}
 use Rattle.rt_handles.specs.Lines.{handle_kind}
 use Rattle.rt_handles.specs.Scripts.{commands}
 use Rattle.rt_handles.specs.Tellings.{outcome_text, told}

@@ -1,7 +1,7 @@
 use Rattle.std.proofs.Common.{◌≡◌, arith, List, ℕ, [], map, string_bytes, IfErr, sym, subst}
 use Rattle.std.proofs.lemmas.Grind.{common_steps}
 use Rattle.exit_statuses.specs.Sides.{sides}
-use Rattle.rt_mail.specs.Texts.{IsCause}
+use Rattle.rt_mail.specs.RefusedTexts.{IsCause}
 use Rattle.rt_mail.proofs.top.asked.Goals as goal
 
 pub returns-clause-refused : goal.returns-clause-refused

@@ -1,6 +1,6 @@
 use Rattle.std.proofs.Common.{arith}
 use Rattle.rtheap_core.proofs.OwnerWords.{ran, few_serials, narrow}
-use Rattle.heap_system.proofs.TextLives.{job_of_text}
+use Rattle.heap_system.proofs.Lemmas.{job_of_text}
 use Rattle.rtheap_core.proofs.laws.texts_are_lives.Goals as goal
 
 pub returns-clause-lives : goal.returns-clause-lives

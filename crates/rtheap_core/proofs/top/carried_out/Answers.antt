@@ -14,10 +14,10 @@ returns-in-None g c =
 
 pub returns-in-Some-Make : goal.returns-in-Some-Make
 returns-in-Some-Make g c = record {
-  done = c.make_told.ensures _ _ (refl, refl) (rw c.in-Some-Make.field-0-is at c.in-Some-Make.ensures.asked);
+  done = c.make_and_report.ensures _ _ (refl, refl) (rw c.in-Some-Make.field-0-is at c.in-Some-Make.ensures.asked);
 }
 
 pub returns-in-Some-Trial : goal.returns-in-Some-Trial
 returns-in-Some-Trial g c = record {
-  done = c.trial_told.ensures _ _ (refl, refl) (rw c.in-Some-Trial.field-0-is at c.in-Some-Trial.ensures.asked);
+  done = c.trial_and_report.ensures _ _ (refl, refl) (rw c.in-Some-Trial.field-0-is at c.in-Some-Trial.ensures.asked);
 }

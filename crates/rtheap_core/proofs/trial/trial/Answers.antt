@@ -1,7 +1,7 @@
 use Rattle.std.proofs.Common.{List, Vec, Global, map, refl, sym, subst}
 use Rattle.never_heap.specs.declared.Command.{Command}
 use Rattle.heap_system.specs.Machines.{IsJob}
-use Rattle.heap_system.proofs.TextLives.{job_of_text}
+use Rattle.heap_system.proofs.Lemmas.{job_of_text}
 use Rattle.rtheap_core.specs.declared.schedules.Schedule.TheVariants.{Serial}
 use Rattle.never_heap.specs.Jobs.{IsJobInBounds}
 use Rattle.trace_text.specs.Jobs.{Job}

@@ -2,7 +2,7 @@ use Rattle.std.proofs.Common.{◌≡◌, ◌≤◌, ◌+◌, take}
 use Rattle.never_heap.specs.Graphs.{Graph}
 use Rattle.saved_heap.specs.heap_pictures.Plans.{graph_after}
 use Rattle.control_heap.specs.Controls.{asked}
-use Rattle.control_heap.specs.graph_view.Shown.{Leaves}
+use Rattle.control_heap.specs.graph_view.ShownGraph.{Leaves}
 use Rattle.saved_heap.specs.Renewals.{HasBuilt}
 use Rattle.saved_heap.proofs.renewal.copied.Given as goal
 

@@ -3,7 +3,7 @@ use Rattle.never_heap.specs.declared.Reply.{Reply}
 use Rattle.never_heap.specs.declared.Reply.TheVariants.{Full}
 use Rattle.never_heap.specs.Histories.{is_full}
 use Rattle.control_heap.specs.Controls.{HasAnswered}
-use Rattle.control_heap.specs.graph_view.Shown.{Goes}
+use Rattle.control_heap.specs.graph_view.ShownGraph.{Goes}
 use Rattle.saved_heap.proofs.Copied.{built_one, stayed, went}
 use Rattle.saved_heap.proofs.renewal.next.Goals as goal
 

@@ -2,7 +2,7 @@ use Rattle.std.proofs.Common.{sym, subst, arith}
 use Rattle.shared_heap.specs.Shared.{held_of}
 use Rattle.shared_heap.specs.Pending.{HasAnnounced}
 use Rattle.shared_heap.proofs.Asking.{announced, begin_objects, begin_units, has_room, unspent}
-use Rattle.shared_heap.proofs.Gifts.{gift_here}
+use Rattle.shared_heap.proofs.AnnouncedCommands.{gift_here}
 use Rattle.shared_heap.proofs.heap.announce.Goals as goal
 
 pub compare_exchange_with-requires : goal.compare_exchange_with-requires

@@ -2,7 +2,7 @@ use Rattle.std.proofs.Common.{rules, ◌≡◌, ap, sym, ◌∙◌, subst, [], �
 use Rattle.atomic_table.specs.Seated.{TableId}
 use Rattle.shared_heap.specs.Shared.{first_held}
 use Rattle.shared_heap.specs.Workers.{IsDealt}
-use Rattle.atom_board.proofs.Crews.{dealt_next}
+use Rattle.atom_board.proofs.AllMutators.{dealt_next}
 use Rattle.shared_heap.proofs.Asking.{dealt_kept}
 use Rattle.shared_heap.proofs.Steps.{splits}
 use Rattle.shared_heap.proofs.heap.dealt.Goals as goal

@@ -3,8 +3,8 @@ use Rattle.std.proofs.lemmas.List.{append_assoc}
 use Rattle.std.specs.Vec.Iter.{into_iter_items}
 use Rattle.shared_heap.specs.Shared.{held_of, joined}
 use Rattle.shared_heap.specs.Workers.{WorkerState}
-use Rattle.atom_board.proofs.Crews.{at_middle}
-use Rattle.shared_heap.proofs.Crews.{of_worker, one_knows, one_more_knows}
+use Rattle.atom_board.proofs.AllMutators.{at_middle}
+use Rattle.shared_heap.proofs.AllWorkers.{of_worker, one_knows, one_more_knows}
 use Rattle.shared_heap.proofs.Steps.{joins}
 use Rattle.shared_heap.proofs.heap.gathered.Goals as goal
 

@@ -4,8 +4,8 @@ use Rattle.heap_system.specs.Locals.{LocalState}
 use Rattle.heap_system.specs.Machines.{IsJob}
 use Rattle.shared_heap.specs.Workers.{IsDealt, start_worker}
 use Rattle.shared_heap.proofs.InitialHeaps.{config_at, dealt_at, first_job, opens_of}
-use Rattle.shared_heap.proofs.Crews.{fresh, in_order}
-use Rattle.shared_heap.proofs.Orders.{in_order_each}
+use Rattle.shared_heap.proofs.AllWorkers.{fresh, in_order}
+use Rattle.shared_heap.proofs.WorkersInOrder.{in_order_each}
 use Rattle.shared_heap.proofs.heap.opened.Goals as goal
 
 abbrev items_of : Vec Command Global → List Command

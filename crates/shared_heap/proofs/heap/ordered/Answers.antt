@@ -1,6 +1,6 @@
 use Rattle.std.proofs.Common.{◌<◌, arith, length, ap, subst, sym, List}
 use Rattle.shared_heap.specs.Workers.{WorkerState}
-use Rattle.shared_heap.proofs.Orders.{is_at, sorted_none, sorted_more}
+use Rattle.shared_heap.proofs.WorkersInOrder.{is_at, sorted_none, sorted_more}
 use Rattle.shared_heap.proofs.heap.ordered.Goals as goal
 
 pub loop-t-init : goal.loop-t-init

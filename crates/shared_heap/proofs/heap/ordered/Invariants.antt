@@ -1,5 +1,5 @@
 use Rattle.std.proofs.Common.{◌≤◌}
-use Rattle.shared_heap.proofs.Orders.{IsSorted}
+use Rattle.shared_heap.proofs.WorkersInOrder.{IsSorted}
 use Rattle.shared_heap.proofs.heap.ordered.Given as goal
 
 abbrev pub invariant-loop-t : goal.invariant-loop-t

@@ -1,5 +1,5 @@
 use Rattle.std.proofs.Common.{◌<◌, arith}
-use Rattle.shared_heap.proofs.Orders.{nobody}
+use Rattle.shared_heap.proofs.WorkersInOrder.{nobody}
 use Rattle.shared_heap.proofs.heap.place_of.Goals as goal
 
 pub unreachable-requires : goal.unreachable-requires

@@ -1,4 +1,4 @@
-use Rattle.shared_heap.proofs.Behind.{stands_behind, stands_behind_all, stands_still}
+use Rattle.shared_heap.proofs.EntryAfterSeen.{stands_behind, stands_behind_all, stands_still}
 use Rattle.shared_heap.proofs.laws.commands_stand_behind_what_was_seen.Goals as goal
 
 pub returns-clause-seen : goal.returns-clause-seen

@@ -1,4 +1,4 @@
-use Rattle.shared_heap.proofs.Stamps.{stamps_in_order}
+use Rattle.shared_heap.proofs.DrawnStamps.{stamps_in_order}
 use Rattle.shared_heap.proofs.laws.stamps_are_in_order.Goals as goal
 
 pub returns : goal.returns

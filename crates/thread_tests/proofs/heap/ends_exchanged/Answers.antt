@@ -1,5 +1,5 @@
 use Rattle.std.proofs.Common.{◌<◌, ◌-◌, arith, length}
-use Rattle.thread_tests.proofs.Crews.{exchanged}
+use Rattle.thread_tests.proofs.WorkersOfHeap.{exchanged}
 use Rattle.thread_tests.proofs.heap.ends_exchanged.Goals as goal
 
 pub returns-then-count-gt1 : goal.returns-then-count-gt1

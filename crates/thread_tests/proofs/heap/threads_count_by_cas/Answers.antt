@@ -1,4 +1,4 @@
-use Rattle.shared_heap.proofs.Orders.{in_order_each}
+use Rattle.shared_heap.proofs.Lemmas.{in_order_each}
 use Rattle.thread_tests.proofs.heap.threads_count_by_cas.Goals as goal
 
 pub ends_exchanged-workers-requires : goal.ends_exchanged-workers-requires

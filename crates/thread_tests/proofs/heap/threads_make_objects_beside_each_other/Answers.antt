@@ -1,4 +1,4 @@
-use Rattle.shared_heap.proofs.Orders.{in_order_each}
+use Rattle.shared_heap.proofs.Lemmas.{in_order_each}
 use Rattle.thread_tests.proofs.heap.threads_make_objects_beside_each_other.Goals as goal
 
 pub close-requires : goal.close-requires

@@ -1,7 +1,7 @@
 use Rattle.std.proofs.Common.{◌≡◌, ◌∙◌, ap, subst, List, ℕ}
 use Rattle.std.proofs.lemmas.Result.{on_ok_weaker, on_err_weaker}
 use Rattle.trace_text.specs.Streams.{Appends, AppendsPrefix}
-use Rattle.trace_text.specs.Texts.{totals_line}
+use Rattle.trace_text.specs.RunTexts.{totals_line}
 use Rattle.trace_text.proofs.AppendedTexts.{appends_in_turn, front_in_turn, front_longer, at_err}
 use Rattle.trace_text.proofs.order_writer.write_order.Given.{Over}
 use Rattle.trace_text.proofs.order_writer.write_order.Goals as goal

@@ -1,6 +1,6 @@
 use Rattle.std.proofs.Common.{◌∙◌, subst, List, ℕ}
 use Rattle.trace_text.specs.Streams.{AppendsPrefix}
-use Rattle.trace_text.specs.Texts.{entry_line}
+use Rattle.trace_text.specs.RunTexts.{entry_line}
 use Rattle.trace_text.proofs.AppendedTexts.{at_err, lines_front}
 use Rattle.trace_text.proofs.printing.write_log.Goals as goal
 

@@ -2,7 +2,7 @@
 use Rattle.std.proofs.Common.{◌≡◌, take}
 use Rattle.std.specs.List.{flat_map}
 use Rattle.trace_text.specs.Streams.{Appends}
-use Rattle.trace_text.specs.Texts.{entry_line}
+use Rattle.trace_text.specs.RunTexts.{entry_line}
 use Rattle.trace_text.proofs.printing.write_log.Given as goal
 
 abbrev pub invariant-loop-entry : goal.invariant-loop-entry

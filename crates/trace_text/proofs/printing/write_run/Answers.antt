@@ -2,7 +2,7 @@ use Rattle.std.proofs.Common.{◌≡◌, ◌<◌, ◌≤◌, ◌∙◌, ap, subs
 use Rattle.std.specs.List.{flat_map}
 use Rattle.std.proofs.lemmas.Result.{on_ok_weaker, on_err_weaker}
 use Rattle.trace_text.specs.Streams.{Appends, AppendsPrefix}
-use Rattle.trace_text.specs.Texts.{entry_line, totals_line}
+use Rattle.trace_text.specs.RunTexts.{entry_line, totals_line}
 use Rattle.trace_text.proofs.AppendedTexts.{appends_in_turn, front_in_turn, front_longer, at_err, lines_front, lines_whole}
 use Rattle.trace_text.proofs.printing.write_run.Given.{Over}
 use Rattle.trace_text.proofs.printing.write_run.Goals as goal

@@ -1,5 +1,5 @@
 use Rattle.std.proofs.Common.{◌*◌}
-use Rattle.never_heap.proofs.PartLogs.{replies}
+use Rattle.never_heap.proofs.Lemmas.{replies}
 use Rattle.array_tables.specs.number_rings.Rings.{recalled}
 use Rattle.array_tables.proofs.number_rings.TracesSoFar.{told_none, told_more}
 use Rattle.array_tables.proofs.number_rings.recalling.recalled_numbers.Goals as goal

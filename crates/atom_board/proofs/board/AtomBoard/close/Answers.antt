@@ -1,6 +1,6 @@
 use Rattle.std.proofs.Common.{ap}
 use Rattle.atom_board.specs.Mutators.{BoardState}
-use Rattle.atom_board.proofs.Orders.{ordered_each, ordered_done, ordered_logs, ordered_counted}
+use Rattle.atom_board.proofs.MutatorsInOrder.{ordered_each, ordered_done, ordered_logs, ordered_counted}
 use Rattle.atom_board.proofs.board.AtomBoard.close.Goals as goal
 
 pub close_in_order-requires-clause-mutators : goal.close_in_order-requires-clause-mutators

@@ -3,7 +3,7 @@ use Rattle.block_store.specs.declared.PhaseWord.{PhaseWord}
 use Rattle.heap_system.specs.Locals.{LocalState}
 use Rattle.atom_board.specs.declared.rules.View.{View}
 use Rattle.atom_board.specs.Mutators.{BoardState, MutatorState, held_of, local_of, log_of}
-use Rattle.atom_board.proofs.Crews.{map_map, own_of, closes}
+use Rattle.atom_board.proofs.AllMutators.{map_map, own_of, closes}
 use Rattle.atom_board.proofs.Endings.{cycle_is}
 use Rattle.atom_board.proofs.board.AtomBoard.close_in_order.Goals as goal
 

@@ -6,7 +6,7 @@ use Rattle.block_store.specs.Places.{extent, words_count}
 use Rattle.std.proofs.Common.{get_or, ◌<◌}
 use Rattle.atom_board.specs.LoneTurns.{EndsAlone}
 use Rattle.atom_board.specs.Mutators.{BoardState, start_mutator}
-use Rattle.atom_board.proofs.Crews.{start_few, opens_of, in_order_of, fresh_of, start_words}
+use Rattle.atom_board.proofs.AllMutators.{start_few, opens_of, in_order_of, fresh_of, start_words}
 use Rattle.atom_board.proofs.board.AtomBoard.new.Goals as goal
 
 abbrev items_of : Vec Command Global → List Command

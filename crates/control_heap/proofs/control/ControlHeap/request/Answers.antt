@@ -7,7 +7,7 @@ use Rattle.never_heap.specs.Bounds.{IsCommandInBounds}
 use Rattle.heap_machine.specs.Memories.{Acts}
 use Rattle.heap_system.specs.ThreadMemories.{Ran}
 use Rattle.heap_system.specs.Locals.{LocalState, begun}
-use Rattle.heap_system.proofs.TurnFacts.{rest_is}
+use Rattle.heap_system.proofs.Lemmas.{rest_is}
 use Rattle.block_store.specs.declared.Config.{Config}
 use Rattle.heap_system.specs.Machines.{Run}
 use Rattle.never_heap.specs.declared.Reply.{Reply}
@@ -61,7 +61,7 @@ returns-clause-one_more g c =
     more_asked h c.self.invariant.0 c.self.invariant.1 c.args.command (fits h c.args.self.now c.args.command c.self.view_is c.requires.bounds) (room h c.args.self.now c.args.command c.self.view_is c.requires.left) z n (served h c.args.command (begun c.args.command h.thread) z refl c.serve.ensures.served)
     ∙ ap (λ x. asked x + 1) c.self.view_is
 
--- stands for no entry
+-- represents no entry
 abbrev none : Entry
 none = record { thread = 0; command = commands.New 0 0; reply = replies.New (record { thread = 0; serial = 0 }); work = 0 }
 

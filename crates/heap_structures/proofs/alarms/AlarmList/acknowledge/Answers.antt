@@ -1,8 +1,8 @@
 use Rattle.std.proofs.Common.{◌+◌, ◌^◌, subst, arith}
 use Rattle.std.proofs.lemmas.Bool.{ltb-true}
 use Rattle.heap_structures.specs.Alarms.{Finds}
-use Rattle.heap_structures.proofs.Answered.{room_less}
-use Rattle.heap_structures.proofs.AlarmCalls.{found_place, found_ready, not_acknowledged, walk_room, written}
+use Rattle.heap_structures.proofs.cell_arrays.Answered.{room_less}
+use Rattle.heap_structures.proofs.alarm_lists.AlarmCalls.{found_place, found_ready, not_acknowledged, walk_room, written}
 use Rattle.heap_structures.proofs.alarms.AlarmList.acknowledge.Goals as goal
 
 pub returns-in_err-place : goal.returns-in_err-place

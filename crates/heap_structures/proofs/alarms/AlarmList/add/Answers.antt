@@ -1,5 +1,5 @@
 use Rattle.std.proofs.Common.{refl, arith}
-use Rattle.heap_structures.proofs.AlarmCalls.{add_low, added}
+use Rattle.heap_structures.proofs.alarm_lists.AlarmCalls.{add_low, added}
 use Rattle.heap_structures.proofs.alarms.AlarmList.add.Goals as goal
 
 pub returns-in_err-write-clause-adds : goal.returns-in_err-write-clause-adds

@@ -1,7 +1,7 @@
 use Rattle.std.proofs.Common.{◌+◌, ◌*◌, refl, subst, arith}
 use Rattle.heap_structures.specs.Alarms.{Finds}
-use Rattle.heap_structures.proofs.Answered.{room_less}
-use Rattle.heap_structures.proofs.AlarmCalls.{close_room, closes, not_cleared, walk_room}
+use Rattle.heap_structures.proofs.cell_arrays.Answered.{room_less}
+use Rattle.heap_structures.proofs.alarm_lists.AlarmCalls.{close_room, closes, not_cleared, walk_room}
 use Rattle.heap_structures.proofs.alarms.AlarmList.clear.Goals as goal
 
 pub returns-in_err-place-clause-shows : goal.returns-in_err-place-clause-shows

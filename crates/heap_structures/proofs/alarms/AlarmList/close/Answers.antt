@@ -1,6 +1,6 @@
 use Rattle.std.proofs.Common.{◌+◌, ◌-◌, ◌*◌, ◌≤◌, Err, Ok, arith}
-use Rattle.heap_structures.proofs.Answered.{room_less}
-use Rattle.heap_structures.proofs.AlarmMoves.{closed, moved, size_over}
+use Rattle.heap_structures.proofs.cell_arrays.Answered.{room_less}
+use Rattle.heap_structures.proofs.alarm_lists.AlarmMoves.{closed, moved, size_over}
 use Rattle.heap_structures.proofs.alarms.AlarmList.close.Goals as goal
 
 pub returns-in_err-copy : goal.returns-in_err-copy

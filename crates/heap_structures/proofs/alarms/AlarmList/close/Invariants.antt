@@ -1,11 +1,11 @@
--- The values behind the place have moved up as far as this one.
+-- The values after the place have moved up as far as this one.
 use Rattle.std.proofs.Common.{◌-◌, ◌*◌, List}
 use Rattle.block_store.specs.declared.Value.{Value}
 use Rattle.never_heap.specs.Graphs.{Graph}
 use Rattle.heap_structures.specs.Alarms.{Shows}
 use Rattle.heap_structures.specs.Heaps.{Has, HasRoom, Sight}
 use Rattle.heap_structures.specs.Rings.{IsRound}
-use Rattle.heap_structures.proofs.AlarmMoves.{IsMoved}
+use Rattle.heap_structures.proofs.alarm_lists.AlarmMoves.{IsMoved}
 use Rattle.heap_structures.proofs.alarms.AlarmList.close.Given as goal
 
 abbrev pub invariant-loop-to : goal.invariant-loop-to

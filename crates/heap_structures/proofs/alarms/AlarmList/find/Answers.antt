@@ -1,9 +1,9 @@
 use Rattle.std.proofs.Common.{◌+◌, ◌<◌, Ok, Err, length, map, slice_index_or, sym, ◌∙◌, arith}
 use Rattle.std.proofs.lemmas.List.{length-map}
 use Rattle.heap_structures.specs.Alarms.{value_of}
-use Rattle.heap_structures.proofs.Answered.{room_less}
-use Rattle.heap_structures.proofs.AlarmLists.{found_here, none, not_at_all, not_here, value_at}
-use Rattle.heap_structures.proofs.AlarmMoves.{loaded, shows_as}
+use Rattle.heap_structures.proofs.cell_arrays.Answered.{room_less}
+use Rattle.heap_structures.proofs.alarm_lists.AlarmLists.{found_here, none, not_at_all, not_here, value_at}
+use Rattle.heap_structures.proofs.alarm_lists.AlarmMoves.{loaded, shows_as}
 use Rattle.heap_structures.proofs.alarms.AlarmList.find.Goals as goal
 
 pub returns-in_err-value-clause-finds : goal.returns-in_err-value-clause-finds

@@ -1,9 +1,9 @@
 use Rattle.std.proofs.Common.{◌<◌, Ok, Err, length, map, slice_index_or, sym, ◌∙◌, arith}
 use Rattle.std.proofs.lemmas.List.{length-map}
 use Rattle.heap_structures.specs.Alarms.{IsAlarms, value_of}
-use Rattle.heap_structures.proofs.AlarmLists.{alarm_past, alarm_there, none, value_at}
-use Rattle.heap_structures.proofs.AlarmMoves.{loaded, shows_as}
-use Rattle.heap_structures.proofs.Rounds.{does_none}
+use Rattle.heap_structures.proofs.alarm_lists.AlarmLists.{alarm_past, alarm_there, none, value_at}
+use Rattle.heap_structures.proofs.alarm_lists.AlarmMoves.{loaded, shows_as}
+use Rattle.heap_structures.proofs.rings.Rounds.{does_none}
 use Rattle.heap_structures.proofs.alarms.AlarmList.get.Goals as goal
 
 pub returns-then-i-self : goal.returns-then-i-self

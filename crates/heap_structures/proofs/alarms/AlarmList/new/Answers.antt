@@ -1,5 +1,5 @@
-use Rattle.heap_structures.proofs.Opening.{opens_as}
-use Rattle.heap_structures.proofs.Rounds.{round_new}
+use Rattle.heap_structures.proofs.cell_arrays.Opening.{opens_as}
+use Rattle.heap_structures.proofs.rings.Rounds.{round_new}
 use Rattle.heap_structures.proofs.alarms.AlarmList.new.Goals as goal
 
 pub returns-clause-opens : goal.returns-clause-opens

@@ -1,7 +1,7 @@
 use Rattle.std.proofs.Common.{◌+◌, subst, arith}
 use Rattle.heap_structures.specs.Alarms.{Finds}
-use Rattle.heap_structures.proofs.Answered.{room_less}
-use Rattle.heap_structures.proofs.AlarmCalls.{add_room, raises, still_stands, walk_room}
+use Rattle.heap_structures.proofs.cell_arrays.Answered.{room_less}
+use Rattle.heap_structures.proofs.alarm_lists.AlarmCalls.{add_room, raises, still_stands, walk_room}
 use Rattle.heap_structures.proofs.alarms.AlarmList.raise.Goals as goal
 
 pub returns-in_err-find-clause-shows : goal.returns-in_err-find-clause-shows

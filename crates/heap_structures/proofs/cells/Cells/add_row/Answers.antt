@@ -3,10 +3,10 @@ use Rattle.block_store.specs.declared.Value.TheVariants.{Int}
 use Rattle.heap_structures.specs.Cells.{IsCells}
 use Rattle.heap_structures.specs.Heaps.{Does}
 use Rattle.heap_structures.specs.Tables.{IsRaised}
-use Rattle.heap_structures.proofs.Answered.{ok_map}
-use Rattle.heap_structures.proofs.Chained.{ready_less}
-use Rattle.heap_structures.proofs.TableCalls.{ready_of, ready_then, row_in}
-use Rattle.heap_structures.proofs.TableChains.{row_added}
+use Rattle.heap_structures.proofs.cell_arrays.Answered.{ok_map}
+use Rattle.heap_structures.proofs.cell_arrays.Chained.{ready_less}
+use Rattle.heap_structures.proofs.tables.TableCalls.{ready_of, ready_then, row_in}
+use Rattle.heap_structures.proofs.tables.TableChains.{row_added}
 use Rattle.heap_structures.proofs.cells.Cells.add_row.Goals as goal
 
 pub returns-in_err-move_up : goal.returns-in_err-move_up

@@ -1,6 +1,6 @@
 use Rattle.std.proofs.Common.{◌+◌, ◌∷◌, [], arith}
 use Rattle.heap_structures.specs.Tables.{IsTable, digits}
-use Rattle.heap_structures.proofs.TableCalls.{found_end, found_none, found_row, stocked_less, stocked_then}
+use Rattle.heap_structures.proofs.tables.TableCalls.{found_end, found_none, found_row, stocked_less, stocked_then}
 use Rattle.heap_structures.proofs.cells.Cells.find.Goals as goal
 
 pub returns-in_err-row-clause-finds : goal.returns-in_err-row-clause-finds

@@ -1,5 +1,5 @@
 use Rattle.std.proofs.Common.{◌*◌, arith}
-use Rattle.heap_structures.proofs.TableCalls.{key_read, place_low, ready_of}
+use Rattle.heap_structures.proofs.tables.TableCalls.{key_read, place_low, ready_of}
 use Rattle.heap_structures.proofs.cells.Cells.key_at.Goals as goal
 
 pub returns : goal.returns

@@ -1,6 +1,6 @@
 use Rattle.std.proofs.Common.{◌+◌, ◌*◌, arith}
-use Rattle.heap_structures.proofs.Answered.{ok_map}
-use Rattle.heap_structures.proofs.TableCalls.{place_low, ready_of, value_read}
+use Rattle.heap_structures.proofs.cell_arrays.Answered.{ok_map}
+use Rattle.heap_structures.proofs.tables.TableCalls.{place_low, ready_of, value_read}
 use Rattle.heap_structures.proofs.cells.Cells.load.Goals as goal
 
 pub returns : goal.returns

@@ -3,9 +3,9 @@ use Rattle.block_store.specs.declared.Value.TheVariants.{Nil}
 use Rattle.heap_structures.specs.Cells.{IsCells}
 use Rattle.heap_structures.specs.Heaps.{Does}
 use Rattle.heap_structures.specs.Tables.{IsLowered}
-use Rattle.heap_structures.proofs.Rounds.{does_none}
-use Rattle.heap_structures.proofs.TableCalls.{does_then, ready_then}
-use Rattle.heap_structures.proofs.TableChains.{lowered_more, lowered_none}
+use Rattle.heap_structures.proofs.rings.Rounds.{does_none}
+use Rattle.heap_structures.proofs.tables.TableCalls.{does_then, ready_then}
+use Rattle.heap_structures.proofs.tables.TableChains.{lowered_more, lowered_none}
 use Rattle.heap_structures.proofs.cells.Cells.move_down.Goals as goal
 
 pub loop-place-init : goal.loop-place-init

@@ -3,9 +3,9 @@ use Rattle.block_store.specs.declared.Value.TheVariants.{Nil}
 use Rattle.heap_structures.specs.Cells.{IsCells}
 use Rattle.heap_structures.specs.Heaps.{Does}
 use Rattle.heap_structures.specs.Tables.{IsRaised}
-use Rattle.heap_structures.proofs.Rounds.{does_none}
-use Rattle.heap_structures.proofs.TableCalls.{does_then, ready_then}
-use Rattle.heap_structures.proofs.TableChains.{raised_more, raised_none}
+use Rattle.heap_structures.proofs.rings.Rounds.{does_none}
+use Rattle.heap_structures.proofs.tables.TableCalls.{does_then, ready_then}
+use Rattle.heap_structures.proofs.tables.TableChains.{raised_more, raised_none}
 use Rattle.heap_structures.proofs.cells.Cells.move_up.Goals as goal
 
 pub loop-place-init : goal.loop-place-init

@@ -1,5 +1,5 @@
 use Rattle.std.proofs.Common.{◌+◌, ◌-◌, ◌/◌, refl, arith}
-use Rattle.heap_structures.proofs.TableChains.{goes_down, goes_up, halving_ends, halving_goes, halving_starts}
+use Rattle.heap_structures.proofs.tables.TableChains.{goes_down, goes_up, halving_ends, halving_goes, halving_starts}
 use Rattle.heap_structures.proofs.cells.Cells.rank.Goals as goal
 
 pub loop-low-init : goal.loop-low-init

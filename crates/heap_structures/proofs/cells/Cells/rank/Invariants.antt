@@ -3,7 +3,7 @@ use Rattle.never_heap.specs.Graphs.{Graph}
 use Rattle.heap_structures.specs.Heaps.{Sight}
 use Rattle.heap_structures.specs.Pairs.{Pair}
 use Rattle.heap_structures.specs.Tables.{IsStocked, digits}
-use Rattle.heap_structures.proofs.TableChains.{IsHalving}
+use Rattle.heap_structures.proofs.tables.TableChains.{IsHalving}
 use Rattle.heap_structures.proofs.cells.Cells.rank.Given as goal
 
 abbrev pub invariant-loop-low : goal.invariant-loop-low

@@ -2,10 +2,10 @@ use Rattle.std.proofs.Common.{◌+◌, ◌*◌, ◌-◌, ◌∷◌, [], refl, sl
 use Rattle.block_store.specs.declared.Value.TheVariants.{Nil}
 use Rattle.heap_structures.specs.Cells.{IsCells}
 use Rattle.heap_structures.specs.Tables.{IsLowered}
-use Rattle.heap_structures.proofs.Answered.{ok_map}
-use Rattle.heap_structures.proofs.Chained.{ready_less}
-use Rattle.heap_structures.proofs.TableCalls.{ready_of, ready_then, row_of}
-use Rattle.heap_structures.proofs.TableChains.{row_removed}
+use Rattle.heap_structures.proofs.cell_arrays.Answered.{ok_map}
+use Rattle.heap_structures.proofs.cell_arrays.Chained.{ready_less}
+use Rattle.heap_structures.proofs.tables.TableCalls.{ready_of, ready_then, row_of}
+use Rattle.heap_structures.proofs.tables.TableChains.{row_removed}
 use Rattle.heap_structures.proofs.cells.Cells.remove_row.Goals as goal
 
 pub returns-in_err-move_down : goal.returns-in_err-move_down

@@ -1,6 +1,6 @@
 use Rattle.std.proofs.Common.{◌+◌, ◌*◌, ◌∷◌, [], arith}
-use Rattle.heap_structures.proofs.TableCalls.{place_low, ready_of, ready_then, row_of}
-use Rattle.heap_structures.proofs.TableChains.{row_replaced}
+use Rattle.heap_structures.proofs.tables.TableCalls.{place_low, ready_of, ready_then, row_of}
+use Rattle.heap_structures.proofs.tables.TableChains.{row_replaced}
 use Rattle.heap_structures.proofs.cells.Cells.replace.Goals as goal
 
 pub returns-in_err-put : goal.returns-in_err-put

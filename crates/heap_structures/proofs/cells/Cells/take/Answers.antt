@@ -1,7 +1,7 @@
 use Rattle.std.proofs.Common.{slice_index_or, Ok, [], ◌∷◌, arith}
 use Rattle.block_store.specs.declared.Value.TheVariants.{Nil}
 use Rattle.control_heap.specs.declared.faults.Fault.{Fault}
-use Rattle.heap_structures.proofs.Chained.{ready_less, ready_next, taken}
+use Rattle.heap_structures.proofs.cell_arrays.Chained.{ready_less, ready_next, taken}
 use Rattle.heap_structures.proofs.cells.Cells.take.Goals as goal
 
 pub returns : goal.returns

@@ -1,6 +1,6 @@
 use Rattle.std.proofs.Common.{arith}
 use Rattle.block_store.specs.declared.Value.TheVariants.{Int}
-use Rattle.heap_structures.proofs.Chained.{ready_less, stored_spare}
+use Rattle.heap_structures.proofs.cell_arrays.Chained.{ready_less, stored_spare}
 use Rattle.heap_structures.proofs.cells.Cells.write.Goals as goal
 
 pub returns : goal.returns

@@ -1,8 +1,8 @@
 use Rattle.std.proofs.Common.{◌+◌, ◌∷◌, [], subst, arith}
 use Rattle.heap_structures.specs.Heaps.{Does}
 use Rattle.heap_structures.specs.Tables.{Finds, IsTable, digits}
-use Rattle.heap_structures.proofs.MapCalls.{map_stocked, get_found, get_none}
-use Rattle.heap_structures.proofs.TableCalls.{row_of, stocked_then}
+use Rattle.heap_structures.proofs.maps.MapCalls.{map_stocked, get_found, get_none}
+use Rattle.heap_structures.proofs.tables.TableCalls.{row_of, stocked_then}
 use Rattle.heap_structures.proofs.map.Map.get.Goals as goal
 
 pub returns-in_err-place : goal.returns-in_err-place

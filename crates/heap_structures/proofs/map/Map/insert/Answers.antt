@@ -1,8 +1,8 @@
 use Rattle.std.proofs.Common.{◌+◌, ◌*◌, ◌∷◌, [], subst, arith}
 use Rattle.heap_structures.specs.Heaps.{Does}
 use Rattle.heap_structures.specs.Tables.{Finds, IsTable, digits}
-use Rattle.heap_structures.proofs.MapCalls.{map_stocked, insert_full, insert_new, insert_old}
-use Rattle.heap_structures.proofs.TableCalls.{stocked_then}
+use Rattle.heap_structures.proofs.maps.MapCalls.{map_stocked, insert_full, insert_new, insert_old}
+use Rattle.heap_structures.proofs.tables.TableCalls.{stocked_then}
 use Rattle.heap_structures.proofs.map.Map.insert.Goals as goal
 
 pub returns-in_err-place-clause-shows : goal.returns-in_err-place-clause-shows

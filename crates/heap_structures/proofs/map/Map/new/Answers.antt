@@ -1,6 +1,6 @@
 use Rattle.std.proofs.Common.{◌*◌}
-use Rattle.heap_structures.proofs.Opening.{opens_as}
-use Rattle.heap_structures.proofs.TableChains.{table_new}
+use Rattle.heap_structures.proofs.cell_arrays.Opening.{opens_as}
+use Rattle.heap_structures.proofs.tables.TableChains.{table_new}
 use Rattle.heap_structures.proofs.map.Map.new.Goals as goal
 
 pub returns-clause-opens : goal.returns-clause-opens

@@ -1,7 +1,7 @@
 use Rattle.std.proofs.Common.{◌<◌, ◌∷◌, [], arith}
 use Rattle.heap_structures.specs.Tables.{IsTable}
-use Rattle.heap_structures.proofs.MapCalls.{map_stocked, nth_found}
-use Rattle.heap_structures.proofs.TableCalls.{stocked_then}
+use Rattle.heap_structures.proofs.maps.MapCalls.{map_stocked, nth_found}
+use Rattle.heap_structures.proofs.tables.TableCalls.{stocked_then}
 use Rattle.heap_structures.proofs.map.Map.nth.Goals as goal
 
 pub returns-in_err-key : goal.returns-in_err-key

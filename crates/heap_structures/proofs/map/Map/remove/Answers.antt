@@ -2,8 +2,8 @@ use Rattle.std.proofs.Common.{◌+◌, ◌*◌, ◌≡◌, ◌∷◌, [], subst,
 use Rattle.heap_structures.specs.Cells.{held}
 use Rattle.heap_structures.specs.Heaps.{Does}
 use Rattle.heap_structures.specs.Tables.{Finds, IsTable, digits}
-use Rattle.heap_structures.proofs.MapCalls.{map_stocked, remove_found, remove_none}
-use Rattle.heap_structures.proofs.TableCalls.{row_of, stocked_less, stocked_then}
+use Rattle.heap_structures.proofs.maps.MapCalls.{map_stocked, remove_found, remove_none}
+use Rattle.heap_structures.proofs.tables.TableCalls.{row_of, stocked_less, stocked_then}
 use Rattle.heap_structures.proofs.map.Map.remove.Goals as goal
 
 pub returns-in_err-place-clause-shows : goal.returns-in_err-place-clause-shows

@@ -1,5 +1,5 @@
 use Rattle.std.proofs.Common.{◌<◌, length, sym, subst, arith}
-use Rattle.heap_structures.proofs.Rounds.{first_low, popped, round_ready}
+use Rattle.heap_structures.proofs.rings.Rounds.{first_low, popped, round_ready}
 use Rattle.heap_structures.proofs.queue.Queue.pop.Goals as goal
 
 pub returns-clause-shows : goal.returns-clause-shows

@@ -2,8 +2,8 @@ use Rattle.std.proofs.Common.{◌+◌, ◌<◌, ◌++◌, ◌∷◌, [], length,
 use Rattle.std.proofs.lemmas.Bool.{ltb-true}
 use Rattle.heap_structures.specs.Cells.{held}
 use Rattle.heap_structures.specs.Rings.{IsRound}
-use Rattle.heap_structures.proofs.Chained.{does_wider}
-use Rattle.heap_structures.proofs.Rounds.{put_more, place_low, round_ready}
+use Rattle.heap_structures.proofs.cell_arrays.Chained.{does_wider}
+use Rattle.heap_structures.proofs.rings.Rounds.{put_more, place_low, round_ready}
 use Rattle.heap_structures.proofs.queue.Queue.push.Goals as goal
 
 pub returns-clause-shows : goal.returns-clause-shows

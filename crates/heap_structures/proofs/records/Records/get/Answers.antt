@@ -1,8 +1,8 @@
 use Rattle.std.proofs.Common.{map, Some, Ok, Err, sym, subst, arith}
 use Rattle.block_store.specs.declared.Value.TheVariants.{Ref}
-use Rattle.heap_structures.proofs.Answered.{room_less}
-use Rattle.heap_structures.proofs.NumberRings.{Got, got_none, got_number, is_target}
-use Rattle.heap_structures.proofs.Rounds.{not_stopped}
+use Rattle.heap_structures.proofs.cell_arrays.Answered.{room_less}
+use Rattle.heap_structures.proofs.rings.NumberRings.{Got, got_none, got_number, is_target}
+use Rattle.heap_structures.proofs.rings.Rounds.{not_stopped}
 use Rattle.heap_structures.proofs.records.Records.get.Goals as goal
 
 pub returns-in_err-get : goal.returns-in_err-get
@@ -28,7 +28,7 @@ returns-in_err-value c s g ns has is =
     absurd (got_number s c.args.heap.now c.get.new.heap g c.args.self.now ns is c.args.d c.args.i
     may.0 may.2 c.in_ok-get.field-0 (c.in_ok-get.ensures s g (map Ref is.names) has is.ring)
     c.quiet_commands_keep_graphs.ensures room.1 c.in-Some.field-0 c.in-Some.is c.get-2.new.self _
-    (Err c.in_err-value.field-0.0) c.in_err-value.ensures.config c.in_err-value.ensures.told)
+    (Err c.in_err-value.field-0.0) c.in_err-value.ensures.config c.in_err-value.ensures.returned)
 
 pub returns : goal.returns
 returns c s g ns has is =
@@ -39,6 +39,6 @@ returns c s g ns has is =
     let t = got_number s c.args.heap.now c.get.new.heap g c.args.self.now ns is c.args.d c.args.i
     may.0 may.2 v e c.quiet_commands_keep_graphs.ensures room.1 c.in-Some.field-0 c.in-Some.is
     c.get-2.new.self _ (Ok c.in_ok-value.value) c.in_ok-value.ensures.config
-    c.in_ok-value.ensures.told in
+    c.in_ok-value.ensures.returned in
     subst (λ n. Got s c.args.heap.now c.get.new.heap g c.args.self.now ns is c.args.d c.args.i may.0
     may.2 v e c.get-2.new.self (Some n)) (sym (c.number_in.ensures t.0 t.1 t.2)) t.3

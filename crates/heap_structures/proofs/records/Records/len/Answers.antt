@@ -1,7 +1,7 @@
 use Rattle.std.proofs.Common.{◌∙◌}
 use Rattle.std.proofs.lemmas.List.{length-map}
 use Rattle.block_store.specs.declared.Value.TheVariants.{Ref}
-use Rattle.heap_structures.proofs.NumberRings.{numbers_long}
+use Rattle.heap_structures.proofs.rings.NumberRings.{numbers_long}
 use Rattle.heap_structures.proofs.records.Records.len.Goals as goal
 
 pub returns : goal.returns

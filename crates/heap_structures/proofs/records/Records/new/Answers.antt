@@ -1,5 +1,5 @@
 use Rattle.std.proofs.Common.{[]}
-use Rattle.heap_structures.proofs.Opening.{opens_as}
+use Rattle.heap_structures.proofs.cell_arrays.Opening.{opens_as}
 use Rattle.heap_structures.proofs.records.Records.new.Goals as goal
 
 pub returns-clause-opens : goal.returns-clause-opens

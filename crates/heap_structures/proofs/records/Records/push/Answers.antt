@@ -3,8 +3,8 @@ use Rattle.block_store.specs.declared.Value.TheVariants.{Nil, Ref}
 use Rattle.heap_structures.specs.Circles.{last_of}
 use Rattle.heap_structures.specs.declared.records.Records.{Records}
 use Rattle.heap_structures.specs.Records.{Grows, IsRecords, NotPushed}
-use Rattle.heap_structures.proofs.Chained.{from_err, ready_less, ready_next}
-use Rattle.heap_structures.proofs.NumberRings.{box, box_made, not_made, pushed, ring_there, small_box}
+use Rattle.heap_structures.proofs.cell_arrays.Chained.{from_err, ready_less, ready_next}
+use Rattle.heap_structures.proofs.rings.NumberRings.{box, box_made, not_made, pushed, ring_there, small_box}
 use Rattle.heap_structures.proofs.records.Records.push.Goals as goal
 
 pub returns-in_err-array-clause-shows : goal.returns-in_err-array-clause-shows

@@ -1,6 +1,6 @@
 use Rattle.std.proofs.Common.{map}
 use Rattle.block_store.specs.declared.Value.TheVariants.{Ref}
-use Rattle.heap_structures.proofs.NumberRings.{records_again}
+use Rattle.heap_structures.proofs.rings.NumberRings.{records_again}
 use Rattle.heap_structures.proofs.records.Records.renewed.Goals as goal
 
 pub returns-clause-shows : goal.returns-clause-shows

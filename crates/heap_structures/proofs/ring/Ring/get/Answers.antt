@@ -1,5 +1,5 @@
 use Rattle.std.proofs.Common.{◌<◌, length, sym, subst, arith}
-use Rattle.heap_structures.proofs.Rounds.{at_low, fetched, round_ready}
+use Rattle.heap_structures.proofs.rings.Rounds.{at_low, fetched, round_ready}
 use Rattle.heap_structures.proofs.ring.Ring.get.Goals as goal
 
 pub returns : goal.returns

@@ -1,7 +1,7 @@
 use Rattle.std.proofs.Common.{◌<◌, length, sym, subst}
 use Rattle.std.proofs.lemmas.Bool.{ltb-true}
 use Rattle.heap_structures.specs.Cells.{held}
-use Rattle.heap_structures.proofs.Rounds.{last_full, last_more, place_low, round_ready}
+use Rattle.heap_structures.proofs.rings.Rounds.{last_full, last_more, place_low, round_ready}
 use Rattle.heap_structures.proofs.ring.Ring.push.Goals as goal
 
 pub returns-then-self-clause-shows : goal.returns-then-self-clause-shows

@@ -1,7 +1,7 @@
 use Rattle.std.proofs.Common.{◌∙◌}
 use Rattle.heap_structures.specs.Heaps.{Always}
-use Rattle.heap_structures.proofs.Chained.{from_err}
-use Rattle.heap_structures.proofs.TrendCalls.{reads, stopped}
+use Rattle.heap_structures.proofs.cell_arrays.Chained.{from_err}
+use Rattle.heap_structures.proofs.trends.TrendCalls.{reads, stopped}
 use Rattle.heap_structures.proofs.trend.Trend.alarm.Goals as goal
 
 pub returns-in_err-alarm : goal.returns-in_err-alarm

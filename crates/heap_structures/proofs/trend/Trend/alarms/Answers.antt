@@ -1,6 +1,6 @@
 use Rattle.std.proofs.Common.{◌∙◌, ◌-◌, length}
 use Rattle.heap_structures.specs.Circles.{last_of}
-use Rattle.heap_structures.proofs.TrendLists.{alarms_counted}
+use Rattle.heap_structures.proofs.trends.TrendLists.{alarms_counted}
 use Rattle.heap_structures.proofs.trend.Trend.alarms.Goals as goal
 
 pub returns : goal.returns

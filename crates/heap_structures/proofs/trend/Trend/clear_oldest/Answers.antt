@@ -3,7 +3,7 @@ use Rattle.std.proofs.lemmas.Bool.{le-ltb}
 use Rattle.heap_structures.specs.Heaps.{Always}
 use Rattle.heap_structures.specs.Trends.{Lays, LeavesRoom}
 use Rattle.heap_structures.specs.declared.trend.Trend.{Trend}
-use Rattle.heap_structures.proofs.TrendHeaps.{cleared_one, kept}
+use Rattle.heap_structures.proofs.trends.TrendHeaps.{cleared_one, kept}
 use Rattle.heap_structures.proofs.trend.Trend.clear_oldest.Goals as goal
 
 pub returns-then-self-size-clause-lays : goal.returns-then-self-size-clause-lays

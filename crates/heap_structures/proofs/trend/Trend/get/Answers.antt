@@ -1,7 +1,7 @@
 use Rattle.heap_structures.specs.Circles.{last_of}
 use Rattle.heap_structures.specs.Heaps.{Always}
 use Rattle.heap_structures.specs.Trends.{values_in}
-use Rattle.heap_structures.proofs.TrendCalls.{gets}
+use Rattle.heap_structures.proofs.trends.TrendCalls.{gets}
 use Rattle.heap_structures.proofs.trend.Trend.get.Goals as goal
 
 pub returns : goal.returns

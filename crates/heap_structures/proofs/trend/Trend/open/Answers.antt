@@ -1,6 +1,6 @@
 use Rattle.std.proofs.Common.{◌∙◌, arith}
 use Rattle.heap_structures.specs.Heaps.{Always}
-use Rattle.heap_structures.proofs.TrendOpens.{first_may, g0, made_few, next_may, opens, start_small, started}
+use Rattle.heap_structures.proofs.trends.TrendOpens.{first_may, g0, made_few, next_may, opens, start_small, started}
 use Rattle.heap_structures.proofs.trend.Trend.open.Goals as goal
 
 pub unreachable-requires : goal.unreachable-requires

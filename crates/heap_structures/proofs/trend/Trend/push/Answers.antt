@@ -1,10 +1,10 @@
 use Rattle.std.proofs.Common.{inr, ◌≡◌, ◌+◌, ◌*◌, ◌∙◌, ap, arith}
 use Rattle.heap_structures.specs.Alarms.{stands}
-use Rattle.heap_structures.proofs.Answered.{room_less}
-use Rattle.heap_structures.proofs.Chained.{from_err}
-use Rattle.heap_structures.proofs.TrendCalls.{low, one_more, room_asked, some}
-use Rattle.heap_structures.proofs.TrendHeaps.{state}
-use Rattle.heap_structures.proofs.TrendLists.{left, not_left, room_left}
+use Rattle.heap_structures.proofs.cell_arrays.Answered.{room_less}
+use Rattle.heap_structures.proofs.cell_arrays.Chained.{from_err}
+use Rattle.heap_structures.proofs.trends.TrendCalls.{low, one_more, room_asked, some}
+use Rattle.heap_structures.proofs.trends.TrendHeaps.{state}
+use Rattle.heap_structures.proofs.trends.TrendLists.{left, not_left, room_left}
 use Rattle.heap_structures.proofs.trend.Trend.push.Goals as goal
 
 pub returns-in_err-record : goal.returns-in_err-record

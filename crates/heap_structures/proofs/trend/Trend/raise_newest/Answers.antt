@@ -2,7 +2,7 @@ use Rattle.std.proofs.Common.{◌≡◌, ◌+◌, ◌++◌, Ok, Err, [], sym, su
 use Rattle.heap_structures.specs.Heaps.{Always}
 use Rattle.heap_structures.specs.Trends.{Lays, with_alarm}
 use Rattle.heap_structures.specs.declared.trend.Trend.{Trend}
-use Rattle.heap_structures.proofs.TrendHeaps.{raised}
+use Rattle.heap_structures.proofs.trends.TrendHeaps.{raised}
 use Rattle.heap_structures.proofs.trend.Trend.raise_newest.Goals as goal
 
 pub returns-in_err-raise-clause-lays : goal.returns-in_err-raise-clause-lays

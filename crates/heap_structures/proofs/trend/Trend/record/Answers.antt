@@ -1,5 +1,5 @@
 use Rattle.heap_structures.specs.Heaps.{Always}
-use Rattle.heap_structures.proofs.TrendHeaps.{recorded}
+use Rattle.heap_structures.proofs.trends.TrendHeaps.{recorded}
 use Rattle.heap_structures.proofs.trend.Trend.record.Goals as goal
 
 pub returns-clause-lays : goal.returns-clause-lays

@@ -5,7 +5,7 @@ use Rattle.never_heap.specs.RightWork.{units_owed}
 use Rattle.never_heap.specs.Steps.{blocks_of}
 use Rattle.work_account.specs.Accounts.{AccountState}
 use Rattle.heap_system.specs.Locals.{LocalState, owed, command_of, balance_over}
-use Rattle.heap_system.proofs.OwedAndPaid.{view_of, answered_with, next_price}
+use Rattle.heap_system.proofs.accounting.OwedAndPaid.{view_of, answered_with, next_price}
 use Rattle.heap_system.proofs.local.Local.answer_to.Goals as goal
 
 pub invariant_of-self : goal.invariant_of-self

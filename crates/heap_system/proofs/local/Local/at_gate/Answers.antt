@@ -1,7 +1,7 @@
 use Rattle.std.proofs.Common.{rules, sym, subst}
 use Rattle.heap_system.specs.Locals.{LocalState, IsLocal, PartReads}
-use Rattle.heap_system.proofs.OwedAndPaid.{view_of, turned_on, turns_on}
-use Rattle.heap_system.proofs.UnitMade.{turn_to}
+use Rattle.heap_system.proofs.accounting.OwedAndPaid.{view_of, turned_on, turns_on}
+use Rattle.heap_system.proofs.accounting.UnitMade.{turn_to}
 use Rattle.heap_system.proofs.local.Local.at_gate.Goals as goal
 
 pub invariant_of-self-else-is_last : goal.invariant_of-self-else-is_last

@@ -1,6 +1,6 @@
 use Rattle.std.proofs.Common.{[], refl, arith}
 use Rattle.heap_system.specs.ThreadMemories.{longest}
-use Rattle.heap_system.proofs.Runs.{leads_at, run_more}
+use Rattle.heap_system.proofs.work.EventsInARow.{leads_at, run_more}
 use Rattle.heap_system.proofs.local.Local.at_gate_once.Goals as goal
 
 pub at_gate-requires : goal.at_gate-requires

@@ -1,6 +1,6 @@
 use Rattle.std.proofs.Common.{◌∙◌, ap, subst, sym}
 use Rattle.block_store.specs.declared.PhaseWord.{PhaseWord}
-use Rattle.heap_system.proofs.AtOnce.{closed_run, entering_may, entering_run}
+use Rattle.heap_system.proofs.work.AtOnce.{closed_run, entering_may, entering_run}
 use Rattle.heap_system.proofs.local.Local.at_once.Goals as goal
 
 pub tries-requires-clause-may : goal.tries-requires-clause-may

@@ -4,7 +4,7 @@ use Rattle.never_heap.specs.RightWork.{units_owed}
 use Rattle.rate_plan.proofs.Rates.{rate_low}
 use Rattle.heap_system.specs.Lives.{objects_of, most_units, most_objects}
 use Rattle.heap_system.specs.Locals.{LocalState, is_rest, works}
-use Rattle.heap_system.proofs.OwedAndPaid.{view_of, begun_local, begun_with, begun_long, begun_price}
+use Rattle.heap_system.proofs.accounting.OwedAndPaid.{view_of, begun_local, begun_with, begun_long, begun_price}
 use Rattle.heap_system.proofs.local.Local.begin.Goals as goal
 
 pub invariant_of-self : goal.invariant_of-self

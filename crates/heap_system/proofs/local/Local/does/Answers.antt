@@ -2,7 +2,7 @@ use Rattle.std.proofs.Common.{ap, sym, ◌∙◌, subst, arith}
 use Rattle.heap_system.specs.ThreadMemories.{MayRun}
 use Rattle.heap_system.specs.AtOnce.{HasRunUpTo, come_to, inside_by}
 use Rattle.heap_system.specs.Locals.{LocalState, pass_by}
-use Rattle.heap_system.proofs.AtOnce.{inside_is, may_fewer, run_none}
+use Rattle.heap_system.proofs.work.AtOnce.{inside_is, may_fewer, run_none}
 use Rattle.heap_system.proofs.local.Local.does.Goals as goal
 
 pub first-requires-clause-may : goal.first-requires-clause-may

@@ -1,5 +1,5 @@
 use Rattle.std.proofs.Common.{sym, ◌∙◌}
-use Rattle.heap_system.proofs.AtOnce.{goes_out, stays_at}
+use Rattle.heap_system.proofs.work.AtOnce.{goes_out, stays_at}
 use Rattle.heap_system.proofs.local.Local.ends.Goals as goal
 
 pub returns-in-Some : goal.returns-in-Some

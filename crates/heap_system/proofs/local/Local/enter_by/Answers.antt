@@ -1,6 +1,6 @@
 use Rattle.std.proofs.Common.{◌∙◌, ap, refl, subst}
 use Rattle.heap_system.specs.Locals.{pass_by}
-use Rattle.heap_system.proofs.AtOnce.{gone_in, lost_run}
+use Rattle.heap_system.proofs.work.AtOnce.{gone_in, lost_run}
 use Rattle.heap_system.proofs.local.Local.enter_by.Goals as goal
 
 pub returns-then-word-seen-clause-inside : goal.returns-then-word-seen-clause-inside

@@ -1,4 +1,4 @@
-use Rattle.heap_system.proofs.Runs.{made_once, may_once}
+use Rattle.heap_system.proofs.work.EventsInARow.{made_once, may_once}
 use Rattle.heap_system.proofs.local.Local.event.Goals as goal
 
 pub marks-requires-clause-may : goal.marks-requires-clause-may

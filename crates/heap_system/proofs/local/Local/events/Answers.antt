@@ -1,5 +1,5 @@
 use Rattle.heap_system.specs.ThreadMemories.{longest}
-use Rattle.heap_system.proofs.Runs.{stands_may, stands_then}
+use Rattle.heap_system.proofs.work.EventsInARow.{stands_may, stands_then}
 use Rattle.heap_system.proofs.local.Local.events.Goals as goal
 
 pub run_whole-requires-clause-may : goal.run_whole-requires-clause-may

@@ -1,6 +1,6 @@
 use Rattle.std.proofs.Common.{refl, arith}
 use Rattle.barrier_steps.specs.declared.rows.FieldRow.{FieldRow}
-use Rattle.heap_system.proofs.AtOnce.{may_from, run_from}
+use Rattle.heap_system.proofs.work.AtOnce.{may_from, run_from}
 use Rattle.heap_system.proofs.local.Local.first.Goals as goal
 
 pub constant-requires-clause-may : goal.constant-requires-clause-may

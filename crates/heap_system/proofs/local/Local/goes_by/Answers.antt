@@ -1,6 +1,6 @@
 use Rattle.std.proofs.Common.{subst}
 use Rattle.heap_system.specs.Locals.{IsLocal}
-use Rattle.heap_system.proofs.AtOnce.{goes_by_pass}
+use Rattle.heap_system.proofs.work.AtOnce.{goes_by_pass}
 use Rattle.heap_system.proofs.local.Local.goes_by.Goals as goal
 
 pub returns-clause-goes : goal.returns-clause-goes

@@ -2,7 +2,7 @@ use Rattle.std.proofs.Common.{◌≡◌, ◌<◌, ◌-◌, ap, sym, ◌∙◌, a
 use Rattle.barrier_steps.proofs.Decisions.{first_undecided}
 use Rattle.work_account.specs.Accounts.{AccountState}
 use Rattle.heap_system.specs.Locals.{LocalState, command_of, owed, pass_by}
-use Rattle.heap_system.proofs.OwedAndPaid.{view_of, entered_local, begins_build, begins_serve, serial_low}
+use Rattle.heap_system.proofs.accounting.OwedAndPaid.{view_of, entered_local, begins_build, begins_serve, serial_low}
 use Rattle.heap_system.proofs.local.Local.goes_in.Goals as goal
 
 pub invariant_of-self-then-blocks-gt0 : goal.invariant_of-self-then-blocks-gt0

@@ -1,7 +1,7 @@
 use Rattle.std.proofs.Common.{refl, ap, arith}
 use Rattle.barrier_steps.specs.declared.rows.FieldRow.{FieldRow}
 use Rattle.barrier_steps.specs.declared.rows.Purpose.{Purpose}
-use Rattle.heap_system.proofs.AtOnce.{may_from, run_from}
+use Rattle.heap_system.proofs.work.AtOnce.{may_from, run_from}
 use Rattle.heap_system.proofs.local.Local.loads.Goals as goal
 
 pub object-requires-clause-may : goal.object-requires-clause-may

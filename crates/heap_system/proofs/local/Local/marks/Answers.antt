@@ -6,10 +6,10 @@ use Rattle.heap_system.specs.declared.Turn.TheVariants.{Went}
 use Rattle.heap_system.specs.Parts.{Mark}
 use Rattle.heap_system.specs.ThreadMemories.{HasRunIn, MayRun}
 use Rattle.heap_system.specs.Locals.{if_over, is_last}
-use Rattle.heap_system.proofs.OwedAndPaid.{part_of, view_of}
-use Rattle.heap_system.proofs.UnitMade.{units_few, spent_few, unit_owed, over_at, over_part, units_read}
-use Rattle.heap_system.proofs.Runs.{allowed, reads_well, leads_on, leads_at, going_in, none_made}
-use Rattle.heap_system.proofs.RunEvents.{mark_counted, mark_goes, begins, ends, goes, marks_owe}
+use Rattle.heap_system.proofs.accounting.OwedAndPaid.{part_of, view_of}
+use Rattle.heap_system.proofs.accounting.UnitMade.{units_few, spent_few, unit_owed, over_at, over_part, units_read}
+use Rattle.heap_system.proofs.work.EventsInARow.{allowed, reads_well, leads_on, leads_at, going_in, none_made}
+use Rattle.heap_system.proofs.work.RunEvents.{mark_counted, mark_goes, begins, ends, goes, marks_owe}
 use Rattle.heap_system.proofs.local.Local.marks.Goals as goal
 
 pub event-step-requires-clause-may : goal.event-step-requires-clause-may

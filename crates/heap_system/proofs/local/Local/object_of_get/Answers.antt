@@ -1,7 +1,7 @@
 use Rattle.std.proofs.Common.{refl, sym, ◌∙◌, arith}
 use Rattle.barrier_steps.specs.declared.rows.FieldRow.{FieldRow}
 use Rattle.barrier_steps.specs.declared.rows.Purpose.{Purpose}
-use Rattle.heap_system.proofs.AtOnce.{may_on, run_on}
+use Rattle.heap_system.proofs.work.AtOnce.{may_on, run_on}
 use Rattle.heap_system.proofs.local.Local.object_of_get.Goals as goal
 
 pub shape_of_get-requires-clause-may : goal.shape_of_get-requires-clause-may

@@ -1,5 +1,5 @@
 use Rattle.rate_plan.proofs.Rates.{rate_low}
-use Rattle.heap_system.proofs.OwedAndPaid.{view_of}
+use Rattle.heap_system.proofs.accounting.OwedAndPaid.{view_of}
 use Rattle.heap_system.proofs.local.Local.owes.Goals as goal
 
 pub price_of-requires-clause-rate : goal.price_of-requires-clause-rate

@@ -4,7 +4,7 @@ use Rattle.heap_system.specs.AtOnce.{HasRunFromRest}
 use Rattle.heap_system.specs.Locals.{LocalState}
 use Rattle.heap_system.specs.ThreadMemories.{HasRunOn, MayRun, longest}
 use Rattle.heap_system.specs.declared.Turn.TheVariants.{Waited}
-use Rattle.heap_system.proofs.AtOnce.{row_may, row_run}
+use Rattle.heap_system.proofs.work.AtOnce.{row_may, row_run}
 use Rattle.heap_system.proofs.local.Local.run_set.Goals as goal
 
 pub try_enter-requires-clause-may : goal.try_enter-requires-clause-may

@@ -1,7 +1,7 @@
 use Rattle.std.proofs.Common.{[], refl, subst, arith}
 use Rattle.heap_system.specs.ThreadMemories.{longest}
 use Rattle.heap_system.specs.Locals.{IsLocal}
-use Rattle.heap_system.proofs.Runs.{going_in, leads_at, run_more}
+use Rattle.heap_system.proofs.work.EventsInARow.{going_in, leads_at, run_more}
 use Rattle.heap_system.proofs.local.Local.run_whole.Goals as goal
 
 pub event-requires : goal.event-requires

@@ -1,6 +1,6 @@
 use Rattle.std.proofs.Common.{[], refl, sym, ◌∙◌, arith}
 use Rattle.heap_system.specs.ThreadMemories.{longest}
-use Rattle.heap_system.proofs.Runs.{serving_going, leads_at, more_ends, more_goes, none_made}
+use Rattle.heap_system.proofs.work.EventsInARow.{serving_going, leads_at, more_ends, more_goes, none_made}
 use Rattle.heap_system.proofs.local.Local.serves_on.Goals as goal
 
 pub serves-turn-requires-clause-may : goal.serves-turn-requires-clause-may

@@ -1,6 +1,6 @@
 use Rattle.std.proofs.Common.{refl, sym, ◌∙◌, arith}
 use Rattle.barrier_steps.specs.declared.rows.FieldRow.{FieldRow}
-use Rattle.heap_system.proofs.AtOnce.{may_on, run_on}
+use Rattle.heap_system.proofs.work.AtOnce.{may_on, run_on}
 use Rattle.heap_system.proofs.local.Local.shape_of_cas.Goals as goal
 
 pub expected_of_cas-requires-clause-may : goal.expected_of_cas-requires-clause-may

@@ -1,6 +1,6 @@
 use Rattle.std.proofs.Common.{refl, sym, ◌∙◌, arith}
 use Rattle.barrier_steps.specs.declared.rows.FieldRow.{FieldRow}
-use Rattle.heap_system.proofs.AtOnce.{may_on, run_on}
+use Rattle.heap_system.proofs.work.AtOnce.{may_on, run_on}
 use Rattle.heap_system.proofs.local.Local.shape_of_put.Goals as goal
 
 pub register-requires-clause-may : goal.register-requires-clause-may

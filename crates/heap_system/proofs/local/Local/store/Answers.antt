@@ -1,6 +1,6 @@
 use Rattle.std.proofs.Common.{refl, arith}
 use Rattle.barrier_steps.specs.declared.rows.FieldRow.{FieldRow}
-use Rattle.heap_system.proofs.AtOnce.{may_on, run_on}
+use Rattle.heap_system.proofs.work.AtOnce.{may_on, run_on}
 use Rattle.heap_system.proofs.local.Local.store.Goals as goal
 
 pub ends-requires-clause-may : goal.ends-requires-clause-may

@@ -2,8 +2,8 @@ use Rattle.std.proofs.Common.{◌≡◌, ◌-◌, length}
 use Rattle.heap_system.specs.declared.local.Local.TheInside.{Inside}
 use Rattle.heap_system.specs.declared.rows.Row.TheVariants as rows
 use Rattle.heap_system.specs.ThreadMemories.{MayRun}
-use Rattle.heap_system.proofs.OwedAndPaid.{view_of}
-use Rattle.heap_system.proofs.Runs.{Goes}
+use Rattle.heap_system.proofs.accounting.OwedAndPaid.{view_of}
+use Rattle.heap_system.proofs.work.EventsInARow.{Goes}
 use Rattle.heap_system.proofs.local.Local.sweeps.Given as goal
 
 abbrev pub invariant-loop : goal.invariant-loop

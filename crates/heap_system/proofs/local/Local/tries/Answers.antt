@@ -1,6 +1,6 @@
 use Rattle.std.proofs.Common.{◌∙◌, ap, subst}
 use Rattle.heap_system.specs.Locals.{pass_by}
-use Rattle.heap_system.proofs.AtOnce.{inside_may, inside_run, lost_run}
+use Rattle.heap_system.proofs.work.AtOnce.{inside_may, inside_run, lost_run}
 use Rattle.heap_system.proofs.local.Local.tries.Goals as goal
 
 pub does-requires-clause-may : goal.does-requires-clause-may

@@ -3,7 +3,7 @@ use Rattle.std.specs.Option.{IfNone}
 use Rattle.std.proofs.lemmas.Option.{IfSome_then}
 use Rattle.block_store.specs.declared.PhaseWord.{PhaseWord}
 use Rattle.heap_system.specs.AtOnce.{HasRunFromGate, HasRunFromRest}
-use Rattle.heap_system.proofs.AtOnce.{closed_run, entering_may, entering_run, gone_earlier}
+use Rattle.heap_system.proofs.work.AtOnce.{closed_run, entering_may, entering_run, gone_earlier}
 use Rattle.heap_system.proofs.local.Local.try_enter.Goals as goal
 
 pub enter_by-requires-clause-may : goal.enter_by-requires-clause-may

@@ -1,6 +1,6 @@
 use Rattle.std.proofs.Common.{ap, arith}
 use Rattle.heap_system.specs.Locals.{LocalState, works}
-use Rattle.heap_system.proofs.OwedAndPaid.{view_of, worked_low}
+use Rattle.heap_system.proofs.accounting.OwedAndPaid.{view_of, worked_low}
 use Rattle.heap_system.proofs.local.Local.units_done.Goals as goal
 
 pub returns-clause-few : goal.returns-clause-few

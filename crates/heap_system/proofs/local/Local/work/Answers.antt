@@ -1,6 +1,6 @@
 use Rattle.std.proofs.Common.{ap, arith}
 use Rattle.heap_system.specs.Locals.{works}
-use Rattle.heap_system.proofs.OwedAndPaid.{view_of, worked_low}
+use Rattle.heap_system.proofs.accounting.OwedAndPaid.{view_of, worked_low}
 use Rattle.heap_system.proofs.local.Local.work.Goals as goal
 
 pub sum_of_works-requires : goal.sum_of_works-requires

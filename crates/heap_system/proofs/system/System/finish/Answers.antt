@@ -6,10 +6,10 @@ use Rattle.heap_system.specs.Locals.{LocalState, is_done}
 use Rattle.heap_system.specs.Machines.{State, heap_in, no_local}
 use Rattle.heap_system.specs.Systems.{Whole, AllDone, IsReached, IsFinished, IsFinishedInOrder, traces_of, logs_of, items_kept}
 use Rattle.heap_system.specs.Ordering.{ordered}
-use Rattle.heap_system.proofs.OrderKept.{finished_in_order}
+use Rattle.heap_system.proofs.history.OrderKept.{finished_in_order}
 use Rattle.heap_system.specs.declared.system.System.TheInside.{Inside}
-use Rattle.heap_system.proofs.FinishedRun.{all_done}
-use Rattle.heap_system.proofs.TurnFacts.{reached_kept}
+use Rattle.heap_system.proofs.history.FinishedRun.{all_done}
+use Rattle.heap_system.proofs.work.TurnFacts.{reached_kept}
 use Rattle.heap_system.proofs.system.System.finish.Goals as goal
 
 -- the words and threads of a system

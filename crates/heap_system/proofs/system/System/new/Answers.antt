@@ -5,7 +5,7 @@ use Rattle.rate_plan.proofs.Plans.{found}
 use Rattle.rate_plan.proofs.Rates.{one_rate}
 use Rattle.heap_system.specs.Locals.{at_start}
 use Rattle.heap_system.specs.Machines.{starts_from, IsOpening}
-use Rattle.heap_system.proofs.SystemStart.{AreAtStart, spaces, thread_more, opened_traces, opened_reached, number_low, trace_fits, splits_on}
+use Rattle.heap_system.proofs.openings.SystemStart.{AreAtStart, spaces, thread_more, opened_traces, opened_reached, number_low, trace_fits, splits_on}
 use Rattle.heap_system.proofs.system.System.new.Goals as goal
 
 -- the trace of a vector

@@ -1,6 +1,6 @@
 use Rattle.std.proofs.Common.{◌≡◌, ◌++◌, length, map}
 use Rattle.std.specs.Vec.Iter.{into_iter_items, into_iter_len}
-use Rattle.heap_system.proofs.SystemStart.{AllStart}
+use Rattle.heap_system.proofs.openings.SystemStart.{AllStart}
 use Rattle.heap_system.proofs.system.System.new.Given as goal
 
 abbrev pub invariant-loop-trace : goal.invariant-loop-trace

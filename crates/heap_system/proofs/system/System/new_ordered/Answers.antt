@@ -2,7 +2,7 @@ use Rattle.std.proofs.Common.{◌≡◌, ◌≤◌, List, map, sym, ap, subst, a
 use Rattle.never_heap.specs.declared.Command.{Command}
 use Rattle.heap_system.specs.Machines.{IsOpening}
 use Rattle.heap_system.specs.Systems.{Whole, commands_in}
-use Rattle.heap_system.proofs.OrderKept.{opening_in_order}
+use Rattle.heap_system.proofs.history.OrderKept.{opening_in_order}
 use Rattle.heap_system.proofs.system.System.new_ordered.Goals as goal
 
 -- the trace of a vector

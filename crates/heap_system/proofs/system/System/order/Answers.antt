@@ -1,6 +1,6 @@
 use Rattle.std.proofs.Common.{subst}
 use Rattle.heap_system.specs.Systems.{Whole, IsReachedInOrder, items_kept}
-use Rattle.heap_system.proofs.OrderKept.{reached_in_order}
+use Rattle.heap_system.proofs.history.OrderKept.{reached_in_order}
 use Rattle.heap_system.proofs.system.System.order.Goals as goal
 
 pub returns-clause-reached : goal.returns-clause-reached

@@ -1,7 +1,7 @@
 use Rattle.std.proofs.Common.{ap, ◌∙◌}
 use Rattle.heap_system.specs.Systems.{Whole, traces_of}
-use Rattle.heap_system.proofs.OrderKept.{none_on}
-use Rattle.heap_system.proofs.TurnFacts.{turned_traces}
+use Rattle.heap_system.proofs.history.OrderKept.{none_on}
+use Rattle.heap_system.proofs.work.TurnFacts.{turned_traces}
 use Rattle.heap_system.proofs.system.System.turn.Goals as goal
 
 pub invariant_of-self : goal.invariant_of-self

@@ -1,5 +1,5 @@
 use Rattle.heap_system.specs.Ordering.{ordered}
-use Rattle.heap_system.proofs.TurnFacts.{place_low}
+use Rattle.heap_system.proofs.work.TurnFacts.{place_low}
 use Rattle.heap_system.proofs.system.System.word.Goals as goal
 
 pub word-requires : goal.word-requires

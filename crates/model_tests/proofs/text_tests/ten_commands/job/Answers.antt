@@ -6,7 +6,7 @@ use Rattle.block_store.specs.declared.Width.TheVariants.{Four}
 use Rattle.never_heap.specs.declared.Command.{Command}
 use Rattle.never_heap.specs.declared.Command.TheVariants.{New, Arr, Set, Nil, Mov, Get, Put, Len, Same, Say}
 use Rattle.never_heap.specs.Bounds.{IsCommandInBounds}
-use Rattle.never_heap.proofs.CommandBounds.{plain_fits}
+use Rattle.never_heap.proofs.Lemmas.{plain_fits}
 use Rattle.trace_text.specs.Jobs.{Job, IsJobInBounds}
 use Rattle.model_tests.proofs.text_tests.ten_commands.job.Goals as goal
 

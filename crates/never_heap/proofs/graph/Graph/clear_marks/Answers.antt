@@ -1,6 +1,6 @@
 use Rattle.std.proofs.Common.{arith, length, ◌∙◌}
 use Rattle.never_heap.proofs.MarkSpread.{unmarked}
-use Rattle.never_heap.proofs.Stamps.{rows_more, rows_all}
+use Rattle.never_heap.proofs.MarksByStamp.{rows_more, rows_all}
 use Rattle.never_heap.proofs.graph.Graph.clear_marks.Goals as goal
 
 pub loop-thread-preserved : goal.loop-thread-preserved

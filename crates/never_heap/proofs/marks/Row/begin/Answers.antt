@@ -1,5 +1,5 @@
 use Rattle.std.proofs.Common.{arith, refl, rules}
-use Rattle.never_heap.proofs.Stamps.{none_marked, none_marked_more, none_of_zeros}
+use Rattle.never_heap.proofs.MarksByStamp.{none_marked, none_marked_more, none_of_zeros}
 use Rattle.never_heap.proofs.marks.Row.begin.Goals as goal
 
 pub returns-in_default : goal.returns-in_default

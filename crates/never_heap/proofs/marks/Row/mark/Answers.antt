@@ -1,6 +1,6 @@
 use Rattle.std.proofs.Common.{◌≡◌, Bool, true, List, set, map, eqb, subst, sym, arith}
 use Rattle.std.proofs.lemmas.List.{set_past, length-map}
-use Rattle.never_heap.proofs.Stamps.{marked_stays, marks_more}
+use Rattle.never_heap.proofs.MarksByStamp.{marked_stays, marks_more}
 use Rattle.never_heap.proofs.marks.Row.mark.Goals as goal
 
 pub returns-then-i-len-clause-after : goal.returns-then-i-len-clause-after

@@ -2,7 +2,7 @@ use Rattle.std.proofs.Common.{List, ◌≡◌, ◌∷◌, ◌++◌, [], sym, ap,
 use Rattle.array_tables.specs.tag_table.Tables.{Tag, answer}
 use Rattle.plantrun_core.specs.declared.calls.Done.{Done}
 use Rattle.plantrun_core.specs.declared.calls.Step.{Step}
-use Rattle.plantrun_core.proofs.Mixing.{LeavesTo, Runs, leaves_more, runs_more, same_answer}
+use Rattle.plantrun_core.proofs.MergedOrders.{LeavesTo, Runs, leaves_more, runs_more, same_answer}
 use Rattle.plantrun_core.proofs.order.Merge.runs.Goals as goal
 
 pub loop-next-preserved : goal.loop-next-preserved

@@ -1,7 +1,7 @@
 -- What is merged so far, for any logs; and other threads that were stuck are stuck.
 use Rattle.std.proofs.Common.{ℕ, List, ◌≡◌, ◌≢◌, length}
 use Rattle.plantrun_core.specs.declared.calls.Done.{Done}
-use Rattle.plantrun_core.specs.Orders.{AreAtHome, IsMerged, IsStuck}
+use Rattle.plantrun_core.specs.MergedLogs.{AreAtHome, IsMerged, IsStuck}
 use Rattle.plantrun_core.proofs.order.Merge.runs.Given as goal
 
 abbrev pub invariant-loop-next : goal.invariant-loop-next

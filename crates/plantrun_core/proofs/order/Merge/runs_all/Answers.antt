@@ -1,4 +1,4 @@
-use Rattle.plantrun_core.proofs.Mixing.{ran_all}
+use Rattle.plantrun_core.proofs.MergedOrders.{ran_all}
 use Rattle.plantrun_core.proofs.order.Merge.runs_all.Goals as goal
 
 pub returns : goal.returns

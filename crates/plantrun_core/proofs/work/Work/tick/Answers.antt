@@ -1,4 +1,4 @@
-use Rattle.plantrun_core.proofs.Worked.{room_next}
+use Rattle.plantrun_core.proofs.LogOfTicks.{room_next}
 use Rattle.plantrun_core.proofs.work.Work.tick.Goals as goal
 
 pub tick-requires-clause-room : goal.tick-requires-clause-room

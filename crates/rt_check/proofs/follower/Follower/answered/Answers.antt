@@ -1,7 +1,7 @@
 use Rattle.std.proofs.Common.{◌≡◌, ap, sym, subst}
 use Rattle.block_store.specs.declared.Config.{Config}
 use Rattle.trace_text.specs.Jobs.{Job}
-use Rattle.trace_text.specs.Texts.{entry_text}
+use Rattle.trace_text.specs.RunTexts.{entry_text}
 use Rattle.rt_check.specs.declared.follower.Follower.{Follower}
 use Rattle.rt_check.specs.Standing.{IsFullHere, Counted, entry_here, graph_here}
 use Rattle.rt_check.proofs.GoodLaws.{full_taken, step_taken, none_taken}

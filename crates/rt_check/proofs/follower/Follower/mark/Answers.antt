@@ -1,8 +1,8 @@
 use Rattle.std.proofs.Common.{Bool, ◌≡◌, length, sym, subst, ◌∙◌, arith}
 use Rattle.std.proofs.lemmas.Bool.{both_ways}
 use Rattle.never_heap.specs.Histories.{Started, starts_in}
-use Rattle.trace_text.specs.Orders.{end_text}
-use Rattle.trace_text.specs.Texts.{totals_line}
+use Rattle.trace_text.specs.OrderTexts.{end_text}
+use Rattle.trace_text.specs.RunTexts.{totals_line}
 use Rattle.rt_check.specs.Standing.{Stands, StartsHere}
 use Rattle.rt_check.proofs.GoodLaws.{some_past, no_past, none_begun, left_is, start_good, mark_bad}
 use Rattle.rt_check.proofs.follower.Follower.mark.Goals as goal

@@ -2,7 +2,7 @@ use Rattle.std.proofs.Common.{◌≡◌, ◌<◌, ◌≤◌, ◌*◌, ℕ, Some,
 use Rattle.never_heap.specs.Steps.{blocks_of}
 use Rattle.trace_text.specs.Jobs.{Job}
 use Rattle.trace_text.specs.Lines.{tokens_of}
-use Rattle.trace_text.specs.Texts.{entry_text}
+use Rattle.trace_text.specs.RunTexts.{entry_text}
 use Rattle.rt_check.specs.Taking.{number_behind}
 use Rattle.rt_check.proofs.GoodLaws.{step_entry}
 use Rattle.rt_check.proofs.TakenLaws.{command_left, command_taken}

@@ -3,8 +3,8 @@ use Rattle.std.proofs.lemmas.Bool.{both_ways}
 use Rattle.block_store.specs.declared.Width.{Width}
 use Rattle.never_heap.specs.Histories.{Started, starts_in}
 use Rattle.never_heap.specs.LiveBlocks.{live_blocks}
-use Rattle.trace_text.specs.Orders.{item_text}
-use Rattle.trace_text.specs.Texts.{start_line}
+use Rattle.trace_text.specs.OrderTexts.{item_text}
+use Rattle.trace_text.specs.RunTexts.{start_line}
 use Rattle.rt_check.proofs.FollowerState.{stands_start}
 use Rattle.rt_check.proofs.follower.Follower.take_start.Goals as goal
 

@@ -4,7 +4,7 @@ use Rattle.block_store.specs.declared.Width.TheVariants.{Four, Eight}
 use Rattle.block_store.specs.Widths.{payloads}
 use Rattle.rate_plan.specs.solo_bound.Near.{near_bound}
 use Rattle.rt_check.specs.rt_limit.Prices.{IsInWord}
-use Rattle.rt_check.proofs.rt_limit.NearSmall.{near_small}
+use Rattle.rate_plan.proofs.solo_bound.NearSmall.{near_small}
 use Rattle.rt_check.proofs.rt_limit.prices.turns.Goals as goal
 
 narrow : (w : Width) → payloads w ≤ 8

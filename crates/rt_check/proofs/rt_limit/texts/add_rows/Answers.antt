@@ -1,4 +1,4 @@
-use Rattle.rt_check.specs.rt_limit.Texts.{rates}
+use Rattle.rt_check.specs.rt_limit.NeedTexts.{rates}
 use Rattle.rt_check.proofs.rt_limit.TextLaws.{has_more, last_at}
 use Rattle.std.proofs.Common.{sym}
 use Rattle.rt_check.proofs.rt_limit.texts.add_rows.Goals as goal

@@ -1,5 +1,5 @@
 use Rattle.std.proofs.Common.{◌≡◌, take}
-use Rattle.rt_check.specs.rt_limit.Texts.{rates}
+use Rattle.rt_check.specs.rt_limit.NeedTexts.{rates}
 use Rattle.rt_check.proofs.rt_limit.TextLaws.{HasRows, last_of}
 use Rattle.rt_check.proofs.rt_limit.texts.add_rows.Given as goal
 

@@ -5,7 +5,7 @@ use Rattle.never_heap.specs.Graphs.{start_graph}
 use Rattle.trace_text.specs.Jobs.{Job}
 use Rattle.rt_check.specs.rt_limit.Counting.{IsMoveInRange}
 use Rattle.rt_check.specs.rt_limit.Figures.{AreFigures}
-use Rattle.rt_check.specs.rt_limit.Texts.{IsText}
+use Rattle.rt_check.specs.rt_limit.NeedTexts.{IsText}
 use Rattle.rt_check.specs.declared.rt_limit.counts.Figures.{Figures}
 use Rattle.rt_check.proofs.rt_limit.AnswerLaws.{ok_map}
 use Rattle.rt_check.proofs.rt_limit.JobLaws.{moves_in_range, moves_short}

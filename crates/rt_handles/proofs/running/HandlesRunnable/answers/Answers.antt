@@ -2,7 +2,7 @@ use Rattle.std.proofs.Common.{arith}
 use Rattle.std.specs.Prelude.{flat_map}
 use Rattle.std.proofs.lemmas.List.{length-map}
 use Rattle.array_tables.specs.handle_table.Handles.{rows_of, command_at, deeds_of}
-use Rattle.array_tables.proofs.handle_table.NumberedDeeds.{sizes_are}
+use Rattle.array_tables.proofs.Lemmas.{sizes_are}
 use Rattle.rt_handles.proofs.running.HandlesRunnable.answers.Goals as goal
 
 pub outcomes-requires : goal.outcomes-requires

@@ -1,5 +1,5 @@
 use Rattle.std.proofs.Common.{◌≡◌, ℕ, ◌<◌, length, slice_index_or}
-use Rattle.rt_mail.specs.mail_post.Rows.{no_row, rows_of}
+use Rattle.rt_mail.specs.mail_post.NumberRows.{no_row, rows_of}
 use Rattle.rt_mail.proofs.mail_post.rows.make_room.Given as goal
 
 abbrev pub invariant-loop-t : goal.invariant-loop-t

@@ -1,7 +1,7 @@
 use Rattle.std.proofs.Common.{ap, sym, subst, ◌∙◌}
 use Rattle.block_store.specs.declared.Config.{Config}
 use Rattle.heap_system.specs.Machines.{IsJob}
-use Rattle.heap_system.proofs.TextLives.{job_of_text}
+use Rattle.heap_system.proofs.Lemmas.{job_of_text}
 use Rattle.rt_mail.specs.mail_post.PostStates.{fresh_senders}
 use Rattle.trace_text.specs.Jobs.{Job}
 use Rattle.rt_mail.specs.declared.mail_runs.mail_board.MailBoard.{MailBoard}

@@ -1,5 +1,5 @@
 use Rattle.std.proofs.Common.{ap, ◌∙◌}
-use Rattle.atom_board.proofs.Orders.{in_order_each}
+use Rattle.atom_board.proofs.MutatorsInOrder.{in_order_each}
 use Rattle.rt_mail.proofs.mail_runs.MailThreadsDone.{logs_say, logs_count, held}
 use Rattle.rt_mail.proofs.mail_runs.mail_board.closed.Goals as goal
 

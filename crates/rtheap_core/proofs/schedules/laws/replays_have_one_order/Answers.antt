@@ -1,6 +1,6 @@
 use Rattle.std.proofs.Common.{ap}
 use Rattle.heap_system.specs.Machines.{Run}
-use Rattle.heap_system.proofs.Rooms.{runs_agree, logs_agree, done_agree}
+use Rattle.heap_system.proofs.Lemmas.{done_agree, logs_agree, runs_agree}
 use Rattle.rtheap_core.specs.schedules.Schedules.{turns_of}
 use Rattle.rtheap_core.proofs.schedules.SameTurns.{first_run, second_run}
 use Rattle.rtheap_core.proofs.schedules.laws.replays_have_one_order.Goals as goal

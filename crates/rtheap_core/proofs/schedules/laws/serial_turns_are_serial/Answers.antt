@@ -1,4 +1,4 @@
-use Rattle.heap_system.proofs.TurnFacts.{reached_kept}
+use Rattle.heap_system.proofs.Lemmas.{reached_kept}
 use Rattle.rtheap_core.proofs.schedules.ReplayEnds.{serial_turns, opening_many}
 use Rattle.rtheap_core.proofs.schedules.laws.serial_turns_are_serial.Goals as goal
 

@@ -1,4 +1,4 @@
-use Rattle.saved_heap.proofs.heap_pictures.Again.{digest_bad, digest_ok}
+use Rattle.saved_heap.proofs.heap_pictures.ReadAgain.{digest_bad, digest_ok}
 use Rattle.saved_heap.proofs.heap_pictures.reading.behind_digest.Goals as goal
 
 pub returns-then-is_digest : goal.returns-then-is_digest

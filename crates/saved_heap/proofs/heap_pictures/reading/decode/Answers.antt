@@ -1,7 +1,7 @@
 use Rattle.std.proofs.Common.{ap, subst, ◌∙◌}
 use Rattle.saved_heap.specs.heap_pictures.Pictures.{content_of}
 use Rattle.saved_heap.specs.heap_pictures.Reading.{Gives, picture_at}
-use Rattle.saved_heap.proofs.heap_pictures.Again.{reads_sound, saved_again}
+use Rattle.saved_heap.proofs.heap_pictures.ReadAgain.{reads_sound, saved_again}
 use Rattle.saved_heap.proofs.heap_pictures.reading.decode.Goals as goal
 
 pub returns-clause-sound : goal.returns-clause-sound

@@ -5,8 +5,8 @@ use Rattle.shared_heap.specs.Calls.{HasAsked, WasRefused}
 use Rattle.shared_heap.proofs.Fitting.{all_asked, all_fit, all_refused}
 use Rattle.shared_heap.proofs.heap.SharedHeap.call.Goals as goal
 
-pub returns-clause-told : goal.returns-clause-told
-returns-clause-told g c =
+pub returns-clause-returned : goal.returns-clause-returned
+returns-clause-returned g c =
     let fits = all_fit c.args.who.now c.args.command c.ask.new.who c.ask.result c.ask.ensures.answered in
     let done = all_asked c.args.who.now c.args.command c.ask.new.who c.ask.result c.ask.ensures.can c.ask.ensures.answered c.ask.ensures.made c.ask.ensures.in_time in
     let refused = all_refused c.args.who.now c.args.command c.ask.new.who c.ask.result c.ask.ensures.refused c.ask.ensures.unchanged in

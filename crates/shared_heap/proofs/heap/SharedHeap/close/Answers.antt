@@ -1,6 +1,6 @@
 use Rattle.std.proofs.Common.{ap, arith}
 use Rattle.shared_heap.specs.Workers.{HeapState}
-use Rattle.shared_heap.proofs.Orders.{ordered_each, ordered_history}
+use Rattle.shared_heap.proofs.WorkersInOrder.{ordered_each, ordered_history}
 use Rattle.shared_heap.proofs.heap.SharedHeap.close.Goals as goal
 
 pub close_in_order-requires : goal.close_in_order-requires

@@ -1,7 +1,7 @@
 use Rattle.std.proofs.Common.{◌≡◌, ap, sym, ◌∙◌, List, ◌∷◌}
 use Rattle.block_store.specs.declared.PhaseWord.{PhaseWord}
 use Rattle.shared_heap.specs.Workers.{HeapState, WorkerState}
-use Rattle.shared_heap.proofs.Crews.{own_of}
+use Rattle.shared_heap.proofs.AllWorkers.{own_of}
 use Rattle.shared_heap.proofs.Endings.{was_closed, cycle_is}
 use Rattle.shared_heap.proofs.heap.SharedHeap.closed_with.Goals as goal
 

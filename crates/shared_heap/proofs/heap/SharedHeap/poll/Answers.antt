@@ -4,7 +4,7 @@ use Rattle.shared_heap.specs.declared.port.Port.{Port}
 use Rattle.shared_heap.specs.Pending.{PendingState}
 use Rattle.shared_heap.specs.Workers.{HeapState}
 use Rattle.shared_heap.proofs.Answering.{Events, HasEnded, ended, entry_now, has_thread, kept_now, made_more, pending_now, still_pending, worker_at}
-use Rattle.shared_heap.proofs.Runs.{ran_on}
+use Rattle.shared_heap.proofs.ThreadAfterEvents.{ran_on}
 use Rattle.shared_heap.proofs.heap.SharedHeap.poll.Goals as goal
 use Rattle.shared_heap.proofs.heap.SharedHeap.poll.Goals.{After-drives_some}
 

@@ -3,10 +3,10 @@ use Rattle.heap_system.specs.Lives.{objects_of}
 use Rattle.shared_heap.specs.declared.port.Port.{Port}
 use Rattle.shared_heap.specs.Pending.{pending_of, start_pending}
 use Rattle.shared_heap.specs.Shared.{held_of}
-use Rattle.shared_heap.specs.Workers.{HeapState, WorkerState, IsKept}
+use Rattle.shared_heap.specs.Workers.{HeapState, WorkerState, IsMirrored}
 use Rattle.shared_heap.proofs.Answering.{Events, HasEnded, ended, entry_now, has_thread, kept_now, made_whole, worker_at}
 use Rattle.shared_heap.proofs.Asking.{may_announce}
-use Rattle.shared_heap.proofs.Runs.{ran_on}
+use Rattle.shared_heap.proofs.ThreadAfterEvents.{ran_on}
 use Rattle.shared_heap.proofs.heap.SharedHeap.request.Given.{Over}
 use Rattle.shared_heap.proofs.heap.SharedHeap.request.Goals as goal
 use Rattle.shared_heap.proofs.heap.SharedHeap.request.Goals.{After-drives}
@@ -65,7 +65,7 @@ pub invariant_of-who : goal.invariant_of-who
 invariant_of-who g c =
     let w = c.who.inside in
     let z = c.drives.new in (
-      subst (λ n. IsKept z.memory.seat.me z.memory.seat.table_id z.local (w.count + 1) (w.objects + n)) (sym c.objects_of.ensures)
+      subst (λ n. IsMirrored z.memory.seat.me z.memory.seat.table_id z.local (w.count + 1) (w.objects + n)) (sym c.objects_of.ensures)
           (kept_now (events g (goal.at.invariant_of-who g c).After-drives) c.drives.ensures.done),
       c.who.invariant.1 ∙ sym ((events g (goal.at.invariant_of-who g c).After-drives).on.config ∙ c.announce.ensures.config),
     )

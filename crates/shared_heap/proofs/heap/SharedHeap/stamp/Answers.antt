@@ -4,7 +4,7 @@ use Rattle.block_store.specs.Places.{extent, words_count}
 use Rattle.shared_heap.specs.Shared.{held_of}
 use Rattle.shared_heap.specs.Workers.{HeapState, WorkerState}
 use Rattle.shared_heap.proofs.Draws.{draw_here}
-use Rattle.shared_heap.proofs.Stamps.{has_drawn, kept_drawn}
+use Rattle.shared_heap.proofs.DrawnStamps.{has_drawn, kept_drawn}
 use Rattle.shared_heap.proofs.heap.SharedHeap.stamp.Goals as goal
 
 pub fetch_add-requires : goal.fetch_add-requires

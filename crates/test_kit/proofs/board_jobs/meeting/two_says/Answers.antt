@@ -3,9 +3,9 @@ use Rattle.block_store.specs.declared.Width.TheVariants.{Four}
 use Rattle.never_heap.specs.declared.Command.{Command}
 use Rattle.never_heap.specs.declared.Command.TheVariants as commands
 use Rattle.never_heap.specs.Jobs.{IsTraceInBounds}
-use Rattle.never_heap.proofs.CommandBounds.{plain_fits}
+use Rattle.never_heap.proofs.Lemmas.{plain_fits}
 use Rattle.heap_system.specs.Machines.{IsJob}
-use Rattle.heap_system.proofs.Jobs.{config, two, both}
+use Rattle.heap_system.proofs.Lemmas.{both, config, two}
 use Rattle.test_kit.proofs.board_jobs.meeting.two_says.Goals as goal
 
 abbrev says : List Command

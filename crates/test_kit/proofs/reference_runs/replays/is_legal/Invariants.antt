@@ -1,4 +1,4 @@
--- What is left is legal behind the graph so far exactly where all is.
+-- What is left is legal after the graph so far exactly where all is.
 use Rattle.std.proofs.Common.{◌↔◌, ◌≡◌, take, drop}
 use Rattle.never_heap.specs.Graphs.{start_graph}
 use Rattle.never_heap.specs.Histories.{LegalFrom, replay}

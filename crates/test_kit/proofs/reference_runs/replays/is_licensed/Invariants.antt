@@ -1,4 +1,4 @@
--- What is left is licensed behind the items so far exactly where all is.
+-- What is left is licensed after the items so far exactly where all is.
 use Rattle.std.proofs.Common.{◌↔◌, take, drop}
 use Rattle.never_heap.specs.Licensed.{Licensed, LicensedFrom}
 use Rattle.test_kit.specs.reference_runs.Happenings.{history}

@@ -1,6 +1,6 @@
 use Rattle.std.proofs.Common.{subst, sym, List}
 use Rattle.shared_heap.specs.Workers.{AreEachOnce, WorkerState}
-use Rattle.thread_tests.proofs.Crews.{two_each}
+use Rattle.thread_tests.proofs.WorkersOfHeap.{two_each}
 use Rattle.thread_tests.proofs.slim.heap.close_swapped.Goals as goal
 
 pub close-requires : goal.close-requires

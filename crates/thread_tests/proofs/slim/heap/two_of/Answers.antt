@@ -1,4 +1,4 @@
-use Rattle.thread_tests.proofs.Crews.{two_of}
+use Rattle.thread_tests.proofs.WorkersOfHeap.{two_of}
 use Rattle.thread_tests.proofs.slim.heap.two_of.Goals as goal
 
 pub returns-clause-first : goal.returns-clause-first

@@ -1,7 +1,7 @@
 use Rattle.std.proofs.Common.{sym, subst, IsSome, List, ℕ, length}
 use Rattle.rt_mail.specs.declared.mail_post.views.View.{View}
 use Rattle.rt_mail.specs.mail_post.Rule.{gathered_in}
-use Rattle.rt_mail.specs.mail_post.Rows.{rows_of}
+use Rattle.rt_mail.specs.mail_post.NumberRows.{rows_of}
 use Rattle.rt_mail.specs.mail_post.PostStates.{TakerState, IsTakenState, all_sent}
 use Rattle.crossbeam_queue.specs.Passes.{view}
 use Rattle.rt_mail.proofs.mail_post.EndFacts.{delivered}

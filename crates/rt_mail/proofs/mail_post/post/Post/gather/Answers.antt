@@ -1,7 +1,7 @@
 use Rattle.std.proofs.Common.{◌≡◌, ◌++◌, sym, subst, ap, ◌∙◌, List, ℕ, length, map, Option, Some, IsSome}
 use Rattle.rt_mail.specs.declared.mail_post.views.Whole.{Whole}
 use Rattle.rt_mail.specs.mail_post.Rule.{gathered_in}
-use Rattle.rt_mail.specs.mail_post.Rows.{rows_of}
+use Rattle.rt_mail.specs.mail_post.NumberRows.{rows_of}
 use Rattle.rt_mail.specs.mail_post.PostStates.{TakerState, AreAll, all_sent, known_sent, whole_of}
 use Rattle.crossbeam_queue.specs.Passes.{view}
 use Rattle.rt_mail.proofs.mail_post.EndFacts.{gathered_all, known_all, some_known}

@@ -1,7 +1,7 @@
 use Rattle.std.proofs.Common.{ap, ◌∙◌, arith, refl}
 use Rattle.crossbeam_queue.specs.Passes.{view}
 use Rattle.rt_mail.specs.mail_post.Rule.{sent_in}
-use Rattle.rt_mail.specs.mail_post.Rows.{rows_of}
+use Rattle.rt_mail.specs.mail_post.NumberRows.{rows_of}
 use Rattle.rt_mail.proofs.mail_post.Moves.{begins}
 use Rattle.rt_mail.proofs.mail_post.EndFacts.{fresh, ends_more, rows_more}
 use Rattle.rt_mail.proofs.mail_post.post.Post.new.Goals as goal

@@ -1,5 +1,5 @@
 use Rattle.std.proofs.Common.{◌≡◌, sym, subst, ap, ◌∙◌, List, ℕ, IfSome}
-use Rattle.rt_mail.specs.mail_post.Rows.{rows_of, took}
+use Rattle.rt_mail.specs.mail_post.NumberRows.{rows_of, took}
 use Rattle.rt_mail.specs.mail_post.PostStates.{TakerState, IsTaker}
 use Rattle.crossbeam_queue.specs.Passes.{view}
 use Rattle.rt_mail.proofs.mail_post.EndFacts.{took_more, all_taken}

@@ -1,8 +1,0 @@
-use Rattle.std.proofs.Common.{◌≤◌}
-use Rattle.application_tests.proofs.plant.the_output_is_clamped_and_does_not_wind_up.Given as goal
-
-abbrev pub invariant-loop-output : goal.invariant-loop-output
-invariant-loop-output g l = l.state.integral ≤ 16384000
-
-abbrev pub invariant-loop-tick : goal.invariant-loop-tick
-invariant-loop-tick g l = l.state.integral ≤ 16384000

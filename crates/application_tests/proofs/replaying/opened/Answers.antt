@@ -1,8 +1,0 @@
-use Rattle.heap_system.proofs.TextLives.{job_of_text, text_few}
-use Rattle.application_tests.proofs.replaying.opened.Goals as goal
-
-pub new_ordered-requires-clause-job : goal.new_ordered-requires-clause-job
-new_ordered-requires-clause-job c = job_of_text _ _ c.requires.job c.requires.plan
-
-pub new_ordered-requires-clause-few : goal.new_ordered-requires-clause-few
-new_ordered-requires-clause-few c = text_few _ _ c.requires.job

@@ -1,5 +1,0 @@
-use Rattle.std.proofs.Common.{length}
-use Rattle.application_tests.proofs.shown_job.+are_traces.Given as goal
-
-abbrev pub decreases-are_traces : goal.decreases-are_traces
-decreases-are_traces l = length l.traces.now

@@ -1,0 +1,3 @@
+pub mod AlarmLists
+pub mod AlarmMoves
+pub mod AlarmCalls

@@ -1,0 +1,3 @@
+pub mod Circling
+pub mod Rounds
+pub mod NumberRings

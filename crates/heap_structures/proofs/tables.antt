@@ -1,0 +1,4 @@
+pub mod PairLists
+pub mod PairPlaces
+pub mod TableCalls
+pub mod TableChains

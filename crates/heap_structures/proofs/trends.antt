@@ -1,0 +1,4 @@
+pub mod TrendLists
+pub mod TrendHeaps
+pub mod TrendOpens
+pub mod TrendCalls

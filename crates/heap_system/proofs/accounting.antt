@@ -1,0 +1,14 @@
+pub mod OwedAndPaid
+pub mod Balances
+pub mod UnitsOfTurns
+pub mod MadeFor
+pub mod TallyLaw
+pub mod RunTally
+pub mod TalliesOfParts
+pub mod ThreadAccounts
+pub mod UnitMade
+pub mod CycleShares
+pub mod SharesKept
+pub mod RunBounds
+pub mod CycleCounts
+pub mod OncePerCycle

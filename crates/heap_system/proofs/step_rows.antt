@@ -1,0 +1,9 @@
+pub mod GatePassage
+pub mod WantedPlaces
+pub mod LoadedBlocks
+pub mod LocalAfterEvent
+pub mod Effects
+pub mod IdleLook
+pub mod PartLaws
+pub mod LawsOfParts
+pub mod FlipAndStart
