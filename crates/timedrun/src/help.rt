@@ -11,4 +11,4 @@ program runs only once it is built (--build), since an unproved build takes up t
 Jobs and the report are described in docs/TOOLS.md, \"timedrun\".
 ";
 
-pub const VERSION: &str = "timedrun 0.1.0\n";
+pub const VERSION: &str = "timedrun 0.1.0-dev\n";
