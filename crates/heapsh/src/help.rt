@@ -10,7 +10,7 @@ usage: heapsh          reads commands, one a line, and prints the reply to each;
 The command help lists the commands, and help WORD shows those that begin with WORD.
 ";
 
-pub const VERSION: &str = "heapsh 0.1.0\n";
+pub const VERSION: &str = "heapsh 0.1.0-dev\n";
 
 /// What `help` prints.
 pub const COMMANDS: &str = "\
