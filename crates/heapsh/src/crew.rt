@@ -149,7 +149,6 @@ fn take_begun(heap: &SharedHeap, begun: &mut Vec<Begun>, thread: u32) -> Option<
     }
 }
 
-#[tactic(auto, using(crate::proofs::WorkerSeats::worker_added))]
 fn add_worker(
     _heap: &SharedHeap,
     workers: &mut Vec<Worker>,
@@ -163,7 +162,6 @@ fn add_worker(
     Ok(())
 }
 
-#[tactic(auto, using(crate::proofs::WorkerSeats::begun_added))]
 fn add_begun(_heap: &SharedHeap, list: &mut Vec<Begun>, begun: Begun) -> Result<(), OutOfMemory>
     requires all { All (IsBegunOn _heap.now.id) list.old.items }
     requires own { IsBegunOn _heap.now.id begun }
@@ -214,7 +212,7 @@ fn go_on(heap: &SharedHeap, begun: Begun, events: u64) -> Result<(Worker, Came),
     }
 }
 
-#[tactic(auto, using(shared_heap::proofs::Stamps::drawn_same))]
+#[tactic(auto, using(shared_heap::proofs::DrawnStamps::drawn_same))]
 fn stamp(heap: &SharedHeap, worker: &mut Worker) -> Came
     requires { IsOf heap.now.id worker.old }
     ensures { IsOf heap.now.id worker.new }

@@ -1,7 +1,7 @@
 use Rattle.std.proofs.Common.{◌≤◌, ◌^◌, sym, subst}
 use Rattle.heap_system.specs.Machines.{IsJob}
 use Rattle.heap_system.specs.Systems.{commands_in}
-use Rattle.heap_system.proofs.TextLives.{job_of_text, text_few}
+use Rattle.heap_system.proofs.Lemmas.{job_of_text, text_few}
 use Rattle.trace_text.specs.Jobs.{Job}
 use Rattle.heapsh.proofs.system.opened.Goals as goal
 
