@@ -1,14 +1,28 @@
-//! The order of a lone thread on a heap of 64 blocks, and of two threads.
+//! The room for the order of a lone thread, on a heap of 64 blocks.
 
-ghost use Rattle.std.specs.Prelude.{◌≤◌};
+ghost use Rattle.std.specs.Prelude.{◌≡◌, ◌≤◌};
 
-use crate::tests::one;
 use crate::traces::trace_of;
-use block_store::{OutOfMemory, Width};
+use block_store::{Config, OutOfMemory, Width};
 use heap_system::{Finished, System};
 use never_heap::Command::*;
 use never_heap::{Command, Item, Logs};
 use std::alloc::Global;
+
+// A heap of one thread with an empty shared array.
+fn one(width: Width) -> Config
+    ensures { result
+        ≡ record { width = width; threads = 1; blocks = 64; live = 20; object = 2; shared = 0 } }
+{
+    Config {
+        width,
+        threads: 1,
+        blocks: 64,
+        live: 20,
+        object: 2,
+        shared: 0,
+    }
+}
 
 // Does all these commands in so many turns at most.
 fn run(
@@ -25,31 +39,6 @@ fn run(
         system.turn(0);
     }
     Ok(system.finish().ok())
-}
-
-// The first cycle has 6 units of marking and 64 of sweeping, which ten allocations pay. The next
-// one finds nothing left to sweep, and starts a cycle before its object is made.
-#[test]
-fn a_start_stands_before_the_command_that_pays_in_its_cycle(
-    rt: HostRuntime,
-) -> Result<(), OutOfMemory> {
-    let record = [New { d: 1, fields: 1 }];
-    let Some(logs) = run(rt.alloc(), 1000, &[(11, &record)])? else {
-        assert!(rt; false, "not finished");
-        return Ok(());
-    };
-    let order = logs.order().unwrap_or(&[]);
-    assert_eq!(rt; order.len(), 13);
-    for (i, item) in order.iter().enumerate() {
-        let start = i == 0 || i == 11;
-        assert_eq!(rt;
-            *item,
-            if start { Item::Start } else { Item::Entry(0) },
-            "item {i}"
-        );
-    }
-    assert_eq!(rt; logs.cycles(), 2);
-    Ok(())
 }
 
 // Two allocations take 129 turns, and no event more is made.

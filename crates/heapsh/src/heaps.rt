@@ -2,13 +2,13 @@
 
 ghost use Rattle.std.specs.Prelude.{◌<◌, IfSome};
 
-use crate::replies::{push_number, push_refused, push_reply, push_value};
+use crate::calls::{called, units_made};
+use crate::replies::{Said, push, push_number, push_refused, push_reply, push_value};
 use crate::words::{command_of, numbers_of};
 use block_store::{OutOfMemory, Value};
 use control_heap::{ControlHeap, Fault};
 use never_heap::{Command, Reply};
 use std::alloc::Global;
-use std::fmt::Write;
 
 /// Does a command by the call of its name and prints its reply, or why it is refused. Returns the
 /// reply.
@@ -17,10 +17,11 @@ pub fn ask(
     command: Command,
     out: &mut String,
 ) -> Result<Option<Reply>, OutOfMemory> {
-    let before = heap.units_made();
+    let before = units_made(heap);
     match reply_of(called(heap, command)) {
         Ok(reply) => {
-            push_reply(out, reply, heap.units_made().saturating_sub(before))?;
+            let work = units_made(heap).saturating_sub(before);
+            push_reply(out, reply, work)?;
             Ok(Some(reply))
         }
         Err(fault) => {
@@ -41,49 +42,14 @@ fn reply_of(done: Result<Reply, Fault>) -> Result<Reply, Fault> {
     }
 }
 
-fn called(heap: &mut ControlHeap, command: Command) -> Result<Reply, Fault> {
-    match command {
-        Command::New { d, fields } => heap.record(d, fields).map(|name| Reply::New(name)),
-        Command::Arr { d, elements } => heap.array(d, elements).map(|name| Reply::New(name)),
-        Command::Get { d, s, i } => heap.get(d, s, i).map(|value| Reply::Val(value)),
-        Command::Swap { s, i, v } => heap.swap(s, i, v).map(|value| Reply::Val(value)),
-        Command::Cas { s, i, a, v } => heap.cas(s, i, a, v).map(|same| yes_or_no(same)),
-        _ => called_too(heap, command),
-    }
+/// Prints a gauge, which has no operands.
+pub fn push_gauge(word: &str, number: u64, n: &[u64], out: &mut String) -> Said {
+    push_number(out, word, number)?;
+    Ok(n.is_empty())
 }
 
-fn called_too(heap: &mut ControlHeap, command: Command) -> Result<Reply, Fault> {
-    match command {
-        Command::Put { s, i, v } => heap.put(s, i, v).map(|_| Reply::Stored),
-        Command::Set { d, value } => heap.set(d, value).map(|_| Reply::Stored),
-        Command::Nil { d } => heap.nil(d).map(|_| Reply::Stored),
-        Command::Mov { d, s } => heap.mov(d, s).map(|_| Reply::Stored),
-        Command::Len { s } => heap.len(s).map(|length| Reply::Len(length)),
-        Command::Same { a, b } => heap.same(a, b).map(|same| yes_or_no(same)),
-        Command::Say { s } => heap.say(s).map(|value| Reply::Val(value)),
-        Command::Idle { units } => heap.idle(units).map(|_| Reply::Idle),
-        _ => Err(Fault::OutOfBounds),
-    }
-}
-
-fn yes_or_no(same: bool) -> Reply {
-    if same { Reply::Yes } else { Reply::No }
-}
-
-/// Prints a gauge. Returns whether the word names one.
-pub fn push_gauge(heap: &ControlHeap, word: &str, out: &mut String) -> Result<bool, OutOfMemory> {
-    match word {
-        "live_at_start" => push_live(heap, out)?,
-        "unused" => out.push_str(if heap.is_unused() { "yes" } else { "no" })?,
-        _ => match gauge(heap, word) {
-            Some(number) => push_number(out, word, number)?,
-            None => return Ok(false),
-        },
-    }
-    Ok(true)
-}
-
-fn gauge(heap: &ControlHeap, word: &str) -> Option<u64> {
+/// The gauge of this name.
+pub fn gauge(heap: &ControlHeap, word: &str) -> Option<u64> {
     match word {
         "rate" => Some(heap.rate()),
         "cycle" => Some(heap.cycle()),
@@ -106,64 +72,71 @@ fn life_gauge(heap: &ControlHeap, word: &str) -> Option<u64> {
     }
 }
 
-fn push_live(heap: &ControlHeap, out: &mut String) -> Result<(), OutOfMemory> {
+/// Prints how many blocks were live when the cycle began.
+pub fn push_live(heap: &ControlHeap, out: &mut String) -> Said {
     match heap.live_at_start() {
         Some(blocks) => push_number(out, "live_at_start", blocks),
-        None => Ok(out.push_str("live_at_start unknown in Sweep")?),
+        None => push(out, "live_at_start unknown in Sweep"),
     }
 }
 
 /// The most operations of a command, and whether the life has room for it.
-pub fn push_most(
-    heap: &ControlHeap,
-    command: Command,
-    out: &mut String,
-) -> Result<(), OutOfMemory> {
-    if !command.in_bounds(heap.config()) {
-        out.push_str("out of range")?;
-        return Ok(());
+pub fn push_most(heap: &ControlHeap, command: Command, out: &mut String) -> Said {
+    match most_of(heap, command) {
+        Some((most, has_room)) => {
+            push_number(out, "operations", most)?;
+            push(out, if has_room { " room yes" } else { " room no" })
+        }
+        None => push(out, "out of range"),
     }
-    let most = heap.most_operations(&command);
-    let room = if heap.has_left(&command) { "yes" } else { "no" };
-    write!(out, "operations {most} room {room}")?;
-    Ok(())
+}
+
+fn most_of(heap: &ControlHeap, command: Command) -> Option<(u64, bool)> {
+    if command.in_bounds(heap.config()) {
+        Some((heap.most_operations(&command), heap.has_left(&command)))
+    } else {
+        None
+    }
 }
 
 /// What a register holds, read without a command.
-pub fn push_register(heap: &ControlHeap, n: &[u64], out: &mut String) -> Result<(), OutOfMemory> {
+pub fn push_register(heap: &ControlHeap, n: &[u64], out: &mut String) -> Said {
     match register_in(n) {
         Some(r) => push_value(out, heap.register(r)),
-        None => Ok(out.push_str("no such register")?),
+        None => no_register(n, out),
     }
+}
+
+fn no_register(n: &[u64], out: &mut String) -> Said {
+    push(out, "no such register")?;
+    Ok(n.len() == 1)
 }
 
 /// The fields of the object in a register, read without a command.
-pub fn push_fields(
-    heap: &ControlHeap,
-    alloc: Global,
-    n: &[u64],
-    out: &mut String,
-) -> Result<(), OutOfMemory> {
-    let Some(r) = register_in(n) else {
-        out.push_str("no such register")?;
-        return Ok(());
-    };
-    match heap.fields(alloc, r)? {
-        Some(fields) => push_values(out, fields.as_slice()),
-        None => Ok(out.push_str("no object")?),
+pub fn push_fields(heap: &ControlHeap, alloc: Global, n: &[u64], out: &mut String) -> Said {
+    match register_in(n) {
+        Some(r) => match fields(heap, alloc, r)? {
+            Some(fields) => push_values(out, fields.as_slice()),
+            None => push(out, "no object"),
+        },
+        None => no_register(n, out),
     }
 }
 
-fn push_values(out: &mut String, values: &[Value]) -> Result<(), OutOfMemory> {
-    let mut is_first = true;
-    for value in values {
-        if !is_first {
-            out.push_str(", ")?;
+fn fields(heap: &ControlHeap, alloc: Global, r: u8) -> Result<Option<Vec<Value>>, OutOfMemory>
+    requires { r < 16 }
+{
+    heap.fields(alloc, r)
+}
+
+fn push_values(out: &mut String, values: &[Value]) -> Said {
+    for place in 0..values.len() {
+        if place > 0 {
+            push(out, ", ")?;
         }
-        is_first = false;
-        push_value(out, *value)?;
+        push_value(out, values[place])?;
     }
-    Ok(())
+    Ok(true)
 }
 
 /// One of the sixteen registers.
@@ -194,8 +167,18 @@ pub fn commands_of(alloc: Global, words: &[&str]) -> Result<Option<Vec<Command>>
     Ok(Some(commands))
 }
 
+/// The one command that words spell.
+pub fn one_command(alloc: Global, words: &[&str]) -> Result<Option<Command>, OutOfMemory> {
+    let Some((word, rest)) = words.split_first() else {
+        return Ok(None);
+    };
+    match numbers_of(alloc, rest)? {
+        Some(numbers) => Ok(command_of(word, numbers.as_slice())),
+        None => Ok(None),
+    }
+}
+
 /// Of which command a reply is.
-pub fn push_after(out: &mut String, asked: u64) -> Result<(), OutOfMemory> {
-    write!(out, ", command {asked}")?;
-    Ok(())
+pub fn push_after(out: &mut String, asked: u64) -> Said {
+    push_number(out, ", command", asked)
 }

@@ -1,14 +1,22 @@
 //! An interactive heap: reads commands, one a line, and prints the reply to each.
 #![tactic(auto)]
 
+mod calls;
+mod crew;
+mod crews;
 mod heaps;
 mod help;
+mod one_heap;
 mod pieces;
+mod recording;
 mod replies;
 mod saves;
 mod shell;
+mod stepper;
 mod structures;
+mod system;
 mod trends;
+mod usage;
 mod words;
 
 use block_store::OutOfMemory;
@@ -16,12 +24,13 @@ use exit_statuses::{Question, words_of};
 use help::{HELP, VERSION};
 use shell::Shell;
 use std::alloc::AllocError;
-use std::io::{BufRead, BufReader};
+use std::fmt::Write;
+use std::io::{BufRead, BufReader, IsTerminal};
 use std::process::ExitCode;
 use trace_text::{StdSink, put_line};
 
 /// Why the shell stops before the end of its input.
-#[derive(Clone, Copy, Debug, PartialEq, Eq)]
+#[derive(Clone, Copy)]
 enum Stop {
     Usage,
     ReadFault,
@@ -52,8 +61,9 @@ impl Stop {
     }
 }
 
-/// What a line of the input is.
-#[derive(Clone, Copy, Debug, PartialEq, Eq)]
+/// What a line of the input is. Only where lines are plain, a line that is not understood is named by
+/// its number: the others show the line.
+#[derive(Clone, Copy)]
 enum Form {
     /// A command.
     Plain,
@@ -76,7 +86,7 @@ fn start(rt: &HostRuntime) -> Result<(), Stop> {
     if let Some(question) = Question::of(&words) {
         return say(rt, question.answer(HELP, VERSION));
     }
-    match form_of(&words) {
+    match form_of(&words, rt.stdin().is_terminal()) {
         Some(form) => run(rt, form),
         None => {
             say(rt, "heapsh: usage\n")?;
@@ -85,9 +95,13 @@ fn start(rt: &HostRuntime) -> Result<(), Stop> {
     }
 }
 
-fn form_of(words: &[String]) -> Option<Form> {
+fn form_of(words: &[String], is_terminal: bool) -> Option<Form> {
     let Some(word) = words.first() else {
-        return Some(Form::Plain);
+        return Some(if is_terminal {
+            Form::Prompted
+        } else {
+            Form::Plain
+        });
     };
     match word.as_str() {
         "prompt" => Some(Form::Prompted),
@@ -110,8 +124,8 @@ fn tell_all(
     form: Form,
     input: &mut impl BufRead,
 ) -> Result<(), Stop> {
-    for _ in 0..u64::MAX {
-        if !tell_next(rt, shell, form, input)? {
+    for number in 1..u64::MAX {
+        if !tell_next(rt, shell, form, number, input)? {
             break;
         }
     }
@@ -123,9 +137,10 @@ fn tell_next(
     rt: &HostRuntime,
     shell: &mut Shell,
     form: Form,
+    number: u64,
     input: &mut impl BufRead,
 ) -> Result<bool, Stop> {
-    if form == Form::Prompted {
+    if matches!(form, Form::Prompted) {
         say(rt, "> ")?;
     }
     let mut line = String::new(rt.alloc());
@@ -135,22 +150,33 @@ fn tell_next(
         Err(_) => return Err(Stop::ReadFault),
     }
     let line = line.as_str();
-    tell(rt, shell, form, line.strip_suffix("\n").unwrap_or(line))?;
+    let line = line.strip_suffix("\n").unwrap_or(line);
+    match form {
+        Form::Script => tell_script(rt, shell, line)?,
+        Form::Prompted => tell(rt, shell, None, line)?,
+        Form::Plain => tell(rt, shell, Some(number), line)?,
+    }
     Ok(true)
 }
 
-/// Does what a line says and prints the reply; of a script it prints the line too, unless it is a
-/// reply.
-fn tell(rt: &HostRuntime, shell: &mut Shell, form: Form, line: &str) -> Result<(), Stop> {
-    let mut out = String::new(rt.alloc());
-    if form != Form::Script {
-        shell.answer(line, &mut out)?;
-        return say_line(rt, out);
+/// Does what a line says and prints the reply. If the line is not understood, the reply names its
+/// number.
+fn tell(rt: &HostRuntime, shell: &mut Shell, number: Option<u64>, line: &str) -> Result<(), Stop> {
+    let mut reply = String::new(rt.alloc());
+    let is_understood = shell.answer(line, &mut reply)?;
+    if let (false, Some(number)) = (is_understood, number) {
+        let mut named = String::new(rt.alloc());
+        write!(named, "line {number}: {reply}")?;
+        return say_line(rt, named);
     }
+    say_line(rt, reply)
+}
+
+/// Prints a line of a script, unless it is a reply, and does what it says.
+fn tell_script(rt: &HostRuntime, shell: &mut Shell, line: &str) -> Result<(), Stop> {
     match line.strip_prefix("> ") {
         Some(said) => {
-            out.push_str(line)?;
-            say_line(rt, out)?;
+            say_lent(rt, line)?;
             let mut reply = String::new(rt.alloc());
             shell.answer(said, &mut reply)?;
             if reply.is_empty() {
@@ -159,12 +185,13 @@ fn tell(rt: &HostRuntime, shell: &mut Shell, form: Form, line: &str) -> Result<(
                 say_line(rt, reply)
             }
         }
-        None if line.is_empty() || line.starts_with("#") => {
-            out.push_str(line)?;
-            say_line(rt, out)
-        }
+        None if line.is_empty() || line.starts_with("#") => say_lent(rt, line),
         None => Ok(()),
     }
+}
+
+fn say_lent(rt: &HostRuntime, line: &str) -> Result<(), Stop> {
+    say_line(rt, String::from_str(rt.alloc(), line)?)
 }
 
 fn say_line(rt: &HostRuntime, mut line: String) -> Result<(), Stop> {

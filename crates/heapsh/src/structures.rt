@@ -1,8 +1,8 @@
 //! Rings, queues, maps, alarms, records and trends on a heap.
 
-use crate::replies::{push_fault, push_number, push_value};
+use crate::replies::{Said, push, push_fault, push_number, push_value, push_yes};
 use crate::words::{length, register};
-use block_store::{OutOfMemory, Value};
+use block_store::Value;
 use control_heap::{ControlHeap, Fault};
 use heap_structures::{Alarm, AlarmList, Insertion, Map, Queue, Raised, Records, Ring};
 use std::fmt::Write;
@@ -51,18 +51,17 @@ impl Structures {
         verb: &str,
         n: &[u64],
         out: &mut String,
-    ) -> Result<bool, OutOfMemory> {
+    ) -> Said {
         let call = if verb == "new" {
             self.make(heap, kind, n)
         } else {
             self.use_one(heap, kind, verb, n)
         };
         match call {
-            None => return Ok(false),
-            Some(Err(fault)) => push_fault(out, fault)?,
-            Some(Ok(found)) => push_found(out, found)?,
+            None => Ok(false),
+            Some(Err(fault)) => push_fault(out, fault),
+            Some(Ok(found)) => push_found(out, found),
         }
-        Ok(true)
     }
 
     fn make(&mut self, heap: &mut ControlHeap, kind: &str, n: &[u64]) -> Call {
@@ -269,30 +268,31 @@ fn record_at(records: &Records, heap: &mut ControlHeap, i: u32, d: u8) -> Result
     })
 }
 
-fn push_found(out: &mut String, found: Found) -> Result<(), OutOfMemory> {
+fn push_found(out: &mut String, found: Found) -> Said {
     match found {
-        Found::Done => out.push_str("ok")?,
-        Found::Number(number) => push_number(out, "number", number)?,
-        Found::Value(Some(value)) => push_value(out, value)?,
-        Found::Value(None) | Found::Pair(None) | Found::Alarm(None) => out.push_str("none")?,
-        Found::Flag(flag) => out.push_str(if flag { "yes" } else { "no" })?,
-        Found::Inserted(insertion) => push_insertion(out, insertion)?,
-        Found::Pair(Some((key, value))) => {
-            write!(out, "key {key} ")?;
-            push_value(out, value)?;
-        }
-        Found::Raised(raised) => out.push_str(raised_word(raised))?,
-        Found::Alarm(Some(alarm)) => push_alarm(out, alarm)?,
+        Found::Done => push(out, "ok"),
+        Found::Number(number) => push_number(out, "number", number),
+        Found::Value(Some(value)) => push_value(out, value),
+        Found::Flag(flag) => push_yes(out, flag),
+        Found::Inserted(insertion) => push_insertion(out, insertion),
+        Found::Pair(Some((key, value))) => push_pair(out, key, value),
+        Found::Raised(raised) => push(out, raised_word(raised)),
+        Found::Alarm(Some(alarm)) => push_alarm(out, alarm),
+        Found::Value(None) | Found::Pair(None) | Found::Alarm(None) => push(out, "none"),
     }
-    Ok(())
 }
 
-fn push_insertion(out: &mut String, insertion: Insertion) -> Result<(), OutOfMemory> {
+fn push_pair(out: &mut String, key: u32, value: Value) -> Said {
+    write!(out, "key {key} ")?;
+    push_value(out, value)
+}
+
+fn push_insertion(out: &mut String, insertion: Insertion) -> Said {
     match insertion {
-        Insertion::Added => Ok(out.push_str("added")?),
-        Insertion::Full => Ok(out.push_str("no room")?),
+        Insertion::Added => push(out, "added"),
+        Insertion::Full => push(out, "no room"),
         Insertion::Replaced(value) => {
-            out.push_str("replaced ")?;
+            push(out, "replaced ")?;
             push_value(out, value)
         }
     }
@@ -306,13 +306,14 @@ fn raised_word(raised: Raised) -> &'static str {
     }
 }
 
-fn push_alarm(out: &mut String, alarm: Alarm) -> Result<(), OutOfMemory> {
-    let number = alarm.number;
-    let state = if alarm.acknowledged {
-        "acknowledged"
-    } else {
-        "standing"
-    };
-    write!(out, "alarm {number} {state}")?;
-    Ok(())
+fn push_alarm(out: &mut String, alarm: Alarm) -> Said {
+    push_number(out, "alarm", alarm.number)?;
+    push(
+        out,
+        if alarm.acknowledged {
+            " acknowledged"
+        } else {
+            " standing"
+        },
+    )
 }

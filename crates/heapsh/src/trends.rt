@@ -1,8 +1,9 @@
 //! A trend, which has a heap of its own, and a heap that counts its operations.
 
-use crate::replies::{push_fault, push_number, push_refused};
-use crate::words::{command_of, config_of, length, numbers_of};
-use block_store::{Config, OutOfMemory};
+use crate::heaps::one_command;
+use crate::replies::{Said, push, push_fault, push_number, push_refused};
+use crate::words::{config_of, length, numbers_of};
+use block_store::Config;
 use control_heap::{ControlHeap, Counted, Fault, operations_of};
 use heap_structures::{Sample, Trend};
 use heap_system::opening;
@@ -26,12 +27,7 @@ impl Trends {
     }
 
     /// Opens a trend or does a call on it. Returns whether the words say such a thing.
-    pub fn trend(
-        &mut self,
-        alloc: Global,
-        words: &[&str],
-        out: &mut String,
-    ) -> Result<bool, OutOfMemory> {
+    pub fn trend(&mut self, alloc: Global, words: &[&str], out: &mut String) -> Said {
         let Some((verb, rest)) = words.split_first() else {
             return Ok(false);
         };
@@ -44,12 +40,7 @@ impl Trends {
         call(trend, verb, numbers.as_slice(), out)
     }
 
-    fn open(
-        &mut self,
-        alloc: Global,
-        words: &[&str],
-        out: &mut String,
-    ) -> Result<bool, OutOfMemory> {
+    fn open(&mut self, alloc: Global, words: &[&str], out: &mut String) -> Said {
         let Some((size, rest)) = words.split_first() else {
             return Ok(false);
         };
@@ -57,45 +48,43 @@ impl Trends {
             return Ok(false);
         };
         self.trend = opened(alloc, config, size);
-        let word = match self.trend {
-            Some(_) => "ok",
-            None => "refused: the heap does not fit the trend",
-        };
-        out.push_str(word)?;
-        Ok(true)
+        if self.trend.is_some() {
+            push(out, "ok")
+        } else {
+            push_refused(out, "the heap does not fit the trend")
+        }
     }
 
     /// Opens a heap that counts, or does a command on it. Returns whether the words say such a
     /// thing.
-    pub fn count(
-        &mut self,
-        alloc: Global,
-        words: &[&str],
-        out: &mut String,
-    ) -> Result<bool, OutOfMemory> {
-        let Some((verb, rest)) = words.split_first() else {
+    pub fn count(&mut self, alloc: Global, words: &[&str], out: &mut String) -> Said {
+        if let Some((verb, rest)) = words.split_first() {
+            if *verb == "open" {
+                return self.open_counted(alloc, rest, out);
+            }
+        }
+        let Some(heap) = &mut self.counted else {
+            return push(out, "no heap is open that counts");
+        };
+        match one_command(alloc, words)? {
+            Some(command) => push_operations(heap, command, out),
+            None => Ok(false),
+        }
+    }
+
+    fn open_counted(&mut self, alloc: Global, words: &[&str], out: &mut String) -> Said {
+        let Some(config) = config_of(words) else {
             return Ok(false);
         };
-        if *verb == "open" {
-            let Some(config) = config_of(rest) else {
-                return Ok(false);
-            };
-            self.counted = counting(alloc, config);
-            out.push_str(if self.counted.is_some() {
+        self.counted = counting(alloc, config);
+        push(
+            out,
+            if self.counted.is_some() {
                 "ok"
             } else {
                 "refused"
-            })?;
-            return Ok(true);
-        }
-        let (Some(heap), Some(numbers)) = (&mut self.counted, numbers_of(alloc, rest)?) else {
-            return Ok(false);
-        };
-        match command_of(verb, numbers.as_slice()) {
-            Some(command) => push_operations(heap, command, out)?,
-            None => return Ok(false),
-        }
-        Ok(true)
+            },
+        )
     }
 }
 
@@ -106,31 +95,25 @@ fn opened(alloc: Global, config: Config, size: u32) -> Option<Trend> {
     Trend::open(alloc, config, size).ok()
 }
 
-fn call(trend: &mut Trend, verb: &str, n: &[u64], out: &mut String) -> Result<bool, OutOfMemory> {
+fn call(trend: &mut Trend, verb: &str, n: &[u64], out: &mut String) -> Said {
     match (verb, n) {
-        ("push", [value]) => push(trend, length(*value), false, out)?,
-        ("push_alarm", [value]) => push(trend, length(*value), true, out)?,
-        ("get", [i]) => push_maybe(out, value_at(trend, length(*i)))?,
-        ("alarm", [i]) => push_maybe(out, alarm_at(trend, length(*i)))?,
-        ("len", []) => push_number(out, "number", u64::from(trend.len()))?,
-        ("alarms", []) => push_number(out, "number", u64::from(trend.alarms()))?,
-        ("pushed", []) => push_number(out, "number", trend.pushed())?,
-        _ => return Ok(false),
+        ("push", [value]) => push_sample(trend, *value, false, out),
+        ("push_alarm", [value]) => push_sample(trend, *value, true, out),
+        ("get", [i]) => push_maybe(out, value_at(trend, length(*i))),
+        ("alarm", [i]) => push_maybe(out, alarm_at(trend, length(*i))),
+        ("len", []) => push_number(out, "number", u64::from(trend.len())),
+        ("alarms", []) => push_number(out, "number", u64::from(trend.alarms())),
+        ("pushed", []) => push_number(out, "number", trend.pushed()),
+        _ => Ok(false),
     }
-    Ok(true)
 }
 
-fn push(
-    trend: &mut Trend,
-    value: Option<u32>,
-    alarm: bool,
-    out: &mut String,
-) -> Result<(), OutOfMemory> {
-    let Some(value) = value else {
+fn push_sample(trend: &mut Trend, value: u64, alarm: bool, out: &mut String) -> Said {
+    let Some(value) = length(value) else {
         return push_refused(out, "no number below 2^32");
     };
     match pushed(trend, value, alarm) {
-        Ok(()) => Ok(out.push_str("ok")?),
+        Ok(()) => push(out, "ok"),
         Err(fault) => push_fault(out, fault),
     }
 }
@@ -150,10 +133,10 @@ fn alarm_at(trend: &mut Trend, i: Option<u32>) -> Option<u64> {
     trend.alarm(i?).unwrap_or(None)
 }
 
-fn push_maybe(out: &mut String, number: Option<u64>) -> Result<(), OutOfMemory> {
+fn push_maybe(out: &mut String, number: Option<u64>) -> Said {
     match number {
         Some(number) => push_number(out, "number", number),
-        None => Ok(out.push_str("none")?),
+        None => push(out, "none"),
     }
 }
 
@@ -165,13 +148,13 @@ fn counting(alloc: Global, config: Config) -> Option<ControlHeap<Counted>> {
     ControlHeap::on(alloc, config, words).ok()
 }
 
-fn push_operations(
-    heap: &mut ControlHeap<Counted>,
-    command: Command,
-    out: &mut String,
-) -> Result<(), OutOfMemory> {
-    match operations_of(heap, command) {
+fn push_operations(heap: &mut ControlHeap<Counted>, command: Command, out: &mut String) -> Said {
+    match operations(heap, command) {
         Some(operations) => push_number(out, "operations", operations),
-        None => Ok(out.push_str("refused")?),
+        None => push(out, "refused"),
     }
+}
+
+fn operations(heap: &mut ControlHeap<Counted>, command: Command) -> Option<u64> {
+    operations_of(heap, command)
 }

@@ -25,6 +25,14 @@ pub fn numbers_of(alloc: Global, words: &[&str]) -> Result<Option<Vec<u64>>, Out
     Ok(Some(numbers))
 }
 
+/// The number that the only word spells.
+pub fn one_number(words: &[&str]) -> Option<u64> {
+    match words {
+        [word] => word.parse::<u64>().ok(),
+        _ => None,
+    }
+}
+
 /// The number of a register, which may be none of a heap.
 pub fn register(number: u64) -> Option<u8> {
     u8::try_from(number).ok()
@@ -35,127 +43,100 @@ pub fn length(number: u64) -> Option<u32> {
     u32::try_from(number).ok()
 }
 
-/// The command that a word and numbers are, whether or not a heap takes it.
-pub fn command_of(word: &str, n: &[u64]) -> Option<Command> {
-    match word {
-        "new" => new_of(n),
-        "arr" => arr_of(n),
-        "set" => set_of(n),
-        "nil" => nil_of(n),
-        "mov" => mov_of(n),
-        "get" => get_of(n),
-        "put" => put_of(n),
-        "len" => len_of(n),
-        "same" => same_of(n),
-        "say" => say_of(n),
-        "swap" => swap_of(n),
-        "cas" => cas_of(n),
-        "idle" => idle_of(n),
-        _ => None,
+/// The operands of each command: `r` is a register, `l` a length, `n` any number.
+const OPERANDS: [(&str, &str); 13] = [
+    ("new", "rl"),
+    ("arr", "rl"),
+    ("set", "rn"),
+    ("nil", "r"),
+    ("mov", "rr"),
+    ("get", "rrn"),
+    ("put", "rnr"),
+    ("len", "r"),
+    ("same", "rr"),
+    ("say", "r"),
+    ("swap", "rnr"),
+    ("cas", "rnrr"),
+    ("idle", "n"),
+];
+
+/// Whether these may be the operands of a command that begins with a word.
+fn are_operands(word: &str, n: &[u64]) -> bool {
+    for (name, kinds) in OPERANDS.iter() {
+        if *name == word {
+            return are_of(kinds.as_bytes(), n);
+        }
+    }
+    false
+}
+
+/// Whether each number is of its kind.
+fn are_of(kinds: &[u8], n: &[u64]) -> bool {
+    if kinds.len() != n.len() {
+        return false;
+    }
+    for place in 0..n.len() {
+        if n[place] > most_of(kinds[place]) {
+            return false;
+        }
+    }
+    true
+}
+
+fn most_of(kind: u8) -> u64 {
+    match kind {
+        b'r' => 255,
+        b'l' => 4_294_967_295,
+        _ => u64::MAX,
     }
 }
 
-fn new_of(n: &[u64]) -> Option<Command> {
-    let [d, fields] = n else {
-        return None;
-    };
-    let (d, fields) = (register(*d)?, length(*fields)?);
-    Some(Command::New { d, fields })
+fn number_at(n: &[u64], place: usize) -> u64 {
+    n.get(place).copied().unwrap_or(0)
 }
 
-fn arr_of(n: &[u64]) -> Option<Command> {
-    let [d, elements] = n else {
-        return None;
-    };
-    let (d, elements) = (register(*d)?, length(*elements)?);
-    Some(Command::Arr { d, elements })
+fn register_at(n: &[u64], place: usize) -> u8 {
+    (number_at(n, place) % 256) as u8
 }
 
-fn set_of(n: &[u64]) -> Option<Command> {
-    let [d, value] = n else {
-        return None;
-    };
-    let d = register(*d)?;
-    Some(Command::Set { d, value: *value })
+fn length_at(n: &[u64], place: usize) -> u32 {
+    (number_at(n, place) % 4_294_967_296) as u32
 }
 
-fn nil_of(n: &[u64]) -> Option<Command> {
-    let [d] = n else {
+/// The command that a word and numbers are, whether or not a heap takes it.
+pub fn command_of(word: &str, n: &[u64]) -> Option<Command> {
+    if !are_operands(word, n) {
         return None;
-    };
-    let d = register(*d)?;
-    Some(Command::Nil { d })
-}
-
-fn mov_of(n: &[u64]) -> Option<Command> {
-    let [d, s] = n else {
-        return None;
-    };
-    let (d, s) = (register(*d)?, register(*s)?);
-    Some(Command::Mov { d, s })
-}
-
-fn get_of(n: &[u64]) -> Option<Command> {
-    let [d, s, i] = n else {
-        return None;
-    };
-    let (d, s) = (register(*d)?, register(*s)?);
-    Some(Command::Get { d, s, i: *i })
-}
-
-fn put_of(n: &[u64]) -> Option<Command> {
-    let [s, i, v] = n else {
-        return None;
-    };
-    let (s, v) = (register(*s)?, register(*v)?);
-    Some(Command::Put { s, i: *i, v })
-}
-
-fn len_of(n: &[u64]) -> Option<Command> {
-    let [s] = n else {
-        return None;
-    };
-    let s = register(*s)?;
-    Some(Command::Len { s })
-}
-
-fn same_of(n: &[u64]) -> Option<Command> {
-    let [a, b] = n else {
-        return None;
-    };
-    let (a, b) = (register(*a)?, register(*b)?);
-    Some(Command::Same { a, b })
-}
-
-fn say_of(n: &[u64]) -> Option<Command> {
-    let [s] = n else {
-        return None;
-    };
-    let s = register(*s)?;
-    Some(Command::Say { s })
-}
-
-fn swap_of(n: &[u64]) -> Option<Command> {
-    let [s, i, v] = n else {
-        return None;
-    };
-    let (s, v) = (register(*s)?, register(*v)?);
-    Some(Command::Swap { s, i: *i, v })
-}
-
-fn cas_of(n: &[u64]) -> Option<Command> {
-    let [s, i, a, v] = n else {
-        return None;
-    };
-    let (s, a, v) = (register(*s)?, register(*a)?, register(*v)?);
-    Some(Command::Cas { s, i: *i, a, v })
-}
-
-fn idle_of(n: &[u64]) -> Option<Command> {
-    let [units] = n else {
-        return None;
-    };
-    Some(Command::Idle { units: *units })
+    }
+    let (a, b) = (register_at(n, 0), register_at(n, 1));
+    let (c, e) = (register_at(n, 2), register_at(n, 3));
+    let (x, y, z) = (number_at(n, 0), number_at(n, 1), number_at(n, 2));
+    Some(match word {
+        "new" => Command::New {
+            d: a,
+            fields: length_at(n, 1),
+        },
+        "arr" => Command::Arr {
+            d: a,
+            elements: length_at(n, 1),
+        },
+        "set" => Command::Set { d: a, value: y },
+        "nil" => Command::Nil { d: a },
+        "mov" => Command::Mov { d: a, s: b },
+        "get" => Command::Get { d: a, s: b, i: z },
+        "put" => Command::Put { s: a, i: y, v: c },
+        "len" => Command::Len { s: a },
+        "same" => Command::Same { a, b },
+        "say" => Command::Say { s: a },
+        "swap" => Command::Swap { s: a, i: y, v: c },
+        "cas" => Command::Cas {
+            s: a,
+            i: y,
+            a: c,
+            v: e,
+        },
+        _ => Command::Idle { units: x },
+    })
 }
 
 /// The configuration that words spell: `2 blocks 64 live 20 object 2 shared 0`, where `threads` may
