@@ -1,13 +1,15 @@
 //! A control loop that keeps readings on a heap, and saves and renews the heap meanwhile.
 
+use crate::numbers::two;
 use crate::slim::{
-    copy, finish, get_number, get_of_ring, load, new_ring, number_of, open, picture_of,
-    print_number, print_save, push_to_ring, put, record, renewal_of, ring_len, ring_on, save, set,
+    copy, do_all, finish, get_number, get_of_ring, load, new_ring, open, picture_of, print_number,
+    print_save, push_to_ring, renewal_of, ring_len, ring_on, save,
 };
 use crate::stop::Stop;
 use block_store::{Config, Width};
 use control_heap::ControlHeap;
 use heap_structures::Ring;
+use never_heap::Command;
 use saved_heap::{Picture, Renewal};
 use std::alloc::Global;
 use std::io::{self, BufRead, BufReader, ErrorKind};
@@ -80,9 +82,10 @@ struct Plan {
     renewals: u64,
 }
 
-/// Reads a reading a line, and answers each by a line. It saves the heap each `saves` readings, and
-/// begins to renew it each `renewals` readings.
-pub fn run(rt: &HostRuntime, saves: u64, renewals: u64) -> Result<(), Stop> {
+/// Reads a reading a line, and answers each by a line. The words say after how many readings the
+/// heap is saved each time, and after how many a renewal of it begins.
+pub fn run(rt: &HostRuntime, words: &[String]) -> Result<(), Stop> {
+    let [saves, renewals] = two(words)?;
     let heap = open(rt.alloc(), HEAP)?;
     let mut day = Day::on(rt.alloc(), heap)?;
     keep_all(rt, &mut day, Plan { saves, renewals })
@@ -326,11 +329,31 @@ impl Kept {
 
 /// Makes a record of a reading.
 fn store(heap: &mut ControlHeap, reading: Reading) -> Result<(), Stop> {
-    record(heap, READING, 2)?;
-    set(heap, NUMBER, reading.sensor)?;
-    put(heap, READING, 0, NUMBER)?;
-    set(heap, NUMBER, reading.value)?;
-    put(heap, READING, 1, NUMBER)
+    let Reading { sensor, value } = reading;
+    do_all(
+        heap,
+        &[
+            Command::New {
+                d: READING,
+                fields: 2,
+            },
+            Command::Set {
+                d: NUMBER,
+                value: sensor,
+            },
+            Command::Put {
+                s: READING,
+                i: 0,
+                v: NUMBER,
+            },
+            Command::Set { d: NUMBER, value },
+            Command::Put {
+                s: READING,
+                i: 1,
+                v: NUMBER,
+            },
+        ],
+    )
 }
 
 /// Loads the heap that was saved last, and prints the sum of its readings when it was saved and

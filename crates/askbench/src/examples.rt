@@ -10,8 +10,11 @@ use control_heap::ControlHeap;
 use saved_heap::Picture;
 use std::alloc::Global;
 
-/// Prints what each example gives.
-pub fn run(rt: &HostRuntime) -> Result<(), Stop> {
+/// Prints what each example gives. There are no words.
+pub fn run(rt: &HostRuntime, words: &[String]) -> Result<(), Stop> {
+    if !words.is_empty() {
+        return Err(Stop::Usage);
+    }
     structures::run(rt)?;
     renewing::run(rt)?;
     saving::run(rt)

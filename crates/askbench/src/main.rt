@@ -7,23 +7,22 @@
 mod day;
 mod examples;
 mod help;
+mod numbers;
 mod shared;
 mod slim;
 mod steps;
 mod stop;
-mod task;
 mod times;
 
 use block_store::{Config, Width};
 use exit_statuses::{Question, words_of};
 use help::{HELP, VERSION};
+use slim::print_text;
 use std::process::ExitCode;
 use std::sync::Wait;
 use std::thread::Threads;
 use std::time::Clock;
 use stop::Stop;
-use task::Task;
-use trace_text::{StdSink, put_line};
 
 /// The heap, of blocks of eight words: at most 1,024 of its 4,096 blocks are live.
 const HEAP: Config = Config {
@@ -59,33 +58,17 @@ fn obey<R: Threads + Wait + Clock + Sync>(
     words: &[String],
 ) -> Result<(), Stop> {
     if let Some(question) = Question::of(words) {
-        return say(rt, question.answer(HELP, VERSION));
+        return print_text(rt, question.answer(HELP, VERSION));
     }
-    match Task::of(words) {
-        Some(task) => run(rt, threads, task),
-        None => Err(Stop::Usage),
-    }
-}
-
-fn run<R: Threads + Wait + Clock + Sync>(
-    rt: &HostRuntime,
-    threads: &R,
-    task: Task,
-) -> Result<(), Stop> {
-    match task {
-        Task::Times { requests, ticks } => times::run(rt, requests, ticks),
-        Task::Steps(heap) => steps::most(rt, heap),
-        Task::Make { command, times } => steps::make(rt, command, times),
-        Task::Day { saves, renewals } => day::run(rt, saves, renewals),
-        Task::Shared(plan) => shared::commands::run(rt, threads, plan),
-        Task::Tags(rounds) => shared::tags::run(rt, threads, rounds),
-        Task::Examples => examples::run(rt),
-    }
-}
-
-fn say(rt: &HostRuntime, text: &str) -> Result<(), Stop> {
-    match put_line(text.as_bytes(), 0, &mut StdSink::new(rt.stdout())) {
-        0 => Ok(()),
-        _ => Err(Stop::WriteFault),
+    let Some((first, rest)) = words.split_first() else {
+        return Err(Stop::Usage);
+    };
+    match first.as_str() {
+        "steps" => steps::most(rt, rest),
+        "make" => steps::make(rt, rest),
+        "day" => day::run(rt, rest),
+        "shared" => shared::run(rt, threads, rest),
+        "examples" => examples::run(rt, rest),
+        _ => times::run(rt, words),
     }
 }

@@ -4,13 +4,14 @@
 use crate::stop::Stop;
 use crate::times::Ranks;
 use block_store::{Config, Value};
+use control_heap::outcomes::outcome_of;
 use control_heap::{ControlHeap, Fault, Refused};
 use heap_structures::Ring;
-use never_heap::Command;
+use never_heap::{Command, Reply};
 use saved_heap::{Picture, Renewal};
 use std::alloc::Global;
 use std::io;
-use std::time::Instant;
+use std::time::Clock;
 
 pub fn open(alloc: Global, config: Config) -> Result<ControlHeap, Stop> {
     match ControlHeap::open(alloc, config) {
@@ -29,42 +30,37 @@ pub fn ask(heap: &mut ControlHeap, command: Command) -> Result<(), Refused> {
     }
 }
 
+/// Does a command, or says why it was not done.
+fn done(heap: &mut ControlHeap, command: Command) -> Result<Reply, Stop> {
+    match outcome_of(heap.ask(command)) {
+        Ok(reply) => Ok(reply),
+        Err(fault) => Err(Stop::Refused(fault)),
+    }
+}
+
+/// Does commands one after the other, up to the first that is not done.
+pub fn do_all(heap: &mut ControlHeap, commands: &[Command]) -> Result<(), Stop> {
+    for command in commands {
+        done(heap, *command)?;
+    }
+    Ok(())
+}
+
+/// Loads a field that holds a number, and returns it.
+pub fn get_number(heap: &mut ControlHeap, d: u8, s: u8, i: u64) -> Result<u64, Stop> {
+    match done(heap, Command::Get { d, s, i }) {
+        Ok(Reply::Val(Value::Int(number))) => Ok(number),
+        Ok(_) => Err(Stop::Lost),
+        Err(stop) => Err(stop),
+    }
+}
+
 /// The most operations of a command.
 pub fn most_operations(heap: &ControlHeap, command: &Command) -> Result<u64, Stop> {
     if command.in_bounds(heap.config()) {
         Ok(heap.most_operations(command))
     } else {
         Err(Stop::Refused(Fault::OutOfBounds))
-    }
-}
-
-pub fn record(heap: &mut ControlHeap, d: u8, fields: u32) -> Result<(), Stop> {
-    match heap.record(d, fields) {
-        Ok(_) => Ok(()),
-        Err(fault) => Err(Stop::Refused(fault)),
-    }
-}
-
-pub fn set(heap: &mut ControlHeap, d: u8, value: u64) -> Result<(), Stop> {
-    match heap.set(d, value) {
-        Ok(()) => Ok(()),
-        Err(fault) => Err(Stop::Refused(fault)),
-    }
-}
-
-pub fn put(heap: &mut ControlHeap, s: u8, i: u64, v: u8) -> Result<(), Stop> {
-    match heap.put(s, i, v) {
-        Ok(()) => Ok(()),
-        Err(fault) => Err(Stop::Refused(fault)),
-    }
-}
-
-/// Loads a field that holds a number, and returns it.
-pub fn get_number(heap: &mut ControlHeap, d: u8, s: u8, i: u64) -> Result<u64, Stop> {
-    match heap.get(d, s, i) {
-        Ok(Value::Int(number)) => Ok(number),
-        Ok(_) => Err(Stop::Lost),
-        Err(fault) => Err(Stop::Refused(fault)),
     }
 }
 
@@ -150,20 +146,12 @@ pub fn finish(renewal: Renewal) -> Result<ControlHeap, Stop> {
     }
 }
 
+/// What the clock reads; 0 if it cannot be read.
 #[inline(always)]
-pub fn now(rt: &HostRuntime) -> Result<Instant, Stop> {
-    match Instant::now(rt) {
-        Ok(time) => Ok(time),
-        Err(_) => Err(Stop::Clock),
-    }
-}
-
-/// The nanoseconds since a time.
-#[inline(always)]
-pub fn since(rt: &HostRuntime, start: &Instant) -> Result<u64, Stop> {
-    match start.elapsed(rt) {
-        Ok(time) => Ok(u64::try_from(time.as_nanos()).unwrap_or(u64::MAX)),
-        Err(_) => Err(Stop::Clock),
+pub fn nanoseconds<C: Clock>(clock: &C) -> u64 {
+    match clock.monotonic() {
+        Ok(time) => u64::try_from(time.as_nanos()).unwrap_or(u64::MAX),
+        Err(_) => 0,
     }
 }
 
@@ -175,27 +163,24 @@ pub fn push(times: &mut Vec<u64>, time: u64) -> Result<(), Stop> {
     }
 }
 
-pub fn number_of(word: &str) -> Option<u64> {
-    trace_text::number_of(word.as_bytes())
+pub fn print_text(rt: &HostRuntime, text: &str) -> Result<(), Stop> {
+    written(print!(rt; "{text}"))
 }
 
 pub fn print_number(rt: &HostRuntime, name: &str, number: u64) -> Result<(), Stop> {
     written(println!(rt; "{name} {number}"))
 }
 
-/// Begins a line.
-pub fn print_head(rt: &HostRuntime, kind: &str) -> Result<(), Stop> {
-    written(print!(rt; "{kind}: "))
-}
-
-/// Ends a line.
-pub fn print_ranks(rt: &HostRuntime, ranks: Ranks) -> Result<(), Stop> {
+/// Prints the line of some times, or the rest of it.
+pub fn print_ranks(rt: &HostRuntime, begins: &str, ranks: Ranks) -> Result<(), Stop> {
     let Ranks {
         median,
         most,
         longest,
     } = ranks;
-    written(println!(rt; "median {median} ns, 99.9 per cent {most} ns, longest {longest} ns"))
+    written(println!(rt;
+        "{begins} median {median} ns, 99.9 per cent {most} ns, longest {longest} ns"
+    ))
 }
 
 pub fn print_save(rt: &HostRuntime, bytes: usize, saved: u64, loaded: u64) -> Result<(), Stop> {

@@ -13,7 +13,9 @@ pub enum Stop {
     BadLine(u64),
     /// The heap was not opened.
     Open(OpenFault),
-    /// The heap refused a call.
+    /// The heap refused a command.
+    NotAsked(Refused),
+    /// The heap refused a call, or answered that it could not be done.
     Refused(Fault),
     /// The heap was not saved.
     NotSaved(NotSaved),
@@ -45,7 +47,7 @@ pub enum Stop {
 
 impl From<Refused> for Stop {
     fn from(refused: Refused) -> Stop {
-        Stop::Refused(Fault::from(refused))
+        Stop::NotAsked(refused)
     }
 }
 
@@ -83,18 +85,17 @@ impl Stop {
 
     /// Prints the reason on standard error. Where that can't be written there is nothing to be done.
     pub fn tell(self, rt: &HostRuntime) {
-        let _ = match self {
-            Stop::BadLine(line) => eprintln!(rt; "askbench: line {line} is no reading"),
-            Stop::NoJob(TraceFault::BadLine { line, why }) => {
-                eprintln!(rt; "askbench: line {line}: {}", why.text())
-            }
-            _ => eprintln!(rt; "askbench: {}", self.text()),
-        };
+        match self {
+            Stop::BadLine(line) => tell_line(rt, line, " ", "is no reading"),
+            Stop::NoJob(TraceFault::BadLine { line, why }) => tell_line(rt, line, ": ", why.text()),
+            _ => tell_text(rt, self.text()),
+        }
     }
 
     fn text(self) -> &'static str {
         match self {
             Stop::Open(fault) => fault.text(),
+            Stop::NotAsked(refused) => refused.text(),
             Stop::Refused(fault) => fault.text(),
             Stop::NotSaved(fault) => fault.text(),
             Stop::NotLoaded(fault) => fault.text(),
@@ -135,4 +136,12 @@ fn job_status(fault: TraceFault) -> u8 {
         TraceFault::OutOfMemory => 7,
         _ => 3,
     }
+}
+
+fn tell_text(rt: &HostRuntime, text: &str) {
+    let _ = eprintln!(rt; "askbench: {text}");
+}
+
+fn tell_line(rt: &HostRuntime, line: u64, joint: &str, text: &str) {
+    let _ = eprintln!(rt; "askbench: line {line}{joint}{text}");
 }

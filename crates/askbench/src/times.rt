@@ -1,17 +1,37 @@
 //! How long requests take, and how late a loop of 1 kHz runs.
 
 use crate::HEAP;
-use crate::slim::{ask, now, open, print_head, print_ranks, push, since};
+use crate::numbers::two;
+use crate::slim::{ask, do_all, nanoseconds, open, print_ranks, push};
 use crate::stop::Stop;
 use control_heap::ControlHeap;
 use never_heap::Command;
-use std::time::Instant;
 
 /// How many records are live while requests are timed.
 const LIVE: u64 = 500;
 
+/// The requests that are timed, each with the beginning of its line.
+const KINDS: [(&str, Command); 6] = [
+    ("new:", Command::New { d: 1, fields: 2 }),
+    ("get:", Command::Get { d: 3, s: 2, i: 0 }),
+    ("put:", Command::Put { s: 1, i: 1, v: 2 }),
+    ("swap:", Command::Swap { s: 1, i: 1, v: 2 }),
+    ("set:", Command::Set { d: 4, value: 7 }),
+    ("idle 10:", Command::Idle { units: 10 }),
+];
+
 /// Prints a line for each kind of request, and one for the loop.
-pub fn run(rt: &HostRuntime, requests: u64, ticks: u64) -> Result<(), Stop> {
+pub fn run(rt: &HostRuntime, words: &[String]) -> Result<(), Stop> {
+    match two(words)? {
+        [0, _] | [_, 0] => Err(Stop::Usage),
+        [requests, ticks] => time_all(rt, requests, ticks),
+    }
+}
+
+fn time_all(rt: &HostRuntime, requests: u64, ticks: u64) -> Result<(), Stop> {
+    if nanoseconds(rt) == 0 {
+        return Err(Stop::Clock);
+    }
     time_requests(rt, requests)?;
     time_ticks(rt, ticks)
 }
@@ -23,15 +43,8 @@ fn time_requests(rt: &HostRuntime, requests: u64) -> Result<(), Stop> {
 
 fn time_kinds(rt: &HostRuntime, heap: &mut ControlHeap, requests: u64) -> Result<(), Stop> {
     fill(heap)?;
-    for (kind, command) in [
-        ("new", Command::New { d: 1, fields: 2 }),
-        ("get", Command::Get { d: 3, s: 2, i: 0 }),
-        ("put", Command::Put { s: 1, i: 1, v: 2 }),
-        ("swap", Command::Swap { s: 1, i: 1, v: 2 }),
-        ("set", Command::Set { d: 4, value: 7 }),
-        ("idle 10", Command::Idle { units: 10 }),
-    ] {
-        time_kind(rt, heap, kind, command, requests)?;
+    for (kind, command) in KINDS.iter() {
+        time_kind(rt, heap, kind, *command, requests)?;
     }
     Ok(())
 }
@@ -53,9 +66,14 @@ fn time_kind(
 /// Makes a list of records in register 2.
 pub fn fill(heap: &mut ControlHeap) -> Result<(), Stop> {
     for _ in 0..LIVE {
-        ask(heap, Command::New { d: 1, fields: 2 })?;
-        ask(heap, Command::Put { s: 1, i: 0, v: 2 })?;
-        ask(heap, Command::Mov { d: 2, s: 1 })?;
+        do_all(
+            heap,
+            &[
+                Command::New { d: 1, fields: 2 },
+                Command::Put { s: 1, i: 0, v: 2 },
+                Command::Mov { d: 2, s: 1 },
+            ],
+        )?;
     }
     Ok(())
 }
@@ -69,9 +87,9 @@ fn add_times(
     times: &mut Vec<u64>,
 ) -> Result<(), Stop> {
     for _ in 0..requests {
-        let start = now(rt)?;
+        let before = nanoseconds(rt);
         ask(heap, command)?;
-        push(times, since(rt, &start)?)?;
+        push(times, nanoseconds(rt).saturating_sub(before))?;
     }
     Ok(())
 }
@@ -85,7 +103,7 @@ fn time_loop(rt: &HostRuntime, heap: &mut ControlHeap, ticks: u64) -> Result<(),
     fill(heap)?;
     let mut late = Vec::new(rt.alloc());
     match add_lateness(rt, heap, ticks, &mut late) {
-        Ok(()) => tell(rt, "tick", &mut late),
+        Ok(()) => tell(rt, "tick:", &mut late),
         Err(stop) => Err(stop),
     }
 }
@@ -98,34 +116,38 @@ fn add_lateness(
     ticks: u64,
     late: &mut Vec<u64>,
 ) -> Result<(), Stop> {
-    let start = now(rt)?;
-    for tick in 1..=ticks {
-        let due = tick.saturating_mul(1_000_000);
-        await_time(rt, &start, due)?;
+    let mut due = nanoseconds(rt);
+    for tick in 0..ticks {
+        due = due.saturating_add(1_000_000);
+        await_time(rt, due);
         work(heap, tick)?;
-        push(late, since(rt, &start)?.saturating_sub(due))?;
+        push(late, nanoseconds(rt).saturating_sub(due))?;
     }
     Ok(())
 }
 
-/// Reads the clock until so many nanoseconds have passed.
-fn await_time(rt: &HostRuntime, start: &Instant, due: u64) -> Result<(), Stop> {
+/// Reads the clock until it reads so much.
+fn await_time(rt: &HostRuntime, due: u64) {
     for _ in 0..u64::MAX {
-        if since(rt, start)? >= due {
-            return Ok(());
+        if nanoseconds(rt) >= due {
+            return;
         }
     }
-    Err(Stop::Clock)
 }
 
 /// Stores values in a record. Each fifth tick makes a new record.
 fn work(heap: &mut ControlHeap, tick: u64) -> Result<(), Stop> {
-    if tick % 5 == 1 {
-        ask(heap, Command::New { d: 1, fields: 2 })?;
+    if tick % 5 == 0 {
+        do_all(heap, &[Command::New { d: 1, fields: 2 }])?;
     }
-    for i in 0..20 {
-        ask(heap, Command::Set { d: 4, value: i })?;
-        ask(heap, Command::Put { s: 1, i: 1, v: 4 })?;
+    for value in 0..20 {
+        do_all(
+            heap,
+            &[
+                Command::Set { d: 4, value },
+                Command::Put { s: 1, i: 1, v: 4 },
+            ],
+        )?;
     }
     Ok(())
 }
@@ -139,29 +161,26 @@ pub struct Ranks {
     pub longest: u64,
 }
 
-impl Ranks {
-    /// Those of some times, which it sorts, if there are any.
-    pub fn of(times: &mut Vec<u64>) -> Option<Ranks> {
-        times.sort_unstable();
-        let count = times.len();
-        let most = count.saturating_sub(count / 1000 + 1);
-        Some(Ranks {
-            median: *times.get(count / 2)?,
-            most: *times.get(most)?,
-            longest: *times.last()?,
-        })
+/// Those of some times, which it sorts. Of no times they are 0.
+fn ranks_of(times: &mut Vec<u64>) -> Ranks {
+    times.sort_unstable();
+    let count = times.len();
+    Ranks {
+        median: time_at(times, count / 2),
+        most: time_at(times, count.saturating_sub(count / 1000 + 1)),
+        longest: time_at(times, count.saturating_sub(1)),
     }
 }
 
-/// Prints three of the times of a kind, or nothing if there are none.
-fn tell(rt: &HostRuntime, kind: &str, times: &mut Vec<u64>) -> Result<(), Stop> {
-    match Ranks::of(times) {
-        Some(ranks) => print_of_kind(rt, kind, ranks),
-        None => Ok(()),
-    }
+fn time_at(times: &[u64], place: usize) -> u64 {
+    times.get(place).copied().unwrap_or(0)
 }
 
-fn print_of_kind(rt: &HostRuntime, kind: &str, ranks: Ranks) -> Result<(), Stop> {
-    print_head(rt, kind)?;
-    print_ranks(rt, ranks)
+/// Prints three of the times of a kind, after the beginning of its line, or nothing if there are
+/// none.
+pub fn tell(rt: &HostRuntime, begins: &str, times: &mut Vec<u64>) -> Result<(), Stop> {
+    if times.is_empty() {
+        return Ok(());
+    }
+    print_ranks(rt, begins, ranks_of(times))
 }

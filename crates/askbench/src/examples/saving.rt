@@ -1,10 +1,11 @@
 //! A heap that comes back after a restart, in a larger configuration.
 
 use crate::examples::{are_alike, graph};
-use crate::slim::{load, open, put, record, save, set, written};
+use crate::slim::{do_all, load, open, save, written};
 use crate::stop::Stop;
 use block_store::{Config, Width};
 use control_heap::ControlHeap;
+use never_heap::Command;
 use saved_heap::needs_of;
 
 // The heap of the program `plant`: 40 readings, each a record of one block, in the shared array.
@@ -18,10 +19,19 @@ const PLANT: Config = Config {
 };
 
 fn keep(heap: &mut ControlHeap, place: u64) -> Result<(), Stop> {
-    record(heap, 1, 1)?;
-    set(heap, 2, 1000)?;
-    put(heap, 1, 0, 2)?;
-    put(heap, 0, place, 1)
+    do_all(
+        heap,
+        &[
+            Command::New { d: 1, fields: 1 },
+            Command::Set { d: 2, value: 1000 },
+            Command::Put { s: 1, i: 0, v: 2 },
+            Command::Put {
+                s: 0,
+                i: place,
+                v: 1,
+            },
+        ],
+    )
 }
 
 fn fill(heap: &mut ControlHeap) -> Result<(), Stop> {

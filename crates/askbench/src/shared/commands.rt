@@ -2,11 +2,11 @@
 
 ghost use Rattle.std.specs.Prelude.{◌≡◌};
 
+use crate::numbers::three;
 use crate::shared::kinds::add_kind;
-use crate::shared::slim::{ask, nanoseconds, open, read_job, room, tell};
-use crate::slim::push;
+use crate::shared::slim::{ask, open, read_job, room, tell_of};
+use crate::slim::{nanoseconds, push};
 use crate::stop::Stop;
-use crate::task::Plan;
 use never_heap::Command;
 use shared_heap::{SharedHeap, Worker};
 use std::alloc::Global;
@@ -19,21 +19,25 @@ use trace_text::Job;
 /// The times of one thread, in the order of its commands.
 pub type Times = Result<Vec<u64>, Stop>;
 
-/// The times that count, of one thread, and those of the commands before.
-#[derive(Drop)]
-struct Lists {
-    timed: Vec<u64>,
-    ignored: Vec<u64>,
+/// What each thread does after its trace: its last commands again and again.
+#[derive(Clone, Copy)]
+pub struct Plan {
+    /// How many of its last commands.
+    pub tail: u64,
+    /// How often they are done untimed, and how often timed after that.
+    pub warm: u64,
+    pub timed: u64,
 }
 
 /// Prints a line for each kind of command, and one for all.
 pub fn run<R: Threads + Wait + Clock + Sync>(
     rt: &HostRuntime,
     threads: &R,
-    plan: Plan,
+    words: &[String],
 ) -> Result<(), Stop> {
+    let [tail, warm, timed] = three(words)?;
     let job = read_job(rt)?;
-    time_job(rt, threads, &job, plan)
+    time_job(rt, threads, &job, Plan { tail, warm, timed })
 }
 
 fn time_job<R: Threads + Wait + Clock + Sync>(
@@ -62,7 +66,7 @@ fn tell_kind(
 ) -> Result<(), Stop> {
     let mut found = Vec::new(rt.alloc());
     match add_kind(job, plan, all, kind, &mut found) {
-        Ok(()) => tell(rt, kind, "commands", &mut found),
+        Ok(()) => tell_of(rt, kind, "commands", &mut found),
         Err(stop) => Err(stop),
     }
 }
@@ -114,23 +118,17 @@ fn thread_times<R: Wait + Clock>(
 {
     let mut who = who;
     let trace = trace_of(job, who.thread() as usize);
-    let mut lists = lists_for(alloc, trace, plan)?;
-    match do_trace(rt, heap, &mut who, trace, plan, &mut lists) {
-        Ok(()) => Ok(timed_of(lists)),
+    let mut times = room(alloc, most_times(trace, plan))?;
+    match do_trace(rt, heap, &mut who, trace, plan, &mut times) {
+        Ok(()) => Ok(times),
         Err(stop) => Err(stop),
     }
 }
 
-fn timed_of(lists: Lists) -> Vec<u64> {
-    let Lists { timed, .. } = lists;
-    timed
-}
-
-fn lists_for(alloc: Global, trace: &[Command], plan: Plan) -> Result<Lists, Stop> {
+/// How many times are kept at most: those of the trace, or those that are timed.
+fn most_times(trace: &[Command], plan: Plan) -> u64 {
     let tail = tail_of(trace, plan).len() as u64;
-    let timed = room(alloc, tail.saturating_mul(plan.timed))?;
-    let ignored = room(alloc, trace.len() as u64)?;
-    Ok(Lists { timed, ignored })
+    tail.saturating_mul(plan.timed).max(trace.len() as u64)
 }
 
 /// Does the trace of a thread, then its tail untimed, and then timed.
@@ -140,18 +138,19 @@ fn do_trace<R: Wait + Clock>(
     who: &mut Worker,
     trace: &[Command],
     plan: Plan,
-    lists: &mut Lists,
+    times: &mut Vec<u64>,
 ) -> Result<(), Stop>
     requires { who.old.heap ≡ heap.now.id }
 {
     let tail = tail_of(trace, plan);
-    add_times(rt, heap, who, trace, &mut lists.ignored)?;
+    add_times(rt, heap, who, trace, times)?;
     for _before in 0..plan.warm {
-        lists.ignored.clear();
-        add_times(rt, heap, who, tail, &mut lists.ignored)?;
+        times.clear();
+        add_times(rt, heap, who, tail, times)?;
     }
+    times.clear();
     for _round in 0..plan.timed {
-        add_times(rt, heap, who, tail, &mut lists.timed)?;
+        add_times(rt, heap, who, tail, times)?;
     }
     Ok(())
 }

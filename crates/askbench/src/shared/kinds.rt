@@ -1,9 +1,8 @@
 //! The times of the commands of one kind.
 
-use crate::shared::commands::{Times, tail_of, trace_of};
+use crate::shared::commands::{Plan, Times, tail_of, trace_of};
 use crate::slim::push;
 use crate::stop::Stop;
-use crate::task::Plan;
 use never_heap::Command;
 use trace_text::Job;
 

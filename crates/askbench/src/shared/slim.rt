@@ -5,16 +5,15 @@ ghost use Rattle.std.specs.Prelude.{◌≡◌, IfOk};
 ghost use Rattle.shared_heap.specs.Workers as heaps;
 ghost use Rattle.live_tables.specs.rows.Workers.{AreEachOnce, IsOf};
 
-use crate::slim::{print_ranks, push, written};
+use crate::slim::written;
 use crate::stop::Stop;
-use crate::times::Ranks;
+use crate::times::tell;
 use block_store::Config;
 use live_tables::tags::{LiveTags, TagWorker};
 use never_heap::Command;
 use shared_heap::{SharedHeap, Worker};
 use std::alloc::Global;
 use std::sync::Wait;
-use std::time::Clock;
 use trace_text::{Job, StdSource, read_trace};
 
 /// How many places the table of tags has.
@@ -48,7 +47,7 @@ pub fn ask<R: Wait>(
 {
     match heap.ask(rt, who, command) {
         Ok(_) => Ok(()),
-        Err(refused) => Err(Stop::from(refused)),
+        Err(refused) => Err(Stop::NotAsked(refused)),
     }
 }
 
@@ -101,59 +100,21 @@ pub fn read_tag<R: Wait>(
     }
 }
 
-/// What the clock reads; 0 if it cannot be read.
-#[inline(always)]
-pub fn nanoseconds<C: Clock>(clock: &C) -> u64 {
-    match clock.monotonic() {
-        Ok(time) => u64::try_from(time.as_nanos()).unwrap_or(u64::MAX),
-        Err(_) => 0,
-    }
-}
-
 /// An empty list with room for so many times, whose pages have been written before.
 pub fn room(alloc: Global, times: u64) -> Result<Vec<u64>, Stop> {
-    let mut room = with_capacity(alloc, times)?;
-    match fill(&mut room, times) {
-        Ok(()) => Ok(room),
-        Err(stop) => Err(stop),
-    }
-}
-
-fn with_capacity(alloc: Global, times: u64) -> Result<Vec<u64>, Stop> {
-    match Vec::with_capacity(alloc, times as usize) {
-        Ok(room) => Ok(room),
-        Err(_) => Err(Stop::NoMemory),
-    }
-}
-
-fn fill(room: &mut Vec<u64>, times: u64) -> Result<(), Stop> {
-    for _ in 0..times {
-        push(room, 0)?;
-    }
+    let Ok(mut room) = vec![in alloc; 0; times as usize] else {
+        return Err(Stop::NoMemory);
+    };
     room.clear();
-    Ok(())
+    Ok(room)
 }
 
-/// Prints the median of times of commands or operations, what 999 of 1,000 are within, and the
-/// longest. Prints nothing if there are none.
-pub fn tell(rt: &HostRuntime, kind: &str, of: &str, times: &mut Vec<u64>) -> Result<(), Stop> {
-    match Ranks::of(times) {
-        Some(ranks) => print_of_kind(rt, kind, times.len(), of, ranks),
-        None => Ok(()),
+/// Prints the number of times of commands or operations, their median, what 999 of 1,000 are
+/// within, and the longest. Prints nothing if there are none.
+pub fn tell_of(rt: &HostRuntime, kind: &str, of: &str, times: &mut Vec<u64>) -> Result<(), Stop> {
+    let count = times.len();
+    if count > 0 {
+        written(print!(rt; "{kind}: {count} {of},"))?;
     }
-}
-
-fn print_of_kind(
-    rt: &HostRuntime,
-    kind: &str,
-    count: usize,
-    of: &str,
-    ranks: Ranks,
-) -> Result<(), Stop> {
-    print_count(rt, kind, count, of)?;
-    print_ranks(rt, ranks)
-}
-
-fn print_count(rt: &HostRuntime, kind: &str, count: usize, of: &str) -> Result<(), Stop> {
-    written(print!(rt; "{kind}: {count} {of}, "))
+    tell(rt, "", times)
 }

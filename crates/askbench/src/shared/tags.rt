@@ -3,16 +3,25 @@
 
 ghost use Rattle.live_tables.specs.rows.Workers.{IsOf};
 
-use crate::shared::slim::{nanoseconds, open_tags, read_tag, room, tell, write_tag};
-use crate::slim::push;
+use crate::numbers::{size_at, three};
+use crate::shared::slim::{open_tags, read_tag, room, tell_of, write_tag};
+use crate::slim::{nanoseconds, push};
 use crate::stop::Stop;
-use crate::task::Rounds;
 use live_tables::tags::{LiveTags, TagWorker};
 use std::alloc::Global;
 use std::sync::Wait;
 use std::thread;
 use std::thread::Threads;
 use std::time::Clock;
+
+/// What each thread does: rounds of a write and a read of one place.
+#[derive(Clone, Copy)]
+struct Rounds {
+    threads: u32,
+    /// How many are done untimed, and how many timed after that.
+    warm: u64,
+    timed: u64,
+}
 
 /// The times of writes and reads, in nanoseconds.
 #[derive(Drop)]
@@ -25,10 +34,20 @@ struct Times {
 pub fn run<R: Threads + Wait + Clock + Sync>(
     rt: &HostRuntime,
     threads: &R,
-    rounds: Rounds,
+    words: &[String],
 ) -> Result<(), Stop> {
-    let each = all_times(threads, rt.alloc(), rounds)?;
+    let each = all_times(threads, rt.alloc(), rounds_of(words)?)?;
     tell_all(rt, each.as_slice())
+}
+
+fn rounds_of(words: &[String]) -> Result<Rounds, Stop> {
+    let [_, warm, timed] = three(words)?;
+    let threads = size_at(words, 0)?;
+    Ok(Rounds {
+        threads,
+        warm,
+        timed,
+    })
 }
 
 fn tell_all(rt: &HostRuntime, each: &[Result<Times, Stop>]) -> Result<(), Stop> {
@@ -43,21 +62,25 @@ fn tell_all(rt: &HostRuntime, each: &[Result<Times, Stop>]) -> Result<(), Stop> 
 }
 
 fn tell_times(rt: &HostRuntime, all: &mut Times) -> Result<(), Stop> {
-    tell(rt, "write", "operations", &mut all.writes)?;
-    tell(rt, "read", "operations", &mut all.reads)
+    tell_of(rt, "write", "operations", &mut all.writes)?;
+    tell_of(rt, "read", "operations", &mut all.reads)
 }
 
 fn add_all(each: &[Result<Times, Stop>], all: &mut Times) -> Result<(), Stop> {
     for times in each {
-        match times {
-            Ok(times) => {
-                add_list(&times.writes, &mut all.writes)?;
-                add_list(&times.reads, &mut all.reads)?;
-            }
-            Err(stop) => return Err(*stop),
-        }
+        add_of(times, all)?;
     }
     Ok(())
+}
+
+fn add_of(times: &Result<Times, Stop>, all: &mut Times) -> Result<(), Stop> {
+    match times {
+        Ok(times) => {
+            add_list(&times.writes, &mut all.writes)?;
+            add_list(&times.reads, &mut all.reads)
+        }
+        Err(stop) => Err(*stop),
+    }
 }
 
 fn add_list(times: &[u64], all: &mut Vec<u64>) -> Result<(), Stop> {
