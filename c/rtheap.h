@@ -93,9 +93,9 @@ typedef enum rtheap_status {
     RTHEAP_ERR_MEMORY = 8,           /* an allocation failed */
     RTHEAP_ERR_NULL_HANDLE = 10,     /* the handle is NULL */
     RTHEAP_ERR_FULL = 11,            /* no room: more than `live` blocks were reachable */
-    RTHEAP_ERR_NIL = 12,             /* register s holds nil, and no reference */
-    RTHEAP_ERR_NOT_OBJECT = 13,      /* register s holds a number, and no reference */
-    RTHEAP_ERR_RANGE = 14,           /* the object in register s has no field or element i */
+    RTHEAP_ERR_NIL = 12,             /* register s, or a field on a path, holds nil */
+    RTHEAP_ERR_NOT_OBJECT = 13,      /* it holds a number, and no reference */
+    RTHEAP_ERR_RANGE = 14,           /* the object has no field or element i */
     RTHEAP_ERR_TOO_SMALL = 15,       /* the lent memory is too small, or NULL */
     RTHEAP_ERR_BUSY = 16,            /* the worker's last command is not done */
     RTHEAP_NOT_DONE = 17,            /* the command is not done yet */
@@ -349,6 +349,24 @@ RTHEAP_CHECKED rtheap_status rtheap_get_numbers(rtheap *heap, uint32_t d, uint32
 RTHEAP_CHECKED rtheap_status rtheap_put_numbers(rtheap *heap, uint32_t s, uint64_t first,
                                                 uint32_t v, const uint64_t *numbers, size_t count,
                                                 size_t *done);
+
+/* ---- rtheap_peek: reads without a command ---- */
+
+/* Returns what field i of the object in register s holds, as rtheap_get does. May be NIL,
+   NOT_OBJECT, RANGE or BOUNDS. Reads are no commands: they change no register and no field, do no
+   unit, take nothing of the heap's life, and are not told as lines of a job. But they use the
+   handle as commands do, and an error is noted there. So a read in another thread than the commands
+   may be RTHEAP_ERR_IN_USE, and so may a command at the time. */
+RTHEAP_CHECKED rtheap_status rtheap_peek(const rtheap *heap, uint32_t s, uint64_t i,
+                                         rtheap_value *value);
+
+/* Returns what is at the end of a path of `count` indices from register s: with none what the
+   register holds, and with {i, j} what field j holds of the object in field i of the object in
+   register s. Its time grows with the path, and in objects of several blocks with the indices. If
+   the path cannot be followed, the last error has the place of the index in `indices`. */
+RTHEAP_CHECKED rtheap_status rtheap_peek_path(const rtheap *heap, uint32_t s,
+                                              const uint64_t *indices, size_t count,
+                                              rtheap_value *value);
 
 /* ---- rtheap_statistics: gauges, which change nothing, not even the handle ---- */
 

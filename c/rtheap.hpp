@@ -17,6 +17,7 @@
 #include <cstddef>
 #include <cstdint>
 #include <exception>
+#include <initializer_list>
 
 #include "rtheap_shared.h"
 
@@ -139,6 +140,20 @@ public:
     }
     [[nodiscard]] result<rtheap_error> last_error() const noexcept {
         return told<rtheap_error>([&](auto *e) { return rtheap_last_error(c(), e, sizeof *e); });
+    }
+
+    // Reads without a command: a field, and along a path of indices.
+    [[nodiscard]] result<rtheap_value> peek(std::uint32_t s, std::uint64_t i) const noexcept {
+        return told<rtheap_value>([&](auto *value) { return rtheap_peek(c(), s, i, value); });
+    }
+    [[nodiscard]] result<rtheap_value>
+    peek_path(std::uint32_t s, std::initializer_list<std::uint64_t> path) const noexcept {
+        return peek_path(s, path.begin(), path.size());
+    }
+    [[nodiscard]] result<rtheap_value> peek_path(std::uint32_t s, const std::uint64_t *path,
+                                                 std::size_t count) const noexcept {
+        return told<rtheap_value>(
+            [&](auto *value) { return rtheap_peek_path(c(), s, path, count, value); });
     }
 
     // The commands of rtheap.h.

@@ -53,6 +53,10 @@ void returns() {
     check(h.same(4, 2).value() && !h.same(4, 1).value(), "same");
     check(h.cas(3, 1, 4, 5).value() && !h.cas(3, 1, 4, 5).value(), "cas");
     check(h.swap(3, 1, 4).value().kind == RTHEAP_NIL, "swap");
+    const heap &seen = h;
+    check(seen.peek(3, 1).value().kind == RTHEAP_REF, "peek");
+    check(seen.peek_path(3, {1, 2}).value().kind == RTHEAP_NIL, "peek along a path");
+    check(seen.peek_path(3, {1, 3}).status() == RTHEAP_ERR_RANGE, "a path that goes too far");
     check(h.idle(10) && h.nil(1), "idle");
     const rtheap_statistics s = h.statistics().value();
     check(s.units > 0 && s.units + s.units_left == std::uint64_t(1) << 45, "units");

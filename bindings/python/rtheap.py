@@ -142,6 +142,8 @@ _CALLS = {
     "cas": [_H, _R, _N, _R, _R, POINTER(c_bool)], "idle": [_H, _N],
     "get_numbers": [_H, _R, _R, _N, POINTER(_N), _S, POINTER(_S)],
     "put_numbers": [_H, _R, _N, _R, POINTER(_N), _S, POINTER(_S)],
+    "peek": [_H, _R, _N, POINTER(_Value)],
+    "peek_path": [_H, _R, POINTER(_N), _S, POINTER(_Value)],
     "read_statistics": [_H, POINTER(_Statistics), _S], "last_error": [_H, POINTER(_Error), _S],
     "group_open": [_H, POINTER(_Config)], "group_attach": [_H, _H], "group_return": [_H, _H],
     "group_finish": [_H, POINTER(_N)], "group_close": [_H],
@@ -306,6 +308,13 @@ class Heap(_Owner):
         """Stores numbers in fields `first` and on, by way of register v."""
         held = (c_uint64 * len(numbers))(*(_fits(it, 64) for it in numbers))
         self._call("put_numbers", s, first, v, held, len(numbers), None)
+
+    def peek(self, s: int, *path: int) -> Value:
+        """What is at the end of a path of indices from register s; without a command."""
+        if len(path) == 1:
+            return self._valued("peek", s, path[0])
+        indices = (c_uint64 * len(path))(*(_fits(it, 64) for it in path))
+        return self._valued("peek_path", s, indices, len(path))
 
     def _valued(self, name, *arguments):
         v = _Value()

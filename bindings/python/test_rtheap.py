@@ -81,6 +81,22 @@ class Heaps(unittest.TestCase):
             self.assertEqual(heap.get_numbers(2, 1, 2, 3), [5, 6, 7])
             self.refused(Status.ERR_NOT_NUMBER, heap.get_numbers, 2, 1, 1, 2)
 
+    def test_reads(self):
+        with Heap(blocks=64, live=20, shared=4) as heap:
+            heap.record(1, fields=2)
+            heap.set(2, 1250)
+            heap.put(1, 1, 2)
+            heap.put(0, 3, 1)
+            before = heap.statistics()
+            self.assertEqual(heap.peek(2), 1250)
+            self.assertEqual(heap.peek(1, 1), 1250)
+            self.assertEqual(heap.peek(0, 3, 1), 1250)
+            self.assertIsNone(heap.peek(0, 3, 0))
+            self.assertEqual(heap.statistics(), before)
+            error = self.refused(Status.ERR_RANGE, heap.peek, 0, 3, 2)
+            self.assertEqual((error.argument, error.value), ("place in indices", 1))
+            self.refused(Status.ERR_NIL, heap.peek, 3, 0)
+
     def test_refusals(self):
         error = self.refused(Status.ERR_RATE, Heap, blocks=20, live=20)
         self.assertEqual((error.argument, error.value, error.least), ("blocks", 20, 24))

@@ -96,6 +96,14 @@ static inline rtheap_status rtheap_in_outcome(uint32_t status, const rtheap_repl
     }
 }
 
+/* The value that a reply carries. */
+static inline rtheap_value rtheap_in_value(const rtheap_reply *reply) {
+    rtheap_value value = {RTHEAP_NIL, reply->thread, reply->value};
+    if (reply->kind == RTHEAP_REPLY_INT) value.kind = RTHEAP_INT;
+    if (reply->kind == RTHEAP_REPLY_REF) value.kind = RTHEAP_REF;
+    return value;
+}
+
 static inline rtheap_command rtheap_in_command(rtheap_command_kind kind, uint32_t a, uint32_t b,
                                                uint32_t v, uint64_t n) {
     rtheap_command command = {(uint32_t)kind, a, b, v, n};

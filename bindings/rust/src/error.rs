@@ -20,9 +20,9 @@ pub enum ErrorKind {
     Memory,
     /// No room: more blocks than the live limit were reachable. `Error::value` is the cycle.
     Full,
-    /// The register holds nil, and no reference.
+    /// The register, or a field on a path, holds nil, and no reference.
     Nil,
-    /// The register holds a number, and no reference.
+    /// The register, or a field on a path, holds a number, and no reference.
     NotObject,
     /// The object has no such field or element.
     Range,

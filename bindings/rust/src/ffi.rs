@@ -73,6 +73,15 @@ extern "C" {
     ) -> u32;
     pub fn rtheap_close(heap: *mut Handle) -> u32;
     pub fn rtheap_ask(heap: *mut Handle, command: Command, reply: *mut Reply) -> u32;
+    // A value of C has the form of a reply that carries it.
+    pub fn rtheap_peek(heap: *const Handle, s: u32, i: u64, value: *mut Reply) -> u32;
+    pub fn rtheap_peek_path(
+        heap: *const Handle,
+        s: u32,
+        path: *const u64,
+        count: usize,
+        value: *mut Reply,
+    ) -> u32;
     pub fn rtheap_read_statistics(heap: *const Handle, out: *mut Statistics, size: usize) -> u32;
     pub fn rtheap_last_error(heap: *const Handle, out: *mut Error, size: usize) -> u32;
 }

@@ -226,6 +226,42 @@ impl<'m> Heap<'m> {
         Ok(Reply::of(reply))
     }
 
+    /// What field `i` of the object in register `s` holds, as [`Heap::get`] returns it, but without
+    /// a command: no register changes, and nothing of the life is taken.
+    ///
+    /// # Errors
+    ///
+    /// `Bounds`, `Nil`, `NotObject` and `Range`.
+    pub fn peek(&self, s: u8, i: u64) -> Result<Value, Error> {
+        let mut value = ffi::Reply::default();
+        // SAFETY: the handle is open and of this thread, and `value` has the form of one of C.
+        let status = unsafe { ffi::rtheap_peek(self.handle.as_ptr(), s.into(), i, &mut value) };
+        self.checked(status)?;
+        Ok(Reply::of(value).value())
+    }
+
+    /// What is at the end of a path of indices from register `s`; with none what it holds. It is no
+    /// command.
+    ///
+    /// # Errors
+    ///
+    /// As of [`Heap::peek`].
+    pub fn peek_path(&self, s: u8, path: &[u64]) -> Result<Value, Error> {
+        let mut value = ffi::Reply::default();
+        // SAFETY: as above; the path has as many indices as are given.
+        let status = unsafe {
+            ffi::rtheap_peek_path(
+                self.handle.as_ptr(),
+                s.into(),
+                path.as_ptr(),
+                path.len(),
+                &mut value,
+            )
+        };
+        self.checked(status)?;
+        Ok(Reply::of(value).value())
+    }
+
     /// What it has done, and what is left of its life. It changes nothing.
     #[must_use]
     pub fn statistics(&self) -> Statistics {

@@ -55,6 +55,25 @@ fn lent_memory() {
 }
 
 #[test]
+fn reads() {
+    let mut heap = Heap::open(&CONFIG).unwrap();
+    heap.record(1, 2).unwrap();
+    heap.set(2, 1250).unwrap();
+    heap.put(1, 1, 2).unwrap();
+    heap.put(0, 3, 1).unwrap();
+    let before = heap.statistics();
+    assert_eq!(heap.peek(1, 1), Ok(Value::Int(1250)));
+    assert_eq!(heap.peek_path(0, &[3, 1]), Ok(Value::Int(1250)));
+    assert_eq!(heap.peek_path(0, &[3, 0]), Ok(Value::Nil));
+    assert_eq!(heap.peek_path(2, &[]), Ok(Value::Int(1250)));
+    assert_eq!(heap.statistics(), before);
+    let error = heap.peek_path(0, &[3, 2]).unwrap_err();
+    assert_eq!(error.kind, ErrorKind::Range);
+    assert_eq!((error.argument, error.value), (Some("place in indices"), 1));
+    assert_eq!(heap.peek(16, 0).unwrap_err().argument, Some("s"));
+}
+
+#[test]
 fn refusals() {
     let error = Heap::open(&Config::new(20, 20)).unwrap_err();
     assert_eq!(error.kind, ErrorKind::Rate);

@@ -2,12 +2,14 @@
 //! a command also the struct for its reply. A call that is refused changes nothing, and its status
 //! gives the cause.
 
-ghost use Rattle.std.specs.Prelude.{◌≡◌, ◌≤◌, ◌<◌};
+ghost use Rattle.std.specs.Prelude.{◌≡◌, ◌≤◌, ◌<◌, ◌∷◌, []};
 ghost use Rattle.never_heap.specs.declared.Command.TheVariants as commands;
 ghost use Rattle.control_heap_c.specs.Outcomes.{Called, Opened, Shut, config_of, counts_of, heap_in, lent_words, register, width_of};
+ghost use Rattle.control_heap_c.specs.Peeks.{Peeked};
 
 use crate::answer::{Answer, register, tell};
 use crate::handle::{Handle, ask, close, counts_at, lent_words, open, open_told};
+use crate::peeks::{peek, peek_path, peek_told};
 use never_heap::Command;
 use std::alloc::Global;
 
@@ -348,4 +350,37 @@ pub extern "C" fn rtheap_raw_idle(
     let command = Command::Idle { units };
     let outcome = ask(alloc, handle, command);
     tell(outcome, out)
+}
+
+/// Reads field `i` of the object in register `s`, without a command.
+#[unsafe(no_mangle)]
+pub extern "C" fn rtheap_raw_peek(
+    alloc: Global,
+    handle: &mut Handle,
+    s: u32,
+    i: u64,
+    out: &mut Answer,
+) -> u32
+    ensures { Peeked (register s) (i ∷ []) handle.old.link.value handle.new.link.value
+        out.old out.new result }
+{
+    let outcome = peek(alloc, handle, register(s), i);
+    peek_told(outcome, out)
+}
+
+/// Reads what is at the end of a path of indices from register `s`, without a command: with no
+/// index, what the register holds.
+#[unsafe(no_mangle)]
+pub extern "C" fn rtheap_raw_peek_path(
+    alloc: Global,
+    handle: &mut Handle,
+    s: u32,
+    path: &[u64],
+    out: &mut Answer,
+) -> u32
+    ensures { Peeked (register s) path.now handle.old.link.value handle.new.link.value
+        out.old out.new result }
+{
+    let outcome = peek_path(alloc, handle, register(s), path);
+    peek_told(outcome, out)
 }

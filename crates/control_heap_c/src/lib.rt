@@ -8,6 +8,7 @@ mod handle;
 mod laws;
 mod link;
 mod owned;
+mod peeks;
 mod shared;
 
 pub use answer::{Answer, Refusal};
@@ -17,3 +18,4 @@ pub use laws::{
     registers_are_not_truncated, statuses_tell,
 };
 pub use owned::{Executing, Group, Owned, Resting};
+pub use peeks::PeekRefusal;
