@@ -1,6 +1,6 @@
 /* Tests reads without a command: that they return what commands do, on a heap with drawn objects;
-   that they change nothing; what they refuse, and what is said of it. Prints nothing if all is
-   well. */
+   that they change nothing; what they refuse, and what is said of it; and the graph as a text.
+   Prints nothing if all is well. */
 #include <stdio.h>
 #include <string.h>
 
@@ -181,10 +181,55 @@ static void try_refusals(void) {
     is("close", rtheap_close(&heap), RTHEAP_OK);
 }
 
+/* What a call writes for a heap with a record in an element of its shared array. */
+static void text_is(const rtheap *heap, const char *wanted,
+                    rtheap_status (*write)(const rtheap *, char *, size_t, size_t *)) {
+    char text[600];
+    size_t length = 0;
+    is("length", write(heap, NULL, 0, &length), RTHEAP_ERR_TOO_SMALL);
+    is("length", length, strlen(wanted));
+    memset(text, 'x', sizeof text);
+    is("no room for the zero", write(heap, text, length, &length), RTHEAP_ERR_TOO_SMALL);
+    says(heap, RTHEAP_ERR_TOO_SMALL, "size", length, UINT64_MAX);
+    is("unwritten", text[0] == 'x' && text[length] == 'x', true);
+    is("text", write(heap, text, length + 1, NULL), RTHEAP_OK);
+    is("its characters", strcmp(text, wanted) == 0, true);
+    is("no more", text[length + 1] == 'x', true);
+}
+
+static void try_texts(void) {
+    rtheap_config config = RTHEAP_CONFIG(64, 20);
+    static uint64_t lent[RTHEAP_WORDS(8, 64, 1)];
+    rtheap heap = RTHEAP_CLOSED;
+    int in_lent;
+    config.shared = 3;
+    for (in_lent = 0; in_lent < 2; in_lent++) {
+        is("closed", rtheap_text(&heap, NULL, 0, NULL), RTHEAP_ERR_CLOSED);
+        if (in_lent) is("open", rtheap_open_in(&heap, &config, lent, sizeof lent), RTHEAP_OK);
+        else is("open", rtheap_open(&heap, &config), RTHEAP_OK);
+        is("record", rtheap_record(&heap, 1, 2), RTHEAP_OK);
+        is("set", rtheap_set(&heap, 2, 1250), RTHEAP_OK);
+        is("put", rtheap_put(&heap, 1, 0, 2), RTHEAP_OK);
+        is("put", rtheap_put(&heap, 0, 2, 1), RTHEAP_OK);
+        is("nil", rtheap_nil(&heap, 1), RTHEAP_OK);
+        text_is(&heap, "registers [->0, nil, 1250, nil, nil, nil, nil, nil, nil, nil, nil, nil, "
+                       "nil, nil, nil, nil]\n0: array 3 [nil, nil, ->1]\n1: record 2 [1250, nil]\n",
+                rtheap_text);
+        text_is(&heap, "digraph heap {\n    registers [label=\"registers [->0, nil, 1250, nil, nil, "
+                       "nil, nil, nil, nil, nil, nil, nil, nil, nil, nil, nil]\"];\n"
+                       "    registers -> 0 [label=\"0\"];\n"
+                       "    0 [label=\"0: array 3 [nil, nil, ->1]\"];\n    0 -> 1 [label=\"2\"];\n"
+                       "    1 [label=\"1: record 2 [1250, nil]\"];\n}\n",
+                rtheap_dot);
+        is("close", rtheap_close(&heap), RTHEAP_OK);
+    }
+}
+
 int main(void) {
     read_all(4);
     read_all(8);
     try_unchanged();
     try_refusals();
+    try_texts();
     return wrong;
 }

@@ -97,6 +97,24 @@ class Heaps(unittest.TestCase):
             self.assertEqual((error.argument, error.value), ("place in indices", 1))
             self.refused(Status.ERR_NIL, heap.peek, 3, 0)
 
+    def test_saves(self):
+        with Heap(blocks=64, live=20, shared=4) as heap:
+            heap.record(1, fields=2)
+            heap.set(2, 1250)
+            heap.put(1, 1, 2)
+            heap.put(0, 3, 1)
+            self.assertIn("1: record 2 [nil, 1250]\n", heap.text())
+            self.assertIn("digraph heap {", heap.dot())
+            saved = heap.save()
+        with Heap.load(saved, blocks=64, live=20) as heap:
+            self.assertEqual(heap.peek(0, 3, 1), 1250)
+            self.assertEqual(heap.save(), saved)
+        self.refused(Status.ERR_TORN, Heap.load, saved[:-1], blocks=64, live=20)
+        self.refused(Status.ERR_NOT_SAVED, Heap.load, b"", blocks=64, live=20)
+        heap = Heap(blocks=64, live=20)
+        heap.close()
+        self.refused(Status.ERR_CLOSED, heap.save)
+
     def test_refusals(self):
         error = self.refused(Status.ERR_RATE, Heap, blocks=20, live=20)
         self.assertEqual((error.argument, error.value, error.least), ("blocks", 20, 24))

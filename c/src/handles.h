@@ -124,6 +124,10 @@ typedef struct rtheap_using {
 rtheap_using rtheap_in_use(const rtheap_source *source, void *lent, size_t bytes);
 void rtheap_in_use_again(rtheap_using before);
 
+/* For a call that allocates for its work alone: memory from where the heap has its own. Of lent
+   memory nothing is left, so such a call has it from malloc. The handle is taken. */
+rtheap_using rtheap_in_use_for_work(const rtheap_handle *handle);
+
 /* Note what was wrong, and return the status. */
 rtheap_status rtheap_in_blame(rtheap_handle *handle, rtheap_status status, const char *argument,
                               uint64_t value, uint64_t least, uint64_t most);

@@ -77,3 +77,42 @@ rtheap_status rtheap_peek_path(const rtheap *heap, uint32_t s, const uint64_t *i
     rtheap_in_give(of(heap));
     return status;
 }
+
+/* ---- Texts ---- */
+
+/* Writes a text that ends with a zero byte, if it fits. */
+static rtheap_status shown(rtheap_handle *handle, bool as_dot, char *text, size_t size,
+                           size_t *length) {
+    uint8_t nothing = 0; /* the exports take no NULL */
+    const size_t room = text && size > 0 ? size - 1 : 0;
+    uint8_t *out = room > 0 ? (uint8_t *)text : &nothing;
+    uint64_t count = 0;
+    rtheap_status status;
+    rtheap_using before = rtheap_in_use_for_work(handle);
+    if (as_dot) status = (rtheap_status)rtheap_raw_dot(&handle->owned, out, room, &count);
+    else status = (rtheap_status)rtheap_raw_text(&handle->owned, out, room, &count);
+    rtheap_in_use_again(before);
+    if (length && (status == RTHEAP_OK || status == RTHEAP_ERR_TOO_SMALL)) *length = count;
+    if (status == RTHEAP_OK && text && size > 0) text[count] = 0;
+    if (status == RTHEAP_OK) return status;
+    if (status == RTHEAP_ERR_TOO_SMALL)
+        return rtheap_in_blame(handle, status, "size", size, count + 1, UINT64_MAX);
+    return rtheap_in_blame(handle, status, NULL, 0, 0, UINT64_MAX);
+}
+
+static rtheap_status show(const rtheap *heap, bool as_dot, char *text, size_t size,
+                          size_t *length) {
+    rtheap_status status = rtheap_in_take(of(heap), RTHEAP_MARK_HEAP);
+    if (status != RTHEAP_OK) return status;
+    status = shown(of(heap), as_dot, text, size, length);
+    rtheap_in_give(of(heap));
+    return status;
+}
+
+rtheap_status rtheap_text(const rtheap *heap, char *text, size_t size, size_t *length) {
+    return show(heap, false, text, size, length);
+}
+
+rtheap_status rtheap_dot(const rtheap *heap, char *text, size_t size, size_t *length) {
+    return show(heap, true, text, size, length);
+}

@@ -65,6 +65,34 @@ extern "C" {
     pub fn rtheap_status_text(status: u32) -> *const c_char;
     #[cfg(feature = "alloc")]
     pub fn rtheap_open(heap: *mut Handle, config: *const Config) -> u32;
+    #[cfg(feature = "alloc")]
+    pub fn rtheap_load(
+        heap: *mut Handle,
+        config: *const Config,
+        bytes: *const c_void,
+        size: usize,
+    ) -> u32;
+    #[cfg(feature = "alloc")]
+    pub fn rtheap_save(
+        heap: *const Handle,
+        bytes: *mut c_void,
+        size: usize,
+        length: *mut usize,
+    ) -> u32;
+    #[cfg(feature = "alloc")]
+    pub fn rtheap_text(
+        heap: *const Handle,
+        text: *mut c_void,
+        size: usize,
+        length: *mut usize,
+    ) -> u32;
+    #[cfg(feature = "alloc")]
+    pub fn rtheap_dot(
+        heap: *const Handle,
+        text: *mut c_void,
+        size: usize,
+        length: *mut usize,
+    ) -> u32;
     pub fn rtheap_open_in(
         heap: *mut Handle,
         config: *const Config,

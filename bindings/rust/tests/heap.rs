@@ -74,6 +74,26 @@ fn reads() {
 }
 
 #[test]
+fn saves() {
+    let mut heap = Heap::open(&CONFIG).unwrap();
+    heap.record(1, 2).unwrap();
+    heap.set(2, 1250).unwrap();
+    heap.put(1, 1, 2).unwrap();
+    heap.put(0, 3, 1).unwrap();
+    assert!(heap.text().unwrap().contains("1: record 2 [nil, 1250]\n"));
+    assert!(heap.dot().unwrap().starts_with("digraph heap {"));
+    let saved = heap.save().unwrap();
+    let loaded = Heap::load(&CONFIG, &saved).unwrap();
+    assert_eq!(loaded.peek_path(0, &[3, 1]), Ok(Value::Int(1250)));
+    assert_eq!(loaded.save(), Ok(saved.clone()));
+    let error = Heap::load(&CONFIG, &saved[1..]).unwrap_err();
+    assert_eq!(error.kind, ErrorKind::NotSaved);
+    let mut memory = vec![0; CONFIG.words()];
+    let lent = Heap::open_in(&CONFIG, &mut memory).unwrap();
+    assert!(lent.save().is_ok());
+}
+
+#[test]
 fn refusals() {
     let error = Heap::open(&Config::new(20, 20)).unwrap_err();
     assert_eq!(error.kind, ErrorKind::Rate);
