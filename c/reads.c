@@ -204,7 +204,7 @@ static void try_texts(void) {
     int in_lent;
     config.shared = 3;
     for (in_lent = 0; in_lent < 2; in_lent++) {
-        is("closed", rtheap_text(&heap, NULL, 0, NULL), RTHEAP_ERR_CLOSED);
+        is("closed", rtheap_graph_text(&heap, NULL, 0, NULL), RTHEAP_ERR_CLOSED);
         if (in_lent) is("open", rtheap_open_in(&heap, &config, lent, sizeof lent), RTHEAP_OK);
         else is("open", rtheap_open(&heap, &config), RTHEAP_OK);
         is("record", rtheap_record(&heap, 1, 2), RTHEAP_OK);
@@ -214,13 +214,14 @@ static void try_texts(void) {
         is("nil", rtheap_nil(&heap, 1), RTHEAP_OK);
         text_is(&heap, "registers [->0, nil, 1250, nil, nil, nil, nil, nil, nil, nil, nil, nil, "
                        "nil, nil, nil, nil]\n0: array 3 [nil, nil, ->1]\n1: record 2 [1250, nil]\n",
-                rtheap_text);
-        text_is(&heap, "digraph heap {\n    registers [label=\"registers [->0, nil, 1250, nil, nil, "
-                       "nil, nil, nil, nil, nil, nil, nil, nil, nil, nil, nil]\"];\n"
+                rtheap_graph_text);
+        text_is(&heap, "digraph heap {\n"
+                       "    registers [label=\"registers [->0, nil, 1250, nil, nil, nil, nil, "
+                       "nil, nil, nil, nil, nil, nil, nil, nil, nil]\"];\n"
                        "    registers -> 0 [label=\"0\"];\n"
                        "    0 [label=\"0: array 3 [nil, nil, ->1]\"];\n    0 -> 1 [label=\"2\"];\n"
                        "    1 [label=\"1: record 2 [1250, nil]\"];\n}\n",
-                rtheap_dot);
+                rtheap_graph_dot);
         is("close", rtheap_close(&heap), RTHEAP_OK);
     }
 }

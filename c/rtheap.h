@@ -376,7 +376,7 @@ RTHEAP_CHECKED rtheap_status rtheap_peek_path(const rtheap *heap, uint32_t s,
                                               const uint64_t *indices, size_t count,
                                               rtheap_value *value);
 
-/* ---- rtheap_text: the graph of a heap as a text ---- */
+/* ---- rtheap_graph: the graph of a heap as a text ---- */
 
 /* Writes what the registers reach, for a person: a line for the registers, and one for each object,
    such as "3: record 2 [7, ->5]", which ends with a zero byte. An object's number is the serial
@@ -384,13 +384,13 @@ RTHEAP_CHECKED rtheap_status rtheap_peek_path(const rtheap *heap, uint32_t s,
    search by levels finds them. `length` gets how many bytes the text has without the zero; if the
    text does not fit into `size` bytes, that is all that is written, with RTHEAP_ERR_TOO_SMALL. So
    the first call may have NULL and 0.
-   rtheap_dot writes a drawing in the language of Graphviz: `dot -Tsvg` makes a picture of it. Both
-   are reads, as rtheap_peek. Their time grows with the graph. They take memory for their work from
-   where the heap has its own, or from malloc if that is lent memory, and give it back. */
-RTHEAP_CHECKED rtheap_status rtheap_text(const rtheap *heap, char *text, size_t size,
-                                         size_t *length);
-RTHEAP_CHECKED rtheap_status rtheap_dot(const rtheap *heap, char *text, size_t size,
-                                        size_t *length);
+   rtheap_graph_dot writes a drawing in the language of Graphviz: `dot -Tsvg` makes a picture of it.
+   Both are reads, as rtheap_peek. Their time grows with the graph. They take memory for their work
+   from where the heap has its own, or from malloc if that is lent memory, and give it back. */
+RTHEAP_CHECKED rtheap_status rtheap_graph_text(const rtheap *heap, char *text, size_t size,
+                                               size_t *length);
+RTHEAP_CHECKED rtheap_status rtheap_graph_dot(const rtheap *heap, char *text, size_t size,
+                                              size_t *length);
 
 /* ---- rtheap_save: heaps as bytes ---- */
 
@@ -400,7 +400,7 @@ RTHEAP_CHECKED rtheap_status rtheap_dot(const rtheap *heap, char *text, size_t s
    is all that is written, with RTHEAP_ERR_TOO_SMALL. So the first call may have NULL and 0.
    RTHEAP_ERR_TOO_LARGE: so many objects could not be loaded; with blocks of width 8 at most 7,159
    can. It is a read, as rtheap_peek, whose time grows with the blocks of the heap. It takes memory
-   for its work as rtheap_text does. */
+   for its work as rtheap_graph_text does. */
 RTHEAP_CHECKED rtheap_status rtheap_save(const rtheap *heap, void *bytes, size_t size,
                                          size_t *length);
 

@@ -156,21 +156,23 @@ public:
             [&](auto *value) { return rtheap_peek_path(c(), s, path, count, value); });
     }
 
-    // The graph as a text, or as a drawing for `dot`, in `size` bytes with the zero at the end. Each
-    // returns how many there are without it; text_size() says how many that would be.
-    [[nodiscard]] result<std::size_t> text_size() const noexcept { return sized(rtheap_text); }
-    [[nodiscard]] result<std::size_t> dot_size() const noexcept { return sized(rtheap_dot); }
+    // The graph as a text, or as a drawing for Graphviz, in `size` bytes with the zero at the end.
+    // Each returns how many there are without it; text_size() says how many that would be.
+    [[nodiscard]] result<std::size_t> text_size() const noexcept {
+        return sized(rtheap_graph_text);
+    }
+    [[nodiscard]] result<std::size_t> dot_size() const noexcept { return sized(rtheap_graph_dot); }
     result<std::size_t> text(char *to, std::size_t size) const noexcept {
-        return told<std::size_t>([&](auto *length) { return rtheap_text(c(), to, size, length); });
+        return told<std::size_t>([&](auto *n) { return rtheap_graph_text(c(), to, size, n); });
     }
     result<std::size_t> dot(char *to, std::size_t size) const noexcept {
-        return told<std::size_t>([&](auto *length) { return rtheap_dot(c(), to, size, length); });
+        return told<std::size_t>([&](auto *n) { return rtheap_graph_dot(c(), to, size, n); });
     }
 
     // Saves the heap as bytes, and returns how many there are; opens a heap from such bytes.
     [[nodiscard]] result<std::size_t> save_size() const noexcept { return sized(rtheap_save); }
     result<std::size_t> save(void *to, std::size_t size) const noexcept {
-        return told<std::size_t>([&](auto *length) { return rtheap_save(c(), to, size, length); });
+        return told<std::size_t>([&](auto *n) { return rtheap_save(c(), to, size, n); });
     }
     outcome load(const config &c, const void *bytes, std::size_t size) noexcept {
         const rtheap_config given = c.c();

@@ -112,14 +112,15 @@ void saves() {
     check(bool(h.open({64, 20, 1, 4})), "open");
     check(h.record(1, 2) && h.set(2, 1250) && h.put(1, 1, 2) && h.put(0, 3, 1), "made");
     std::string text(h.text_size().value(), ' ');
-    check(h.text(text.data(), text.size()).status() == RTHEAP_ERR_TOO_SMALL, "no room for the zero");
+    check(h.text(text.data(), text.size()).status() == RTHEAP_ERR_TOO_SMALL, "no zero");
     check(h.text(text.data(), text.size() + 1).value() == text.size(), "text");
     check(text.find("1: record 2 [nil, 1250]\n") != std::string::npos, "a line of it");
     std::string dot(h.dot_size().value(), ' ');
     check(h.dot(dot.data(), dot.size() + 1).value() == dot.size(), "drawing");
     std::string bytes(h.save_size().value(), ' ');
     check(h.save(bytes.data(), bytes.size()).value() == bytes.size(), "save");
-    check(loaded.load({64, 20}, bytes.data(), bytes.size() - 1).status() == RTHEAP_ERR_TORN, "torn");
+    check(loaded.load({64, 20}, bytes.data(), bytes.size() - 1).status() == RTHEAP_ERR_TORN,
+          "torn");
     check(bool(loaded.load({64, 20}, bytes.data(), bytes.size())), "load");
     check(loaded.peek_path(0, {3, 1}).value().number == 1250, "the same");
 }

@@ -151,7 +151,7 @@ _CALLS = {
     "get_numbers": [_H, _R, _R, _N, POINTER(_N), _S, POINTER(_S)],
     "put_numbers": [_H, _R, _N, _R, POINTER(_N), _S, POINTER(_S)],
     "load": [_H, POINTER(_Config), c_char_p, _S], "save": [_H, c_void_p, _S, POINTER(_S)],
-    "text": [_H, c_void_p, _S, POINTER(_S)], "dot": [_H, c_void_p, _S, POINTER(_S)],
+    "graph_text": [_H, c_void_p, _S, POINTER(_S)], "graph_dot": [_H, c_void_p, _S, POINTER(_S)],
     "peek": [_H, _R, _N, POINTER(_Value)],
     "peek_path": [_H, _R, POINTER(_N), _S, POINTER(_Value)],
     "read_statistics": [_H, POINTER(_Statistics), _S], "last_error": [_H, POINTER(_Error), _S],
@@ -342,11 +342,11 @@ class Heap(_Owner):
 
     def text(self) -> str:
         """What the registers reach, a line for each object."""
-        return self._written("text", 1).decode()
+        return self._written("graph_text", 1).decode()
 
     def dot(self) -> str:
         """The same as a drawing for Graphviz."""
-        return self._written("dot", 1).decode()
+        return self._written("graph_dot", 1).decode()
 
     def _written(self, name, more):
         """The bytes that a call writes, which needs room for so many more."""

@@ -4,8 +4,9 @@
    for its thread. With RTHEAP_NO_MALLOC, in librtheap_lent.a, there is no malloc.
 
    A heap takes all its memory when it is opened, and a shared one also when a worker is attached or
-   given back. A save and a text take memory for their work, and give it back. Lent memory is given out from the first byte on, and nothing of it is taken back:
-   after rtheap_close it is the program's again. */
+   given back. Saves and texts take memory for their work, and give it back. Lent memory is given
+   out from the first byte on, and nothing of it is taken back: after rtheap_close it is the
+   program's again. */
 #include <stdlib.h>
 #include <string.h>
 

@@ -109,10 +109,10 @@ static rtheap_status show(const rtheap *heap, bool as_dot, char *text, size_t si
     return status;
 }
 
-rtheap_status rtheap_text(const rtheap *heap, char *text, size_t size, size_t *length) {
+rtheap_status rtheap_graph_text(const rtheap *heap, char *text, size_t size, size_t *length) {
     return show(heap, false, text, size, length);
 }
 
-rtheap_status rtheap_dot(const rtheap *heap, char *text, size_t size, size_t *length) {
+rtheap_status rtheap_graph_dot(const rtheap *heap, char *text, size_t size, size_t *length) {
     return show(heap, true, text, size, length);
 }

@@ -42,8 +42,10 @@ static rtheap_status blame_load(rtheap_handle *handle, rtheap_status status,
         return rtheap_in_blame(handle, status, "objects", number, 0, 65534);
     case RTHEAP_ERR_SAVED_VERSION:
         return rtheap_in_blame(handle, status, "version", number, 1, 1);
-    case RTHEAP_ERR_OBJECT: return rtheap_in_blame(handle, status, "object", c->object, number, 1024);
-    case RTHEAP_ERR_NO_ROOM: return rtheap_in_blame(handle, status, "live", c->live, number, 65535);
+    case RTHEAP_ERR_OBJECT:
+        return rtheap_in_blame(handle, status, "object", c->object, number, 1024);
+    case RTHEAP_ERR_NO_ROOM:
+        return rtheap_in_blame(handle, status, "live", c->live, number, 65535);
     default: return rtheap_in_blame_config(handle, status, c);
     }
 }

@@ -47,7 +47,7 @@ static const struct {
     ROW(RTHEAP_ERR_TORN, "the saved heap is cut short or too long"),
     ROW(RTHEAP_ERR_CHECKSUM, "the saved heap was changed"),
     ROW(RTHEAP_ERR_MALFORMED, "the saved heap has no picture of a heap"),
-    ROW(RTHEAP_ERR_OBJECT, "the saved objects, or a table of them, are larger than an object may be"),
+    ROW(RTHEAP_ERR_OBJECT, "a saved object, or a table of all, is larger than an object may be"),
     ROW(RTHEAP_ERR_NO_ROOM, "the saved heap needs more than the live limit"),
 };
 

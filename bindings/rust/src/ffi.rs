@@ -80,14 +80,14 @@ extern "C" {
         length: *mut usize,
     ) -> u32;
     #[cfg(feature = "alloc")]
-    pub fn rtheap_text(
+    pub fn rtheap_graph_text(
         heap: *const Handle,
         text: *mut c_void,
         size: usize,
         length: *mut usize,
     ) -> u32;
     #[cfg(feature = "alloc")]
-    pub fn rtheap_dot(
+    pub fn rtheap_graph_dot(
         heap: *const Handle,
         text: *mut c_void,
         size: usize,

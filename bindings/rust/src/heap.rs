@@ -204,7 +204,7 @@ impl Heap<'_> {
     ///
     /// `Memory`.
     pub fn text(&self) -> Result<alloc::string::String, Error> {
-        let text = self.written(ffi::rtheap_text, 1)?;
+        let text = self.written(ffi::rtheap_graph_text, 1)?;
         Ok(alloc::string::String::from_utf8_lossy(&text).into_owned())
     }
 
@@ -214,7 +214,7 @@ impl Heap<'_> {
     ///
     /// `Memory`.
     pub fn dot(&self) -> Result<alloc::string::String, Error> {
-        let text = self.written(ffi::rtheap_dot, 1)?;
+        let text = self.written(ffi::rtheap_graph_dot, 1)?;
         Ok(alloc::string::String::from_utf8_lossy(&text).into_owned())
     }
 
