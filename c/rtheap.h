@@ -418,6 +418,13 @@ RTHEAP_CHECKED rtheap_status rtheap_load_with(rtheap *heap, const rtheap_config 
                                               const void *bytes, size_t size,
                                               const rtheap_memory *memory);
 
+/* Raises `object` and `live` of a configuration to what the bytes need, and `blocks` so that as
+   many are left beyond these limits; numbers that are enough stay. With a configuration that could
+   be opened before, rtheap_load then fails only for memory. RTHEAP_ERR_TOO_LARGE: a number would be
+   too large. It takes memory for its work from malloc. */
+RTHEAP_CHECKED rtheap_status rtheap_raise_config(rtheap_config *config, const void *bytes,
+                                                 size_t size);
+
 /* ---- rtheap_statistics: gauges, which change nothing, not even the handle ---- */
 
 /* What is left of the heap's life: 2^45 units of collection and 2^43 - 1 allocations at first. Each

@@ -151,6 +151,31 @@ static void try_needs(const save *s) {
     is("close", rtheap_close(&heap), RTHEAP_OK);
 }
 
+/* A configuration that can be opened is enough once it is raised, and stays where it is enough. */
+static void try_raised(const save *s) {
+    const rtheap_config small = {sizeof small, 8, 1, 64, 20, 1, 4};
+    rtheap_config c = small, again;
+    rtheap heap = RTHEAP_CLOSED;
+    is("raise", rtheap_raise_config(&c, s->bytes, s->size), RTHEAP_OK);
+    is("raised", c.object > 1 && c.live > 20, true);
+    is("blocks", c.blocks, 64 + (c.live - 20) + 2 * (c.object - 1));
+    again = c;
+    is("raise again", rtheap_raise_config(&again, s->bytes, s->size), RTHEAP_OK);
+    is("no further", (unsigned)memcmp(&again, &c, sizeof c), 0);
+    is("load", rtheap_load(&heap, &c, s->bytes, s->size), RTHEAP_OK);
+    is("close", rtheap_close(&heap), RTHEAP_OK);
+    c = small;
+    is("torn", rtheap_raise_config(&c, s->bytes, s->size - 1), RTHEAP_ERR_TORN);
+    c.width = 3;
+    is("width", rtheap_raise_config(&c, s->bytes, s->size), RTHEAP_ERR_WIDTH);
+    c = small, c.shared = 65536;
+    is("shared", rtheap_raise_config(&c, s->bytes, s->size), RTHEAP_ERR_BOUNDS);
+    c = small, c.blocks = 65500;
+    is("too large", rtheap_raise_config(&c, s->bytes, s->size), RTHEAP_ERR_TOO_LARGE);
+    is("unchanged", c.live == 20 && c.object == 1, true);
+    is("NULL", rtheap_raise_config(NULL, s->bytes, s->size), RTHEAP_ERR_NULL_POINTER);
+}
+
 /* Each byte that is changed is found, and so is each that is missing. */
 static void try_damage(const save *s) {
     const rtheap_config c = {sizeof c, 8, 1, 1000, 400, 30, 0};
@@ -273,6 +298,7 @@ int main(void) {
     s = saved(&heap);
     is("close", rtheap_close(&heap), RTHEAP_OK);
     try_needs(&s);
+    try_raised(&s);
     try_damage(&s);
     try_refusals(&s);
     try_allocations(&s);

@@ -48,6 +48,13 @@ uint32_t rtheap_raw_save(rtheap_owned *heap, uint8_t *out, size_t size, uint64_t
 uint32_t rtheap_raw_load(rtheap_owned *heap, const uint8_t *bytes, size_t size, uint32_t version,
                          uint32_t blocks, uint32_t live, uint32_t object, uint32_t shared,
                          uint64_t *number);
+/* What of a configuration may have to be raised. */
+typedef struct rtheap_limits {
+    uint32_t blocks, live, object;
+} rtheap_limits;
+
+uint32_t rtheap_raw_raise(const uint8_t *bytes, size_t size, uint32_t version, uint32_t shared,
+                          rtheap_limits *limits);
 
 uint32_t rtheap_group_raw_open(rtheap_owned *group, uint32_t version, uint32_t threads,
                                uint32_t blocks, uint32_t live, uint32_t object, uint32_t shared);

@@ -83,6 +83,28 @@ static rtheap_status load_from(rtheap *heap, const rtheap_config *config, const 
     return status;
 }
 
+rtheap_status rtheap_raise_config(rtheap_config *config, const void *bytes, size_t size) {
+    static const uint8_t none; /* the export takes no NULL */
+    rtheap_config known;
+    rtheap_limits limits;
+    rtheap_using before;
+    rtheap_status status = rtheap_in_config(&known, config);
+    if (status != RTHEAP_OK) return status;
+    if (!bytes && size > 0) return RTHEAP_ERR_NULL_POINTER;
+    limits.blocks = known.blocks;
+    limits.live = known.live;
+    limits.object = known.object;
+    before = rtheap_in_use(NULL, NULL, 0);
+    status = (rtheap_status)rtheap_raw_raise(bytes ? (const uint8_t *)bytes : &none, size,
+                                             rtheap_in_version(known.width), known.shared, &limits);
+    rtheap_in_use_again(before);
+    if (status != RTHEAP_OK) return status;
+    config->blocks = limits.blocks;
+    config->live = limits.live;
+    config->object = limits.object;
+    return RTHEAP_OK;
+}
+
 rtheap_status rtheap_load(rtheap *heap, const rtheap_config *config, const void *bytes,
                           size_t size) {
     static const rtheap_source from_malloc;

@@ -1,5 +1,5 @@
 -- What a call from C does that saves a heap as bytes, or loads one.
-use Rattle.std.specs.Prelude.{ℕ, ◌≡◌, ◌<◌, ◌^◌, Unit, Option, Some, None, Result, Ok, Err, List, length}
+use Rattle.std.specs.Prelude.{ℕ, ◌≡◌, ◌<◌, ◌^◌, Option, Some, None, Result, Ok, Err, List, length}
 use Rattle.block_store.specs.declared.Config.{Config}
 use Rattle.block_store.specs.declared.Width.{Width}
 use Rattle.control_heap.specs.declared.control.Refused.TheVariants as refused
