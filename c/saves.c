@@ -142,10 +142,12 @@ static void try_needs(const save *s) {
     c.object = (uint32_t)error.least - 1;
     is("one too few", rtheap_load(&heap, &c, s->bytes, s->size), RTHEAP_ERR_OBJECT);
     c.object++;
+    c.blocks = 160; /* on more blocks the objects may fit even so */
     is("live", rtheap_load(&heap, &c, s->bytes, s->size), RTHEAP_ERR_NO_ROOM);
     is("last error", rtheap_last_error(&heap, &error, sizeof error), RTHEAP_OK);
     says(&heap, RTHEAP_ERR_NO_ROOM, "live", 100, error.least, 65535);
     c.live = (uint32_t)error.least;
+    c.blocks = 1000;
     is("enough", rtheap_load(&heap, &c, s->bytes, s->size), RTHEAP_OK);
     is("open", rtheap_load(&heap, &c, s->bytes, s->size), RTHEAP_ERR_OPEN);
     is("close", rtheap_close(&heap), RTHEAP_OK);
