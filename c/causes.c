@@ -274,7 +274,7 @@ static void try_texts(void) {
     is("nowhere", rtheap_explain(&heap, NULL, 5), length);
     for (i = 0; i < 100; i++)
         named += strncmp(rtheap_status_name((rtheap_status)i), "RTHEAP_", 7) == 0;
-    is("statuses with a name", (unsigned)named, 30);
+    is("statuses with a name", (unsigned)named, 38);
     is("a name", strcmp(rtheap_status_name(RTHEAP_ERR_FULL), "RTHEAP_ERR_FULL") == 0, 1);
     is("no name", strcmp(rtheap_status_name(RTHEAP_STATUS_LAST), "not a status") == 0, 1);
     is("no text", strcmp(rtheap_status_text((rtheap_status)9), "not a status") == 0, 1);

@@ -90,6 +90,7 @@ static void work(rtheap *heap) {
         if (!status) status = rtheap_say(heap, 5, NULL);
         if (!status) status = rtheap_nil(heap, 5);
         if (!status) status = rtheap_idle(heap, 10);
+        if (!status) status = rtheap_peek(heap, 0, n % 40, NULL);
         check(status == RTHEAP_OK, "a command failed", n);
         check(rtheap_asked(heap, &asked) == RTHEAP_OK && asked == 14 * (n + 1), "commands", n);
     }

@@ -93,10 +93,10 @@ typedef enum rtheap_status {
     RTHEAP_ERR_MEMORY = 8,           /* an allocation failed */
     RTHEAP_ERR_NULL_HANDLE = 10,     /* the handle is NULL */
     RTHEAP_ERR_FULL = 11,            /* no room: more than `live` blocks were reachable */
-    RTHEAP_ERR_NIL = 12,             /* register s holds nil, and no reference */
-    RTHEAP_ERR_NOT_OBJECT = 13,      /* register s holds a number, and no reference */
-    RTHEAP_ERR_RANGE = 14,           /* the object in register s has no field or element i */
-    RTHEAP_ERR_TOO_SMALL = 15,       /* the lent memory is too small, or NULL */
+    RTHEAP_ERR_NIL = 12,             /* register s, or a field on a path, holds nil */
+    RTHEAP_ERR_NOT_OBJECT = 13,      /* it holds a number, and no reference */
+    RTHEAP_ERR_RANGE = 14,           /* the object has no field or element i */
+    RTHEAP_ERR_TOO_SMALL = 15,       /* the lent memory, or a buffer, is too small, or NULL */
     RTHEAP_ERR_BUSY = 16,            /* the worker's last command is not done */
     RTHEAP_NOT_DONE = 17,            /* the command is not done yet */
     RTHEAP_ERR_NO_COMMAND = 18,      /* the worker has no command to carry out */
@@ -112,6 +112,14 @@ typedef enum rtheap_status {
     RTHEAP_ERR_CONFIG_SIZE = 28,     /* config.size is not one that this library knows */
     RTHEAP_ERR_NOT_NUMBER = 29,      /* field i holds nil or a reference, and no number */
     RTHEAP_ERR_USED = 30,            /* the heap has carried out commands */
+    RTHEAP_ERR_TOO_LARGE = 31,       /* there are too many objects to be saved and loaded */
+    RTHEAP_ERR_NOT_SAVED = 32,       /* the bytes are not those of a saved heap */
+    RTHEAP_ERR_SAVED_VERSION = 33,   /* they were saved in another version */
+    RTHEAP_ERR_TORN = 34,            /* they are cut short, or too many */
+    RTHEAP_ERR_CHECKSUM = 35,        /* they were changed */
+    RTHEAP_ERR_MALFORMED = 36,       /* they have no picture of a heap */
+    RTHEAP_ERR_OBJECT = 37,          /* `object` is too small for a saved object, or their table */
+    RTHEAP_ERR_NO_ROOM = 38,         /* `live` is too small for what was saved */
     RTHEAP_STATUS_LAST = 0x7fffffff  /* no status: later versions have more of them */
 } rtheap_status;
 
@@ -349,6 +357,73 @@ RTHEAP_CHECKED rtheap_status rtheap_get_numbers(rtheap *heap, uint32_t d, uint32
 RTHEAP_CHECKED rtheap_status rtheap_put_numbers(rtheap *heap, uint32_t s, uint64_t first,
                                                 uint32_t v, const uint64_t *numbers, size_t count,
                                                 size_t *done);
+
+/* ---- rtheap_peek: reads without a command ---- */
+
+/* Returns what field i of the object in register s holds, as rtheap_get does. May be NIL,
+   NOT_OBJECT, RANGE or BOUNDS. Reads are no commands: they change no register and no field, do no
+   unit, take nothing of the heap's life, and are not told as lines of a job. But they use the
+   handle as commands do, and an error is noted there. So a read in another thread than the commands
+   may be RTHEAP_ERR_IN_USE, and so may a command at the time. */
+RTHEAP_CHECKED rtheap_status rtheap_peek(const rtheap *heap, uint32_t s, uint64_t i,
+                                         rtheap_value *value);
+
+/* Returns what is at the end of a path of `count` indices from register s: with none what the
+   register holds, and with {i, j} what field j holds of the object in field i of the object in
+   register s. Its time grows with the path, and in objects of several blocks with the indices. If
+   the path cannot be followed, the last error has the place of the index in `indices`. */
+RTHEAP_CHECKED rtheap_status rtheap_peek_path(const rtheap *heap, uint32_t s,
+                                              const uint64_t *indices, size_t count,
+                                              rtheap_value *value);
+
+/* ---- rtheap_graph: the graph of a heap as a text ---- */
+
+/* Writes what the registers reach, for a person: a line for the registers, and one for each object,
+   such as "3: record 2 [7, ->5]", which ends with a zero byte. An object's number is the serial
+   number of its name; that of the shared array is 0. The objects come in the order in which a
+   search by levels finds them. `length` gets how many bytes the text has without the zero; if the
+   text does not fit into `size` bytes, that is all that is written, with RTHEAP_ERR_TOO_SMALL. So
+   the first call may have NULL and 0.
+   rtheap_graph_dot writes a drawing in the language of Graphviz: `dot -Tsvg` makes a picture of it.
+   Both are reads, as rtheap_peek. Their time grows with the graph. They take memory for their work
+   from where the heap has its own, or from malloc if that is lent memory, and give it back. */
+RTHEAP_CHECKED rtheap_status rtheap_graph_text(const rtheap *heap, char *text, size_t size,
+                                               size_t *length);
+RTHEAP_CHECKED rtheap_status rtheap_graph_dot(const rtheap *heap, char *text, size_t size,
+                                              size_t *length);
+
+/* ---- rtheap_save: heaps as bytes ---- */
+
+/* Writes what the registers reach as bytes, which rtheap_load reads: what each register holds, and
+   the objects with their fields. The names of objects, the configuration and what is left of the
+   life are not saved. `length` gets how many bytes there are; if they are more than `size`, that
+   is all that is written, with RTHEAP_ERR_TOO_SMALL. So the first call may have NULL and 0.
+   RTHEAP_ERR_TOO_LARGE: so many objects could not be loaded; with blocks of width 8 at most 7,159
+   can. It is a read, as rtheap_peek, whose time grows with the blocks of the heap. It takes memory
+   for its work as rtheap_graph_text does. */
+RTHEAP_CHECKED rtheap_status rtheap_save(const rtheap *heap, void *bytes, size_t size,
+                                         size_t *length);
+
+/* Opens a heap in a closed handle, and builds in it what the bytes show. The configuration may be
+   another than that of the heap that was saved. It needs room for more than its objects: a table
+   of all of them, which is an object too, and the old shared array, which becomes an ordinary one.
+   RTHEAP_ERR_OBJECT and RTHEAP_ERR_NO_ROOM: `object` or `live` is too small, and the last error has
+   what is enough. Others are those of rtheap_open, and from RTHEAP_ERR_TOO_LARGE to
+   RTHEAP_ERR_MALFORMED. The heap has carried out commands to build its objects.
+   rtheap_load has memory from malloc, and the other from an allocator of the program, as
+   rtheap_open_with. */
+RTHEAP_CHECKED rtheap_status rtheap_load(rtheap *heap, const rtheap_config *config,
+                                         const void *bytes, size_t size);
+RTHEAP_CHECKED rtheap_status rtheap_load_with(rtheap *heap, const rtheap_config *config,
+                                              const void *bytes, size_t size,
+                                              const rtheap_memory *memory);
+
+/* Raises `object` and `live` of a configuration to what the bytes need, and `blocks` so that as
+   many are left beyond these limits; numbers that are enough stay. With a configuration that could
+   be opened before, rtheap_load then fails only for memory. RTHEAP_ERR_TOO_LARGE: a number would be
+   too large. It takes memory for its work from malloc. */
+RTHEAP_CHECKED rtheap_status rtheap_raise_config(rtheap_config *config, const void *bytes,
+                                                 size_t size);
 
 /* ---- rtheap_statistics: gauges, which change nothing, not even the handle ---- */
 

@@ -17,6 +17,7 @@
 #include <cstddef>
 #include <cstdint>
 #include <exception>
+#include <initializer_list>
 
 #include "rtheap_shared.h"
 
@@ -141,6 +142,43 @@ public:
         return told<rtheap_error>([&](auto *e) { return rtheap_last_error(c(), e, sizeof *e); });
     }
 
+    // Reads without a command: a field, and along a path of indices.
+    [[nodiscard]] result<rtheap_value> peek(std::uint32_t s, std::uint64_t i) const noexcept {
+        return told<rtheap_value>([&](auto *value) { return rtheap_peek(c(), s, i, value); });
+    }
+    [[nodiscard]] result<rtheap_value>
+    peek_path(std::uint32_t s, std::initializer_list<std::uint64_t> path) const noexcept {
+        return peek_path(s, path.begin(), path.size());
+    }
+    [[nodiscard]] result<rtheap_value> peek_path(std::uint32_t s, const std::uint64_t *path,
+                                                 std::size_t count) const noexcept {
+        return told<rtheap_value>(
+            [&](auto *value) { return rtheap_peek_path(c(), s, path, count, value); });
+    }
+
+    // The graph as a text, or as a drawing for Graphviz, in `size` bytes with the zero at the end.
+    // Each returns how many there are without it; text_size() says how many that would be.
+    [[nodiscard]] result<std::size_t> text_size() const noexcept {
+        return sized(rtheap_graph_text);
+    }
+    [[nodiscard]] result<std::size_t> dot_size() const noexcept { return sized(rtheap_graph_dot); }
+    result<std::size_t> text(char *to, std::size_t size) const noexcept {
+        return told<std::size_t>([&](auto *n) { return rtheap_graph_text(c(), to, size, n); });
+    }
+    result<std::size_t> dot(char *to, std::size_t size) const noexcept {
+        return told<std::size_t>([&](auto *n) { return rtheap_graph_dot(c(), to, size, n); });
+    }
+
+    // Saves the heap as bytes, and returns how many there are; opens a heap from such bytes.
+    [[nodiscard]] result<std::size_t> save_size() const noexcept { return sized(rtheap_save); }
+    result<std::size_t> save(void *to, std::size_t size) const noexcept {
+        return told<std::size_t>([&](auto *n) { return rtheap_save(c(), to, size, n); });
+    }
+    outcome load(const config &c, const void *bytes, std::size_t size) noexcept {
+        const rtheap_config given = c.c();
+        return rtheap_load(this->c(), &given, bytes, size);
+    }
+
     // The commands of rtheap.h.
     outcome record(std::uint32_t d, std::uint32_t fields) noexcept {
         return rtheap_record(c(), d, fields);
@@ -177,6 +215,14 @@ public:
     // A command as a value; the reply is whole.
     result<rtheap_reply> ask(const rtheap_command &command) noexcept {
         return told<rtheap_reply>([&](auto *reply) { return rtheap_ask(c(), command, reply); });
+    }
+
+private:
+    // How many bytes a call would write.
+    template <class Write> [[nodiscard]] result<std::size_t> sized(Write write) const noexcept {
+        std::size_t length = 0;
+        const rtheap_status status = write(c(), nullptr, 0, &length);
+        return {status == RTHEAP_ERR_TOO_SMALL ? RTHEAP_OK : status, length};
     }
 };
 

@@ -53,6 +53,10 @@ void returns() {
     check(h.same(4, 2).value() && !h.same(4, 1).value(), "same");
     check(h.cas(3, 1, 4, 5).value() && !h.cas(3, 1, 4, 5).value(), "cas");
     check(h.swap(3, 1, 4).value().kind == RTHEAP_NIL, "swap");
+    const heap &seen = h;
+    check(seen.peek(3, 1).value().kind == RTHEAP_REF, "peek");
+    check(seen.peek_path(3, {1, 2}).value().kind == RTHEAP_NIL, "peek along a path");
+    check(seen.peek_path(3, {1, 3}).status() == RTHEAP_ERR_RANGE, "a path that goes too far");
     check(h.idle(10) && h.nil(1), "idle");
     const rtheap_statistics s = h.statistics().value();
     check(s.units > 0 && s.units + s.units_left == std::uint64_t(1) << 45, "units");
@@ -102,12 +106,32 @@ void shares() {
     check(group.finish().ok(), "finish");
 }
 
+void saves() {
+    heap h, loaded;
+    check(h.save_size().status() == RTHEAP_ERR_CLOSED, "closed");
+    check(bool(h.open({64, 20, 1, 4})), "open");
+    check(h.record(1, 2) && h.set(2, 1250) && h.put(1, 1, 2) && h.put(0, 3, 1), "made");
+    std::string text(h.text_size().value(), ' ');
+    check(h.text(text.data(), text.size()).status() == RTHEAP_ERR_TOO_SMALL, "no zero");
+    check(h.text(text.data(), text.size() + 1).value() == text.size(), "text");
+    check(text.find("1: record 2 [nil, 1250]\n") != std::string::npos, "a line of it");
+    std::string dot(h.dot_size().value(), ' ');
+    check(h.dot(dot.data(), dot.size() + 1).value() == dot.size(), "drawing");
+    std::string bytes(h.save_size().value(), ' ');
+    check(h.save(bytes.data(), bytes.size()).value() == bytes.size(), "save");
+    check(loaded.load({64, 20}, bytes.data(), bytes.size() - 1).status() == RTHEAP_ERR_TORN,
+          "torn");
+    check(bool(loaded.load({64, 20}, bytes.data(), bytes.size())), "load");
+    check(loaded.peek_path(0, {3, 1}).value().number == 1250, "the same");
+}
+
 } // namespace
 
 int main() {
     moves();
     returns();
     tells();
+    saves();
     shares();
     return wrong;
 }

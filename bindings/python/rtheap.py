@@ -56,6 +56,14 @@ class Status(enum.IntEnum):
     ERR_CONFIG_SIZE = 28
     ERR_NOT_NUMBER = 29
     ERR_USED = 30
+    ERR_TOO_LARGE = 31
+    ERR_NOT_SAVED = 32
+    ERR_SAVED_VERSION = 33
+    ERR_TORN = 34
+    ERR_CHECKSUM = 35
+    ERR_MALFORMED = 36
+    ERR_OBJECT = 37
+    ERR_NO_ROOM = 38
 
 
 class Name(NamedTuple):
@@ -142,6 +150,10 @@ _CALLS = {
     "cas": [_H, _R, _N, _R, _R, POINTER(c_bool)], "idle": [_H, _N],
     "get_numbers": [_H, _R, _R, _N, POINTER(_N), _S, POINTER(_S)],
     "put_numbers": [_H, _R, _N, _R, POINTER(_N), _S, POINTER(_S)],
+    "load": [_H, POINTER(_Config), c_char_p, _S], "save": [_H, c_void_p, _S, POINTER(_S)],
+    "graph_text": [_H, c_void_p, _S, POINTER(_S)], "graph_dot": [_H, c_void_p, _S, POINTER(_S)],
+    "peek": [_H, _R, _N, POINTER(_Value)],
+    "peek_path": [_H, _R, POINTER(_N), _S, POINTER(_Value)],
     "read_statistics": [_H, POINTER(_Statistics), _S], "last_error": [_H, POINTER(_Error), _S],
     "group_open": [_H, POINTER(_Config)], "group_attach": [_H, _H], "group_return": [_H, _H],
     "group_finish": [_H, POINTER(_N)], "group_close": [_H],
@@ -306,6 +318,47 @@ class Heap(_Owner):
         """Stores numbers in fields `first` and on, by way of register v."""
         held = (c_uint64 * len(numbers))(*(_fits(it, 64) for it in numbers))
         self._call("put_numbers", s, first, v, held, len(numbers), None)
+
+    def peek(self, s: int, *path: int) -> Value:
+        """What is at the end of a path of indices from register s; without a command."""
+        if len(path) == 1:
+            return self._valued("peek", s, path[0])
+        indices = (c_uint64 * len(path))(*(_fits(it, 64) for it in path))
+        return self._valued("peek_path", s, indices, len(path))
+
+    def save(self) -> bytes:
+        """What the registers reach, as bytes for Heap.load."""
+        return self._written("save", 0)
+
+    @classmethod
+    def load(cls, saved: bytes, blocks: int, live: int, object: int = 1, shared: int = 0,
+             width: int = 8) -> "Heap":
+        """A heap that has what was saved. It needs room for a table of all objects."""
+        heap = cls.__new__(cls)
+        _Owner.__init__(heap)
+        heap._call("load", byref(_config(width, 1, blocks, live, object, shared)), saved,
+                   len(saved))
+        return heap
+
+    def text(self) -> str:
+        """What the registers reach, a line for each object."""
+        return self._written("graph_text", 1).decode()
+
+    def dot(self) -> str:
+        """The same as a drawing for Graphviz."""
+        return self._written("graph_dot", 1).decode()
+
+    def _written(self, name, more):
+        """The bytes that a call writes, which needs room for so many more."""
+        length = c_size_t()
+        try:
+            self._call(name, None, 0, byref(length))
+        except Error as error:
+            if error.status != Status.ERR_TOO_SMALL:
+                raise
+        written = ctypes.create_string_buffer(length.value + more)
+        self._call(name, written, len(written), byref(length))
+        return written.raw[:length.value]
 
     def _valued(self, name, *arguments):
         v = _Value()

@@ -81,6 +81,40 @@ class Heaps(unittest.TestCase):
             self.assertEqual(heap.get_numbers(2, 1, 2, 3), [5, 6, 7])
             self.refused(Status.ERR_NOT_NUMBER, heap.get_numbers, 2, 1, 1, 2)
 
+    def test_reads(self):
+        with Heap(blocks=64, live=20, shared=4) as heap:
+            heap.record(1, fields=2)
+            heap.set(2, 1250)
+            heap.put(1, 1, 2)
+            heap.put(0, 3, 1)
+            before = heap.statistics()
+            self.assertEqual(heap.peek(2), 1250)
+            self.assertEqual(heap.peek(1, 1), 1250)
+            self.assertEqual(heap.peek(0, 3, 1), 1250)
+            self.assertIsNone(heap.peek(0, 3, 0))
+            self.assertEqual(heap.statistics(), before)
+            error = self.refused(Status.ERR_RANGE, heap.peek, 0, 3, 2)
+            self.assertEqual((error.argument, error.value), ("place in indices", 1))
+            self.refused(Status.ERR_NIL, heap.peek, 3, 0)
+
+    def test_saves(self):
+        with Heap(blocks=64, live=20, shared=4) as heap:
+            heap.record(1, fields=2)
+            heap.set(2, 1250)
+            heap.put(1, 1, 2)
+            heap.put(0, 3, 1)
+            self.assertIn("1: record 2 [nil, 1250]\n", heap.text())
+            self.assertIn("digraph heap {", heap.dot())
+            saved = heap.save()
+        with Heap.load(saved, blocks=64, live=20) as heap:
+            self.assertEqual(heap.peek(0, 3, 1), 1250)
+            self.assertEqual(heap.save(), saved)
+        self.refused(Status.ERR_TORN, Heap.load, saved[:-1], blocks=64, live=20)
+        self.refused(Status.ERR_NOT_SAVED, Heap.load, b"", blocks=64, live=20)
+        heap = Heap(blocks=64, live=20)
+        heap.close()
+        self.refused(Status.ERR_CLOSED, heap.save)
+
     def test_refusals(self):
         error = self.refused(Status.ERR_RATE, Heap, blocks=20, live=20)
         self.assertEqual((error.argument, error.value, error.least), ("blocks", 20, 24))

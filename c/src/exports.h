@@ -38,6 +38,23 @@ uint32_t rtheap_raw_swap(rtheap_owned *heap, uint32_t s, uint64_t i, uint32_t v,
 uint32_t rtheap_raw_cas(rtheap_owned *heap, uint32_t s, uint64_t i, uint32_t a, uint32_t v,
                         rtheap_reply *reply);
 uint32_t rtheap_raw_idle(rtheap_owned *heap, uint64_t units, rtheap_reply *reply);
+uint32_t rtheap_raw_peek(rtheap_owned *heap, uint32_t s, uint64_t i, rtheap_reply *reply);
+uint32_t rtheap_raw_peek_path(rtheap_owned *heap, uint32_t s, const uint64_t *path, size_t length,
+                              rtheap_reply *reply);
+uint32_t rtheap_raw_text(rtheap_owned *heap, uint8_t *out, size_t size, uint64_t *length);
+uint32_t rtheap_raw_dot(rtheap_owned *heap, uint8_t *out, size_t size, uint64_t *length);
+uint32_t rtheap_raw_save(rtheap_owned *heap, uint8_t *out, size_t size, uint64_t *length);
+/* `number` gets what is wrong, of a refusal that has a number. */
+uint32_t rtheap_raw_load(rtheap_owned *heap, const uint8_t *bytes, size_t size, uint32_t version,
+                         uint32_t blocks, uint32_t live, uint32_t object, uint32_t shared,
+                         uint64_t *number);
+/* What of a configuration may have to be raised. */
+typedef struct rtheap_limits {
+    uint32_t blocks, live, object;
+} rtheap_limits;
+
+uint32_t rtheap_raw_raise(const uint8_t *bytes, size_t size, uint32_t version, uint32_t shared,
+                          rtheap_limits *limits);
 
 uint32_t rtheap_group_raw_open(rtheap_owned *group, uint32_t version, uint32_t threads,
                                uint32_t blocks, uint32_t live, uint32_t object, uint32_t shared);

@@ -96,6 +96,14 @@ static inline rtheap_status rtheap_in_outcome(uint32_t status, const rtheap_repl
     }
 }
 
+/* The value that a reply carries. */
+static inline rtheap_value rtheap_in_value(const rtheap_reply *reply) {
+    rtheap_value value = {RTHEAP_NIL, reply->thread, reply->value};
+    if (reply->kind == RTHEAP_REPLY_INT) value.kind = RTHEAP_INT;
+    if (reply->kind == RTHEAP_REPLY_REF) value.kind = RTHEAP_REF;
+    return value;
+}
+
 static inline rtheap_command rtheap_in_command(rtheap_command_kind kind, uint32_t a, uint32_t b,
                                                uint32_t v, uint64_t n) {
     rtheap_command command = {(uint32_t)kind, a, b, v, n};
@@ -115,6 +123,10 @@ typedef struct rtheap_using {
    handler, may open another heap meanwhile. */
 rtheap_using rtheap_in_use(const rtheap_source *source, void *lent, size_t bytes);
 void rtheap_in_use_again(rtheap_using before);
+
+/* For a call that allocates for its work alone: memory from where the heap has its own. Of lent
+   memory nothing is left, so such a call has it from malloc. The handle is taken. */
+rtheap_using rtheap_in_use_for_work(const rtheap_handle *handle);
 
 /* Note what was wrong, and return the status. */
 rtheap_status rtheap_in_blame(rtheap_handle *handle, rtheap_status status, const char *argument,

@@ -150,18 +150,11 @@ rtheap_status rtheap_ask_all(rtheap *heap, const rtheap_command *commands, size_
     return status;
 }
 
-static rtheap_value value_of(const rtheap_reply *reply) {
-    rtheap_value value = {RTHEAP_NIL, reply->thread, reply->value};
-    if (reply->kind == RTHEAP_REPLY_INT) value.kind = RTHEAP_INT;
-    if (reply->kind == RTHEAP_REPLY_REF) value.kind = RTHEAP_REF;
-    return value;
-}
-
 /* A command that returns a value. */
 static inline rtheap_status valued(rtheap *heap, rtheap_command command, rtheap_value *value) {
     rtheap_reply reply = {0, 0, 0};
     rtheap_status status = ask(heap, command, &reply);
-    if (status == RTHEAP_OK && value) *value = value_of(&reply);
+    if (status == RTHEAP_OK && value) *value = rtheap_in_value(&reply);
     return status;
 }
 
@@ -252,7 +245,7 @@ static rtheap_status one_field(rtheap_handle *handle, const fields *f, size_t at
     }
     status = done(handle, rtheap_cmd_get(f->scratch, f->object, i), &reply);
     if (status != RTHEAP_OK) return status;
-    if (f->values) f->values[at] = value_of(&reply);
+    if (f->values) f->values[at] = rtheap_in_value(&reply);
     if (!f->numbers) return status;
     if (reply.kind != RTHEAP_REPLY_INT)
         return rtheap_in_blame(handle, RTHEAP_ERR_NOT_NUMBER, "i", i, 0, UINT64_MAX);

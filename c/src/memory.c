@@ -4,8 +4,9 @@
    for its thread. With RTHEAP_NO_MALLOC, in librtheap_lent.a, there is no malloc.
 
    A heap takes all its memory when it is opened, and a shared one also when a worker is attached or
-   given back. Lent memory is given out from the first byte on, and nothing of it is taken back:
-   after rtheap_close it is the program's again. */
+   given back. Saves and texts take memory for their work, and give it back. Lent memory is given
+   out from the first byte on, and nothing of it is taken back: after rtheap_close it is the
+   program's again. */
 #include <stdlib.h>
 #include <string.h>
 
@@ -34,6 +35,10 @@ rtheap_using rtheap_in_use(const rtheap_source *source, void *lent, size_t bytes
 }
 
 void rtheap_in_use_again(rtheap_using before) { now = before; }
+
+rtheap_using rtheap_in_use_for_work(const rtheap_handle *handle) {
+    return rtheap_in_use(handle->source.is_lent ? NULL : &handle->source, NULL, 0);
+}
 
 static bool is_lent(void) { return now.source && now.source->is_lent; }
 

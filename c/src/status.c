@@ -22,10 +22,10 @@ static const struct {
     ROW(RTHEAP_ERR_MEMORY, "out of memory"),
     ROW(RTHEAP_ERR_NULL_HANDLE, "the handle is NULL"),
     ROW(RTHEAP_ERR_FULL, "no room: more is reachable than the live limit"),
-    ROW(RTHEAP_ERR_NIL, "the register holds nil, and no reference"),
-    ROW(RTHEAP_ERR_NOT_OBJECT, "the register holds a number, and no reference"),
+    ROW(RTHEAP_ERR_NIL, "the register or field holds nil, and no reference"),
+    ROW(RTHEAP_ERR_NOT_OBJECT, "the register or field holds a number, and no reference"),
     ROW(RTHEAP_ERR_RANGE, "the object has no such field or element"),
-    ROW(RTHEAP_ERR_TOO_SMALL, "the lent memory is too small"),
+    ROW(RTHEAP_ERR_TOO_SMALL, "the lent memory or buffer is too small"),
     ROW(RTHEAP_ERR_BUSY, "the worker's last command is not done"),
     ROW(RTHEAP_NOT_DONE, "the command is not done yet"),
     ROW(RTHEAP_ERR_NO_COMMAND, "the worker has no command to carry out"),
@@ -41,6 +41,14 @@ static const struct {
     ROW(RTHEAP_ERR_CONFIG_SIZE, "the size of the configuration is not known"),
     ROW(RTHEAP_ERR_NOT_NUMBER, "the field holds no number"),
     ROW(RTHEAP_ERR_USED, "the heap has carried out commands"),
+    ROW(RTHEAP_ERR_TOO_LARGE, "there are too many objects to be saved and loaded"),
+    ROW(RTHEAP_ERR_NOT_SAVED, "the bytes are not those of a saved heap"),
+    ROW(RTHEAP_ERR_SAVED_VERSION, "the heap was saved in another version"),
+    ROW(RTHEAP_ERR_TORN, "the saved heap is cut short or too long"),
+    ROW(RTHEAP_ERR_CHECKSUM, "the saved heap was changed"),
+    ROW(RTHEAP_ERR_MALFORMED, "the saved heap has no picture of a heap"),
+    ROW(RTHEAP_ERR_OBJECT, "a saved object, or a table of all, is larger than an object may be"),
+    ROW(RTHEAP_ERR_NO_ROOM, "the saved heap needs more than the live limit"),
 };
 
 static const size_t count = sizeof rows / sizeof *rows;

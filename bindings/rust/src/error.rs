@@ -20,9 +20,9 @@ pub enum ErrorKind {
     Memory,
     /// No room: more blocks than the live limit were reachable. `Error::value` is the cycle.
     Full,
-    /// The register holds nil, and no reference.
+    /// The register, or a field on a path, holds nil, and no reference.
     Nil,
-    /// The register holds a number, and no reference.
+    /// The register, or a field on a path, holds a number, and no reference.
     NotObject,
     /// The object has no such field or element.
     Range,
@@ -38,6 +38,22 @@ pub enum ErrorKind {
     WorkersOut,
     /// The worker is of another group.
     WrongGroup,
+    /// There are too many objects to be saved and loaded.
+    TooLarge,
+    /// The bytes are not those of a saved heap.
+    NotSaved,
+    /// The heap was saved in another version.
+    SavedVersion,
+    /// The saved heap is cut short or too long.
+    Torn,
+    /// The saved heap was changed.
+    Checksum,
+    /// The saved heap has no picture of a heap.
+    Malformed,
+    /// `object` is too small for a saved object, or for a table of them.
+    Object,
+    /// `live` is too small for what was saved.
+    NoRoom,
     /// Another status, which is in the text.
     Other(u32),
 }
@@ -60,6 +76,14 @@ impl ErrorKind {
             21 => ErrorKind::NotSeen,
             22 => ErrorKind::WorkersOut,
             26 => ErrorKind::WrongGroup,
+            31 => ErrorKind::TooLarge,
+            32 => ErrorKind::NotSaved,
+            33 => ErrorKind::SavedVersion,
+            34 => ErrorKind::Torn,
+            35 => ErrorKind::Checksum,
+            36 => ErrorKind::Malformed,
+            37 => ErrorKind::Object,
+            38 => ErrorKind::NoRoom,
             other => ErrorKind::Other(other),
         }
     }

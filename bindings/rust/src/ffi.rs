@@ -65,6 +65,34 @@ extern "C" {
     pub fn rtheap_status_text(status: u32) -> *const c_char;
     #[cfg(feature = "alloc")]
     pub fn rtheap_open(heap: *mut Handle, config: *const Config) -> u32;
+    #[cfg(feature = "alloc")]
+    pub fn rtheap_load(
+        heap: *mut Handle,
+        config: *const Config,
+        bytes: *const c_void,
+        size: usize,
+    ) -> u32;
+    #[cfg(feature = "alloc")]
+    pub fn rtheap_save(
+        heap: *const Handle,
+        bytes: *mut c_void,
+        size: usize,
+        length: *mut usize,
+    ) -> u32;
+    #[cfg(feature = "alloc")]
+    pub fn rtheap_graph_text(
+        heap: *const Handle,
+        text: *mut c_void,
+        size: usize,
+        length: *mut usize,
+    ) -> u32;
+    #[cfg(feature = "alloc")]
+    pub fn rtheap_graph_dot(
+        heap: *const Handle,
+        text: *mut c_void,
+        size: usize,
+        length: *mut usize,
+    ) -> u32;
     pub fn rtheap_open_in(
         heap: *mut Handle,
         config: *const Config,
@@ -73,6 +101,15 @@ extern "C" {
     ) -> u32;
     pub fn rtheap_close(heap: *mut Handle) -> u32;
     pub fn rtheap_ask(heap: *mut Handle, command: Command, reply: *mut Reply) -> u32;
+    // A value of C has the form of a reply that carries it.
+    pub fn rtheap_peek(heap: *const Handle, s: u32, i: u64, value: *mut Reply) -> u32;
+    pub fn rtheap_peek_path(
+        heap: *const Handle,
+        s: u32,
+        path: *const u64,
+        count: usize,
+        value: *mut Reply,
+    ) -> u32;
     pub fn rtheap_read_statistics(heap: *const Handle, out: *mut Statistics, size: usize) -> u32;
     pub fn rtheap_last_error(heap: *const Handle, out: *mut Error, size: usize) -> u32;
 }

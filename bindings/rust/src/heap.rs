@@ -142,18 +142,104 @@ impl Heap<'static> {
     ///
     /// `Bounds`, `Live` or `Rate` where the configuration is not one of a heap, and `Memory`.
     pub fn open(config: &Config) -> Result<Heap<'static>, Error> {
-        let handle = alloc::boxed::Box::new(ffi::Handle::CLOSED);
-        let handle = NonNull::from(alloc::boxed::Box::leak(handle));
-        // The box is freed where this is dropped.
-        let heap = Heap {
-            handle,
-            is_boxed: true,
-            lent: PhantomData,
-        };
+        let heap = Heap::closed();
         // SAFETY: the handle is closed, and the configuration is one of C.
-        let status = unsafe { ffi::rtheap_open(handle.as_ptr(), &config.coded()) };
+        let status = unsafe { ffi::rtheap_open(heap.handle.as_ptr(), &config.coded()) };
         heap.checked(status)?;
         Ok(heap)
+    }
+
+    /// Opens a heap that has what was saved as these bytes, with memory from `malloc`. It needs room
+    /// for a table of all objects, too.
+    ///
+    /// # Errors
+    ///
+    /// As of `open`; `Object` and `NoRoom` where the configuration allows too little;
+    /// `NotSaved`, `SavedVersion`, `Torn`, `Checksum` and `Malformed` of bytes that are no saved
+    /// heap.
+    pub fn load(config: &Config, bytes: &[u8]) -> Result<Heap<'static>, Error> {
+        let heap = Heap::closed();
+        // SAFETY: the handle is closed, the configuration is one of C, and so many bytes are there.
+        let status = unsafe {
+            ffi::rtheap_load(
+                heap.handle.as_ptr(),
+                &config.coded(),
+                bytes.as_ptr().cast(),
+                bytes.len(),
+            )
+        };
+        heap.checked(status)?;
+        Ok(heap)
+    }
+
+    // A closed handle in a box, which is freed where the heap is dropped.
+    fn closed() -> Heap<'static> {
+        let handle = alloc::boxed::Box::new(ffi::Handle::CLOSED);
+        Heap {
+            handle: NonNull::from(alloc::boxed::Box::leak(handle)),
+            is_boxed: true,
+            lent: PhantomData,
+        }
+    }
+}
+
+#[cfg(feature = "alloc")]
+type Writes =
+    unsafe extern "C" fn(*const ffi::Handle, *mut core::ffi::c_void, usize, *mut usize) -> u32;
+
+#[cfg(feature = "alloc")]
+impl Heap<'_> {
+    /// What the registers reach, as bytes for [`Heap::load`].
+    ///
+    /// # Errors
+    ///
+    /// `Memory`, and `TooLarge` where there are more objects than can be loaded.
+    pub fn save(&self) -> Result<alloc::vec::Vec<u8>, Error> {
+        self.written(ffi::rtheap_save, 0)
+    }
+
+    /// What the registers reach, as a text: a line for the registers, and one for each object.
+    ///
+    /// # Errors
+    ///
+    /// `Memory`.
+    pub fn text(&self) -> Result<alloc::string::String, Error> {
+        let text = self.written(ffi::rtheap_graph_text, 1)?;
+        Ok(alloc::string::String::from_utf8_lossy(&text).into_owned())
+    }
+
+    /// The same as a drawing for Graphviz's `dot`.
+    ///
+    /// # Errors
+    ///
+    /// `Memory`.
+    pub fn dot(&self) -> Result<alloc::string::String, Error> {
+        let text = self.written(ffi::rtheap_graph_dot, 1)?;
+        Ok(alloc::string::String::from_utf8_lossy(&text).into_owned())
+    }
+
+    // The bytes that a call writes, which needs room for so many more.
+    fn written(&self, writes: Writes, more: usize) -> Result<alloc::vec::Vec<u8>, Error> {
+        const TOO_SMALL: u32 = 15;
+        let mut length = 0;
+        // SAFETY: the handle is open and of this thread; nothing is written where there is no room.
+        let status = unsafe { writes(self.handle.as_ptr(), core::ptr::null_mut(), 0, &mut length) };
+        if status != TOO_SMALL {
+            self.checked(status)?;
+        }
+        let mut bytes = alloc::vec![0; length + more];
+        // SAFETY: so many bytes are there.
+        let status = unsafe {
+            writes(
+                self.handle.as_ptr(),
+                bytes.as_mut_ptr().cast(),
+                bytes.len(),
+                &mut length,
+            )
+        };
+        self.checked(status)?;
+        bytes.truncate(length);
+        Ok(bytes)
     }
 }
 
@@ -224,6 +310,42 @@ impl<'m> Heap<'m> {
         let status = unsafe { ffi::rtheap_ask(self.handle.as_ptr(), command.coded(), &mut reply) };
         self.checked(status)?;
         Ok(Reply::of(reply))
+    }
+
+    /// What field `i` of the object in register `s` holds, as [`Heap::get`] returns it, but without
+    /// a command: no register changes, and nothing of the life is taken.
+    ///
+    /// # Errors
+    ///
+    /// `Bounds`, `Nil`, `NotObject` and `Range`.
+    pub fn peek(&self, s: u8, i: u64) -> Result<Value, Error> {
+        let mut value = ffi::Reply::default();
+        // SAFETY: the handle is open and of this thread, and `value` has the form of one of C.
+        let status = unsafe { ffi::rtheap_peek(self.handle.as_ptr(), s.into(), i, &mut value) };
+        self.checked(status)?;
+        Ok(Reply::of(value).value())
+    }
+
+    /// What is at the end of a path of indices from register `s`; with none what it holds. It is no
+    /// command.
+    ///
+    /// # Errors
+    ///
+    /// As of [`Heap::peek`].
+    pub fn peek_path(&self, s: u8, path: &[u64]) -> Result<Value, Error> {
+        let mut value = ffi::Reply::default();
+        // SAFETY: as above; the path has as many indices as are given.
+        let status = unsafe {
+            ffi::rtheap_peek_path(
+                self.handle.as_ptr(),
+                s.into(),
+                path.as_ptr(),
+                path.len(),
+                &mut value,
+            )
+        };
+        self.checked(status)?;
+        Ok(Reply::of(value).value())
     }
 
     /// What it has done, and what is left of its life. It changes nothing.

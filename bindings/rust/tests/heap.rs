@@ -55,6 +55,45 @@ fn lent_memory() {
 }
 
 #[test]
+fn reads() {
+    let mut heap = Heap::open(&CONFIG).unwrap();
+    heap.record(1, 2).unwrap();
+    heap.set(2, 1250).unwrap();
+    heap.put(1, 1, 2).unwrap();
+    heap.put(0, 3, 1).unwrap();
+    let before = heap.statistics();
+    assert_eq!(heap.peek(1, 1), Ok(Value::Int(1250)));
+    assert_eq!(heap.peek_path(0, &[3, 1]), Ok(Value::Int(1250)));
+    assert_eq!(heap.peek_path(0, &[3, 0]), Ok(Value::Nil));
+    assert_eq!(heap.peek_path(2, &[]), Ok(Value::Int(1250)));
+    assert_eq!(heap.statistics(), before);
+    let error = heap.peek_path(0, &[3, 2]).unwrap_err();
+    assert_eq!(error.kind, ErrorKind::Range);
+    assert_eq!((error.argument, error.value), (Some("place in indices"), 1));
+    assert_eq!(heap.peek(16, 0).unwrap_err().argument, Some("s"));
+}
+
+#[test]
+fn saves() {
+    let mut heap = Heap::open(&CONFIG).unwrap();
+    heap.record(1, 2).unwrap();
+    heap.set(2, 1250).unwrap();
+    heap.put(1, 1, 2).unwrap();
+    heap.put(0, 3, 1).unwrap();
+    assert!(heap.text().unwrap().contains("1: record 2 [nil, 1250]\n"));
+    assert!(heap.dot().unwrap().starts_with("digraph heap {"));
+    let saved = heap.save().unwrap();
+    let loaded = Heap::load(&CONFIG, &saved).unwrap();
+    assert_eq!(loaded.peek_path(0, &[3, 1]), Ok(Value::Int(1250)));
+    assert_eq!(loaded.save(), Ok(saved.clone()));
+    let error = Heap::load(&CONFIG, &saved[1..]).unwrap_err();
+    assert_eq!(error.kind, ErrorKind::NotSaved);
+    let mut memory = vec![0; CONFIG.words()];
+    let lent = Heap::open_in(&CONFIG, &mut memory).unwrap();
+    assert!(lent.save().is_ok());
+}
+
+#[test]
 fn refusals() {
     let error = Heap::open(&Config::new(20, 20)).unwrap_err();
     assert_eq!(error.kind, ErrorKind::Rate);

@@ -1,8 +1,11 @@
 -- The first of a group's workers, and the others, are of its heap.
 use Rattle.std.proofs.Common.{◌≡◌, ◌<◌, ◌++◌, ℕ, zero, suc, List, [], ◌∷◌, length, slice_index_or, sym, ap, ◌∙◌, subst, arith}
-use Rattle.atomic_table.specs.Seated.{TableId}
+use Rattle.atomic_table.specs.Seated.{TableId, table_id_coded}
+use Rattle.std.specs.Arc.{arc_value}
+use Rattle.std.specs.Coded.{Coded-set}
 use Rattle.std.specs.Prelude.{Option, Some, None}
 use Rattle.shared_heap.specs.Workers.{HeapState, WorkerState}
+use Rattle.control_heap_c.specs.declared.owned.Resting.{Resting}
 
 abbrev AllOf : TableId → List WorkerState → Type 0
 AllOf t ws = (i : ℕ) (d : WorkerState) → i < length ws → (slice_index_or ws i d).heap ≡ t
@@ -32,3 +35,10 @@ more_of t ws new w e all is = subst (λ (xs : List WorkerState). AllOf t xs) (sy
 
 pub same_of : (t : TableId) (ws new : List WorkerState) → new ≡ ws → AllOf t ws → AllOf t new
 same_of t ws new e all = subst (λ (xs : List WorkerState). AllOf t xs) (sym e) all
+
+-- a worker that is put back where it was
+pub same_resting : (r : Resting) (w : WorkerState) (own : w.heap ≡ (arc_value r.heap).id) → w ≡ r.worker
+    → ◌≡◌ {A = Resting} (record { heap = r.heap; worker = w; own = own }) r
+same_resting r w own e =
+    subst (λ (v : WorkerState). (o : v.heap ≡ (arc_value r.heap).id) → ◌≡◌ {A = Resting} (record { heap = r.heap; worker = v; own = o }) r)
+    (sym e) (λ o i. record { heap = r.heap; worker = r.worker; own = Coded-set table_id_coded _ _ o r.own i }) own

@@ -5,7 +5,7 @@ use Rattle.std.specs.Arc.{arc_value}
 use Rattle.shared_heap.specs.Pending.{PendingState}
 use Rattle.shared_heap.specs.Workers.{HaveHistoryOfSome, HeapState, WorkerState}
 use Rattle.control_heap_c.specs.Groups.{group_in, home_in, workers_in}
-use Rattle.control_heap_c.specs.Shared.{HasNone, IsUnchanged, command_at, worker_at}
+use Rattle.control_heap_c.specs.Shared.{HasNone, command_at, worker_at}
 use Rattle.control_heap_c.specs.declared.owned.Group as groups
 use Rattle.control_heap_c.specs.declared.owned.Owned.{Owned}
 use Rattle.control_heap_c.specs.declared.shared.closing.FinishRefusal.{FinishRefusal}
@@ -43,11 +43,19 @@ IsNotReturned g h returning.NoGroup =
 IsNotReturned g h returning.NoMemory =
     ((w : WorkerState) × (worker_at h ≡ Some w)) × (is_some (workers_in g) ≡ true)
 
+-- What the group's handle is then: as before; where an allocation failed, it has the same heap and
+-- the same workers.
+abbrev pub IsGroupLeft : ReturnRefusal → Option Owned → Option Owned → Type 0
+IsGroupLeft returning.Closed old new = new ≡ old
+IsGroupLeft returning.Busy old new = new ≡ old
+IsGroupLeft returning.NoGroup old new = new ≡ old
+IsGroupLeft returning.NoMemory old new = IsSameGroup old new
+
 -- the handle of the group and that of the worker, before and after
 abbrev pub BecameReturned : Option Owned → Option Owned → Result (Unit {0}) ReturnRefusal
     → Option Owned → Option Owned → Type 0
 BecameReturned g h (Ok u) g' h' = (h' ≡ None) × HasTakenFrom g h g'
-BecameReturned g h (Err e) g' h' = IsNotReturned g h e × IsSameGroup g g' × IsUnchanged h h'
+BecameReturned g h (Err e) g' h' = IsNotReturned g h e × IsGroupLeft e g g' × (h' ≡ h)
 
 abbrev pub return_status : Result (Unit {0}) ReturnRefusal → ℕ
 return_status (Ok u) = 0
@@ -76,7 +84,7 @@ IsNotFinished h finishing.InUse = is_some (workers_in h) ≡ true
 
 abbrev pub BecameFinished : Option Owned → Result ℕ FinishRefusal → Option Owned → Type 0
 BecameFinished old (Ok cycles) new = (new ≡ None) × WasFinished (group_in old) cycles
-BecameFinished old (Err e) new = IsNotFinished old e × IsSameGroup old new
+BecameFinished old (Err e) new = IsNotFinished old e × (new ≡ old)
 
 abbrev pub finish_status : Result ℕ FinishRefusal → ℕ
 finish_status (Ok cycles) = 0

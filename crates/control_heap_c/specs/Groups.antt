@@ -123,22 +123,19 @@ pub record HasHanded (old : Option Owned) (is_open : Bool) (x : Owned) (new : Op
     pub home : home_in new ≡ home_in old
     pub own : (s : HeapState) → home_in old ≡ Some s → first.heap ≡ s.id
 
--- why none does; the group is as it was
-abbrev pub IsNotAttached : Option Owned → Bool → AttachRefusal → Option Owned → Type 0
-IsNotAttached old is_open attaching.NoGroup new = (workers_in old ≡ None) × (new ≡ old)
-IsNotAttached old is_open attaching.Open new = (is_open ≡ true)
-    × (is_some (workers_in old) ≡ true) × (workers_in new ≡ workers_in old)
-IsNotAttached old is_open attaching.NoWorker new = (is_open ≡ false)
-    × (workers_in old ≡ Some []) × (workers_in new ≡ workers_in old)
-IsNotAttached old is_open attaching.NoMemory new = (is_open ≡ false)
-    × (is_some (workers_in old) ≡ true) × (workers_in new ≡ workers_in old)
+-- why none does
+abbrev pub IsNotAttached : Option Owned → Bool → AttachRefusal → Type 0
+IsNotAttached h is_open attaching.NoGroup = workers_in h ≡ None
+IsNotAttached h is_open attaching.Open = (is_open ≡ true) × (is_some (workers_in h) ≡ true)
+IsNotAttached h is_open attaching.NoWorker = (is_open ≡ false) × (workers_in h ≡ Some [])
+IsNotAttached h is_open attaching.NoMemory = (is_open ≡ false) × (is_some (workers_in h) ≡ true)
 
--- the handle of the group and that of the worker, before and after
+-- the handle of the group and that of the worker, before and after: both the same where none does
 abbrev pub BecameAttached : Option Owned → Option Owned → Result (Unit {0}) AttachRefusal
     → Option Owned → Option Owned → Type 0
 BecameAttached g h (Ok u) g' (Some x) = (h ≡ None) × HasHanded g false x g'
 BecameAttached g h (Ok u) g' None = ⊥
-BecameAttached g h (Err e) g' h' = IsNotAttached g (is_some h) e g' × (h' ≡ h)
+BecameAttached g h (Err e) g' h' = IsNotAttached g (is_some h) e × (g' ≡ g) × (h' ≡ h)
 
 abbrev pub attach_status : Result (Unit {0}) AttachRefusal → ℕ
 attach_status (Ok u) = 0

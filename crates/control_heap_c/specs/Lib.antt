@@ -1,6 +1,11 @@
+pub mod Buffers
 pub mod Closings
 pub mod Groups
 pub mod Links
+pub mod Needs
 pub mod Outcomes
+pub mod Peeks
+pub mod Saves
 pub mod Shared
 pub mod Stamps
+pub mod Texts

@@ -43,10 +43,6 @@ command_at (Some Moved) = None
 abbrev pub HasNone : Option Owned → Type 0
 HasNone h = (worker_at h ≡ None) × (command_at h ≡ None)
 
--- it has the same worker, or the same command
-abbrev pub IsUnchanged : Option Owned → Option Owned → Type 0
-IsUnchanged old new = (worker_at new ≡ worker_at old) × (command_at new ≡ command_at old)
-
 -- ---- a command is started
 
 -- why it was not
@@ -58,13 +54,13 @@ IsNotStarted h k (starting.Heap r) = (w : WorkerState) × (j : Command) × (work
     × (k ≡ Some j) × IsRefused w j r
 
 -- A worker started the command, as `SharedHeap::start` ensures; or it was not started, and the
--- handle has the same as before.
+-- handle is as before.
 abbrev pub BecameStarted : Option Owned → Option Command → Result (Unit {0}) StartRefusal
     → Option Owned → Type 0
 BecameStarted old k (Ok u) new = (w : WorkerState) × (j : Command) × (worker_at old ≡ Some w)
     × (k ≡ Some j) × IsCommandInBounds w.thread.config j × HasLeft w j
     × (command_at new ≡ Some (start_pending w j))
-BecameStarted old k (Err e) new = IsNotStarted old k e × IsUnchanged old new
+BecameStarted old k (Err e) new = IsNotStarted old k e × (new ≡ old)
 
 -- its status: a different number for each cause
 abbrev pub start_status : Result (Unit {0}) StartRefusal → ℕ
@@ -84,14 +80,15 @@ pub record IsDone (p : PendingState) (most : ℕ) (a : Reply) (w : WorkerState) 
   pub made : MadeMore p most w.thread w.span.own
   pub in_time : IsInTime p.worker.thread.config p.command w.span
 
+-- The command is done, or goes on; or there is none, and the handle is as before.
 abbrev pub BecamePolled : Option Owned → ℕ → Result Reply PollRefusal → Option Owned → Type 0
 BecamePolled old most (Ok a) new = (p : PendingState) × (w : WorkerState)
     × (command_at old ≡ Some p) × (worker_at new ≡ Some w) × IsDone p most a w
 BecamePolled old most (Err polling.NotDone) new = (p q : PendingState) × (command_at old ≡ Some p)
     × (command_at new ≡ Some q) × IsStillPending p most q
-BecamePolled old most (Err polling.Closed) new = HasNone old × IsUnchanged old new
+BecamePolled old most (Err polling.Closed) new = HasNone old × (new ≡ old)
 BecamePolled old most (Err polling.NoCommand) new =
-    ((w : WorkerState) × (worker_at old ≡ Some w)) × IsUnchanged old new
+    ((w : WorkerState) × (worker_at old ≡ Some w)) × (new ≡ old)
 
 abbrev pub poll_status : Result Reply PollRefusal → ℕ
 poll_status (Ok a) = 0

@@ -5,7 +5,7 @@ use Rattle.shared_heap.specs.Pending.{PendingState}
 use Rattle.shared_heap.specs.Shared.{IsStartOf, stamps_in}
 use Rattle.shared_heap.specs.Stamps.{HasDrawn, HasFollowed}
 use Rattle.shared_heap.specs.Workers.{WorkerState}
-use Rattle.control_heap_c.specs.Shared.{HasNone, IsUnchanged, command_at, worker_at}
+use Rattle.control_heap_c.specs.Shared.{HasNone, command_at, worker_at}
 use Rattle.control_heap_c.specs.declared.owned.Owned.{Owned}
 use Rattle.control_heap_c.specs.declared.shared.stamps.StampRefusal.{StampRefusal}
 use Rattle.control_heap_c.specs.declared.shared.stamps.StampRefusal.TheVariants as stamping
@@ -16,17 +16,17 @@ IsNotStamped h stamping.Closed = HasNone h
 IsNotStamped h stamping.Busy = (p : PendingState) × (command_at h ≡ Some p)
 
 -- The handle's worker drew a stamp, as `SharedHeap::stamp` ensures; or none was drawn, and the
--- handle has the same as before.
+-- handle is as before.
 abbrev pub BecameStamped : Option Owned → Result ℕ StampRefusal → Option Owned → Type 0
 BecameStamped old (Ok n) new = (w v : WorkerState) × (worker_at old ≡ Some w)
     × (worker_at new ≡ Some v) × HasDrawn w n v
-BecameStamped old (Err e) new = IsNotStamped old e × IsUnchanged old new
+BecameStamped old (Err e) new = IsNotStamped old e × (new ≡ old)
 
 -- the same of a stamp that is compared with this one, as `SharedHeap::follow` ensures
 abbrev pub BecameFollowed : Option Owned → ℕ → Result Bool StampRefusal → Option Owned → Type 0
 BecameFollowed old n (Ok b) new = (w v : WorkerState) × (worker_at old ≡ Some w)
     × (worker_at new ≡ Some v) × HasFollowed w n b v
-BecameFollowed old n (Err e) new = IsNotStamped old e × IsUnchanged old new
+BecameFollowed old n (Err e) new = IsNotStamped old e × (new ≡ old)
 
 abbrev pub stamp_status : Result ℕ StampRefusal → ℕ
 stamp_status (Ok n) = 0

@@ -2,12 +2,20 @@
 //! a command also the struct for its reply. A call that is refused changes nothing, and its status
 //! gives the cause.
 
-ghost use Rattle.std.specs.Prelude.{◌≡◌, ◌≤◌, ◌<◌};
+ghost use Rattle.std.specs.Prelude.{◌≡◌, ◌≤◌, ◌<◌, ◌∷◌, []};
 ghost use Rattle.never_heap.specs.declared.Command.TheVariants as commands;
 ghost use Rattle.control_heap_c.specs.Outcomes.{Called, Opened, Shut, config_of, counts_of, heap_in, lent_words, register, width_of};
+ghost use Rattle.control_heap_c.specs.Needs.{RaisedBy};
+ghost use Rattle.control_heap_c.specs.Peeks.{Peeked};
+ghost use Rattle.control_heap_c.specs.Saves.{LoadedBy, Saved};
+ghost use Rattle.control_heap_c.specs.Texts.{Shown};
 
 use crate::answer::{Answer, register, tell};
 use crate::handle::{Handle, ask, close, counts_at, lent_words, open, open_told};
+use crate::needs::{Limits, raise, raise_told};
+use crate::peeks::{peek, peek_path, peek_told};
+use crate::saves::{load_from, load_told, save_to, save_told};
+use crate::texts::{show, text_told};
 use never_heap::Command;
 use std::alloc::Global;
 
@@ -348,4 +356,120 @@ pub extern "C" fn rtheap_raw_idle(
     let command = Command::Idle { units };
     let outcome = ask(alloc, handle, command);
     tell(outcome, out)
+}
+
+/// Reads field `i` of the object in register `s`, without a command.
+#[unsafe(no_mangle)]
+pub extern "C" fn rtheap_raw_peek(
+    alloc: Global,
+    handle: &mut Handle,
+    s: u32,
+    i: u64,
+    out: &mut Answer,
+) -> u32
+    ensures { Peeked (register s) (i ∷ []) handle.old.link.value handle.new.link.value
+        out.old out.new result }
+{
+    let outcome = peek(alloc, handle, register(s), i);
+    peek_told(outcome, out)
+}
+
+/// Reads what is at the end of a path of indices from register `s`, without a command: with no
+/// index, what the register holds.
+#[unsafe(no_mangle)]
+pub extern "C" fn rtheap_raw_peek_path(
+    alloc: Global,
+    handle: &mut Handle,
+    s: u32,
+    path: &[u64],
+    out: &mut Answer,
+) -> u32
+    ensures { Peeked (register s) path.now handle.old.link.value handle.new.link.value
+        out.old out.new result }
+{
+    let outcome = peek_path(alloc, handle, register(s), path);
+    peek_told(outcome, out)
+}
+
+/// Writes what the registers reach as a text to the caller's memory, and how many bytes it has to
+/// `length`, also if the memory is too small (15).
+#[unsafe(no_mangle)]
+pub extern "C" fn rtheap_raw_text(
+    alloc: Global,
+    handle: &mut Handle,
+    out: &mut [u8],
+    length: &mut u64,
+) -> u32
+    ensures { Shown handle.old.link.value handle.new.link.value out.old out.new length.old
+        length.new result }
+{
+    let outcome = show(alloc, handle, false, out);
+    text_told(outcome, length)
+}
+
+/// The same as a drawing in the language of Graphviz's `dot`.
+#[unsafe(no_mangle)]
+pub extern "C" fn rtheap_raw_dot(
+    alloc: Global,
+    handle: &mut Handle,
+    out: &mut [u8],
+    length: &mut u64,
+) -> u32
+    ensures { Shown handle.old.link.value handle.new.link.value out.old out.new length.old
+        length.new result }
+{
+    let outcome = show(alloc, handle, true, out);
+    text_told(outcome, length)
+}
+
+/// Saves the heap as bytes to the caller's memory, and writes how many they are to `length`, also if
+/// the memory is too small (15).
+#[unsafe(no_mangle)]
+pub extern "C" fn rtheap_raw_save(
+    alloc: Global,
+    handle: &mut Handle,
+    out: &mut [u8],
+    length: &mut u64,
+) -> u32
+    ensures { Saved handle.old.link.value handle.new.link.value out.old out.new length.old
+        length.new result }
+{
+    let outcome = save_to(alloc, handle, out);
+    save_told(outcome, length)
+}
+
+/// Opens in a closed handle a heap that shows what was saved as these bytes. Of a refusal that has a
+/// number, it writes that to `number`.
+#[unsafe(no_mangle)]
+pub extern "C" fn rtheap_raw_load(
+    alloc: Global,
+    handle: &mut Handle,
+    bytes: &[u8],
+    version: u32,
+    blocks: u32,
+    live: u32,
+    object: u32,
+    shared: u32,
+    number: &mut u64,
+) -> u32
+    ensures { LoadedBy bytes.now (width_of version) (λ w. config_of w blocks live object shared)
+        handle.old.link.value handle.new.link.value number.old number.new result }
+{
+    let refusal = load_from(alloc, handle, bytes, version, blocks, live, object, shared);
+    load_told(refusal, number)
+}
+
+/// Raises the limits of a configuration to what these bytes of a saved heap need.
+#[unsafe(no_mangle)]
+pub extern "C" fn rtheap_raw_raise(
+    alloc: Global,
+    bytes: &[u8],
+    version: u32,
+    shared: u32,
+    limits: &mut Limits,
+) -> u32
+    ensures { RaisedBy bytes.now (width_of version) shared limits.old limits.new result }
+{
+    let outcome = raise(alloc, bytes, version, shared, *limits);
+    raise_told(outcome, limits)
 }

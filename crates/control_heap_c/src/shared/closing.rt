@@ -3,9 +3,8 @@
 ghost use Rattle.std.specs.Prelude.{◌≡◌, Some, IfOk, IfErr, OnOk, OnErr, [], ◌∷◌, ◌++◌};
 ghost use Rattle.std.specs.Arc.{arc_value};
 ghost use Rattle.control_heap_c.specs.declared.owned.Owned.TheVariants as owned;
-ghost use Rattle.control_heap_c.specs.Closings.{BecameFinished, BecameReturned, HasTaken, HasTakenFrom, IsNotFinished, IsNotReturned, IsOfGroup, IsSameGroup, WasFinished, finish_status, finish_told, return_status};
+ghost use Rattle.control_heap_c.specs.Closings.{BecameFinished, BecameReturned, HasTaken, HasTakenFrom, IsGroupLeft, IsNotFinished, IsNotReturned, IsOfGroup, WasFinished, finish_status, finish_told, return_status};
 ghost use Rattle.control_heap_c.specs.Groups.{group_in};
-ghost use Rattle.control_heap_c.specs.Shared.{IsUnchanged};
 ghost use Rattle.control_heap_c.specs.declared.shared.closing.ReturnRefusal.TheVariants as returning;
 
 use crate::handle::Handle;
@@ -60,8 +59,9 @@ fn taken(alloc: Global, group: &mut Handle, owned: Owned) -> Result<(), (Owned, 
     ensures done { OnOk result (HasTakenFrom group.old.link.value (Some owned)
         group.new.link.value) }
     ensures refused { IfErr result (λ e. IsNotReturned group.old.link.value (Some owned) e.1) }
-    ensures same { OnErr result (IsSameGroup group.old.link.value group.new.link.value) }
-    ensures unchanged { IfErr result (λ e. IsUnchanged (Some owned) (Some e.0)) }
+    ensures left { IfErr result (λ e. IsGroupLeft e.1 group.old.link.value
+        group.new.link.value) }
+    ensures unchanged { IfErr result (λ e. e.0 ≡ owned) }
 {
     match owned {
         Owned::Resting(at) => match entered(alloc, group, at) {
@@ -79,8 +79,9 @@ fn entered(alloc: Global, group: &mut Handle, at: Resting) -> Result<(), (Restin
     ensures done { OnOk result (HasTaken group.old.link.value at.worker group.new.link.value) }
     ensures refused { IfErr result (λ e.
         IsNotReturned group.old.link.value (Some (owned.Resting at)) e.1) }
-    ensures same { OnErr result (IsSameGroup group.old.link.value group.new.link.value) }
-    ensures unchanged { IfErr result (λ e. e.0.worker ≡ at.worker) }
+    ensures left { IfErr result (λ e. IsGroupLeft e.1 group.old.link.value
+        group.new.link.value) }
+    ensures unchanged { IfErr result (λ e. e.0 ≡ at) }
 {
     match replace(group, Handle::closed(alloc)).into_box() {
         None => Err((at, ReturnRefusal::NoGroup)),
@@ -98,8 +99,8 @@ fn added(before: Owned, at: Resting) -> (Owned, Result<(), (Resting, ReturnRefus
     requires { IsOfGroup (Some before) (Some (owned.Resting at)) }
     ensures done { OnOk result.1 (HasTaken (Some before) at.worker (Some result.0)) }
     ensures refused { IfErr result.1 (λ e. IsNotReturned (Some before) (Some (owned.Resting at)) e.1) }
-    ensures same { OnErr result.1 (IsSameGroup (Some before) (Some result.0)) }
-    ensures unchanged { IfErr result.1 (λ e. e.0.worker ≡ at.worker) }
+    ensures left { IfErr result.1 (λ e. IsGroupLeft e.1 (Some before) (Some result.0)) }
+    ensures unchanged { IfErr result.1 (λ e. e.0 ≡ at) }
 {
     match before {
         Owned::Group(group) => {
@@ -115,7 +116,7 @@ fn grown(group: Group, at: Resting) -> (Group, Result<(), (Resting, ReturnRefusa
     ensures heap { arc_value result.0.heap ≡ arc_value group.heap }
     ensures done { OnOk result.1 (result.0.workers.items ≡ group.workers.items ++ at.worker ∷ []) }
     ensures same { OnErr result.1 (result.0.workers.items ≡ group.workers.items) }
-    ensures refused { IfErr result.1 (λ e. (e.0.worker ≡ at.worker) × (e.1 ≡ returning.NoMemory)) }
+    ensures refused { IfErr result.1 (λ e. (e.0 ≡ at) × (e.1 ≡ returning.NoMemory)) }
 {
     let Group { heap, workers } = group;
     let Resting { heap: own, worker } = at;
@@ -166,8 +167,7 @@ pub fn finish(alloc: Global, group: &mut Handle) -> Result<u64, FinishRefusal>
 
 fn finished(owned: Owned) -> Result<u64, (Owned, FinishRefusal)>
     ensures done { IfOk result (λ cycles. WasFinished (group_in (Some owned)) cycles) }
-    ensures refused { IfErr result (λ e. IsNotFinished (Some owned) e.1
-        × IsSameGroup (Some owned) (Some e.0)) }
+    ensures refused { IfErr result (λ e. IsNotFinished (Some owned) e.1 × (e.0 ≡ owned)) }
 {
     match owned {
         Owned::Group(group) => match closed(group) {
@@ -181,12 +181,12 @@ fn finished(owned: Owned) -> Result<u64, (Owned, FinishRefusal)>
 fn closed(group: Group) -> Result<u64, (Group, FinishRefusal)>
     ensures done { IfOk result (λ cycles. WasFinished (Some group) cycles) }
     ensures refused { IfErr result (λ e. IsNotFinished (Some (owned.Group group)) e.1
-        × IsSameGroup (Some (owned.Group group)) (Some (owned.Group e.0))) }
+        × (e.0 ≡ group)) }
 {
-    let Group { heap, workers } = group;
-    if workers.is_empty() {
-        return Err((Group { heap, workers }, FinishRefusal::NoWorker));
+    if group.workers.is_empty() {
+        return Err((group, FinishRefusal::NoWorker));
     }
+    let Group { heap, workers } = group;
     match Arc::try_unwrap(heap) {
         Ok(heap) => Ok(heap.close_some(workers)),
         Err(heap) => Err((Group { heap, workers }, FinishRefusal::InUse)),

@@ -1,6 +1,6 @@
 //! The workers of a shared heap that have no handle yet.
 
-ghost use Rattle.std.specs.Prelude.{◌≡◌, ◌<◌, ℕ, Some, false, length, slice_index_or, IfOk, IfErr, ◌∷◌, is_some};
+ghost use Rattle.std.specs.Prelude.{◌≡◌, ◌<◌, ℕ, Some, false, length, slice_index_or, IfOk, IfErr, OnErr, ◌∷◌, is_some};
 ghost use Rattle.shared_heap.specs.Refusals.{IsOpenFault};
 ghost use Rattle.shared_heap.specs.Workers.{WorkerState};
 ghost use Rattle.control_heap_c.specs.declared.owned.Owned.TheVariants as owned;
@@ -116,8 +116,8 @@ pub fn attach(alloc: Global, group: &mut Handle, worker: &mut Handle) -> Result<
 fn attached(alloc: Global, group: &mut Handle, is_open: bool) -> Result<Box<Owned>, AttachRefusal>
     ensures first { IfOk result (λ b. HasHanded group.old.link.value is_open b.value
         group.new.link.value) }
-    ensures refused { IfErr result (λ e. IsNotAttached group.old.link.value is_open e
-        group.new.link.value) }
+    ensures refused { IfErr result (IsNotAttached group.old.link.value is_open) }
+    ensures unchanged { OnErr result (group.new.link.value ≡ group.old.link.value) }
 {
     match replace(group, Handle::closed(alloc)).into_box() {
         None => Err(AttachRefusal::NoGroup),
@@ -134,7 +134,8 @@ fn attached(alloc: Global, group: &mut Handle, is_open: bool) -> Result<Box<Owne
 
 fn handed(alloc: Global, owned: Owned, is_open: bool) -> (Owned, Result<Box<Owned>, AttachRefusal>)
     ensures first { IfOk result.1 (λ b. HasHanded (Some owned) is_open b.value (Some result.0)) }
-    ensures refused { IfErr result.1 (λ e. IsNotAttached (Some owned) is_open e (Some result.0)) }
+    ensures refused { IfErr result.1 (IsNotAttached (Some owned) is_open) }
+    ensures unchanged { OnErr result.1 (result.0 ≡ owned) }
 {
     match owned {
         Owned::Group(group) => {
@@ -151,16 +152,16 @@ fn handed(alloc: Global, owned: Owned, is_open: bool) -> (Owned, Result<Box<Owne
 fn split(alloc: Global, group: Group) -> (Group, Result<Box<Owned>, AttachRefusal>)
     ensures first { IfOk result.1 (λ b. HasHanded (Some (owned.Group group)) false b.value
         (Some (owned.Group result.0))) }
-    ensures refused { IfErr result.1 (λ e. IsNotAttached (Some (owned.Group group)) false e
-        (Some (owned.Group result.0))) }
+    ensures refused { IfErr result.1 (IsNotAttached (Some (owned.Group group)) false) }
+    ensures unchanged { OnErr result.1 (result.0 ≡ group) }
 {
-    let Group { heap, workers } = group;
-    if workers.is_empty() {
-        return (Group { heap, workers }, Err(AttachRefusal::NoWorker));
+    if group.workers.is_empty() {
+        return (group, Err(AttachRefusal::NoWorker));
     }
-    let (Ok(copy), Ok(place)) = (Arc::try_clone(&heap), Box::new(alloc, Owned::Moved)) else {
-        return (Group { heap, workers }, Err(AttachRefusal::NoMemory));
+    let (Ok(copy), Ok(place)) = (Arc::try_clone(&group.heap), Box::new(alloc, Owned::Moved)) else {
+        return (group, Err(AttachRefusal::NoMemory));
     };
+    let Group { heap, workers } = group;
     let mut place = place;
     let (worker, rest) = first_and_rest(workers);
     Box::replace(&mut place, Owned::Resting(Resting { heap: copy, worker }));

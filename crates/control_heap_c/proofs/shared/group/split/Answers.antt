@@ -11,8 +11,8 @@ invariant_of-replace c = record {
   own = first_of _ _ _ _ c.first_and_rest-worker.ensures c.args.group.own ∙ ap (λ (h : HeapState). h.id) (sym c.in-Ok-Ok.ensures);
 }
 
-pub invariant_of-result-2 : goal.invariant_of-result-2
-invariant_of-result-2 c = record { own = others_of _ _ _ _ c.first_and_rest-worker.ensures c.args.group.own }
+pub invariant_of-result : goal.invariant_of-result
+invariant_of-result c = record { own = others_of _ _ _ _ c.first_and_rest-worker.ensures c.args.group.own }
 
 pub returns-clause-first : goal.returns-clause-first
 returns-clause-first c = record {
