@@ -6,6 +6,7 @@ use Rattle.control_heap_c.proofs.Handing.{same_resting}
 use Rattle.control_heap_c.proofs.shared.worker.begun.Goals as goal
 
 pub returns-in-Err : goal.returns-in-Err
-returns-in-Err c =
-    ((c.args.at.worker, c.args.command, refl, refl, c.in-Err.ensures.refused),
-    ap (λ (r : Resting). Some (owned.Resting r)) (same_resting c.args.at _ _ c.in-Err.ensures.unchanged))
+returns-in-Err c = (
+  (c.args.at.worker, c.args.command, refl, refl, c.in-Err.ensures.refused),
+  ap (λ (r : Resting). Some (owned.Resting r)) (same_resting c.args.at _ _ c.in-Err.ensures.unchanged),
+)
