@@ -21,7 +21,7 @@ use Rattle.plantrun_core.specs.declared.calls.Logs.{Logs}
 use Rattle.plantrun_core.specs.declared.hand.Hand.{Hand}
 use Rattle.plantrun_core.specs.PlantWorkers.{HasPlant, IsPlantOf}
 use Rattle.plantrun_core.specs.Logs.{AllStamped, BeganAfter, IsLog, answer_of, call_by, operation_of}
-use Rattle.plantrun_core.specs.PlantOrders.{ActsOnLast, ComeBefore, IsPlainOrder, KeepsStamps, log_of}
+use Rattle.plantrun_core.specs.PlantOrders.{ActsOnLast, IsPlainOrder, KeepsStamps, log_of}
 use Rattle.plantrun_core.specs.Works.{HasActedAfter}
 
 calls_mine : (t : ℕ) (x : Call Operation Tag) (m : List (Call Operation Tag)) → x.thread ≡ t

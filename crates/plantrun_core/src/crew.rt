@@ -4,7 +4,7 @@
 ghost use Rattle.std.specs.Prelude.{ℕ, List, Option, ◌≡◌, ◌+◌, ◌≤◌, ◌∷◌, [], length, IfSome};
 ghost use Rattle.std.specs.Vec.{vec_capacity};
 ghost use Rattle.live_tables.specs.tags.Live.{HaveOneTable, opened_config};
-ghost use Rattle.live_tables.specs.rows.Workers.{AreFresh, AreInOrder, IsFresh, IsOf, IsSameWorker};
+ghost use Rattle.live_tables.specs.rows.Workers.{AreFresh, AreInOrder, IsFresh, IsSameWorker};
 ghost use Rattle.plantrun_core.specs.PlantWorkers.{AreAtWork, AreOfTable, AreTheirs, HaveEnded, HaveGone, IsCrew, IsGone, IsHandAt, IsNew, IsPlantOf, IsWorker, logs_of};
 ghost use Rattle.plantrun_core.specs.Logs.{IsHandOf};
 ghost use Rattle.plantrun_core.specs.Readings.{room};

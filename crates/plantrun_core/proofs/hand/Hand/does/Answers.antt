@@ -1,4 +1,4 @@
-use Rattle.std.proofs.Common.{◌≡◌, ◌++◌, ◌∷◌, [], sym, subst, ap, ◌∙◌}
+use Rattle.std.proofs.Common.{sym, subst}
 use Rattle.array_tables.specs.tag_table.Tables.{IsOperationInRange}
 use Rattle.plantrun_core.specs.Logs.{IsLog}
 use Rattle.plantrun_core.proofs.WorkerLogs.{has_life, log_more, places_in, plant_same, went_on}
