@@ -1,5 +1,7 @@
-use Rattle.std.proofs.Common.{◌≤◌, ◌^◌, ◌+◌, arith, length, refl}
+use Rattle.std.proofs.Common.{◌≤◌, ◌^◌, ◌+◌, arith, length, refl, subst, sym}
+use Rattle.live_tables.specs.rows.Workers.{IsSameWorker}
 use Rattle.live_tables.proofs.rows.Crews.{same_then}
+use Rattle.plantrun_core.specs.Logs.{HasGoneOn}
 use Rattle.plantrun_core.specs.Roles.{closed}
 use Rattle.plantrun_core.specs.Works.{most_in}
 use Rattle.plantrun_core.proofs.LogOfTicks.{acted_after, tick_more, whole_few, whole_log, whole_short}
@@ -28,7 +30,8 @@ control-requires-clause-room g c =
 pub returns-clause-same : goal.returns-clause-same
 returns-clause-same g c =
     let w = c.args.work.hand.who in
-    same_then w c.learn.new.who c.control.new.hand.who (learned_same w c.args.note.seen)
+    same_then w c.learn.new.who c.control.new.hand.who
+    (subst (IsSameWorker w) (sym c.learn.ensures) (learned_same w c.args.note.seen))
     c.control.ensures.same
 
 pub returns-clause-worked : goal.returns-clause-worked
@@ -41,9 +44,13 @@ returns-clause-worked g c =
 
 pub returns-clause-last : goal.returns-clause-last
 returns-clause-last g c =
-    let w = c.args.work.hand in
-    acted_after c.args.note.seen c.args.count c.in-Control.before c.control.result w.calls.items
-    c.control.new.hand c.control.ensures.did
-    (began_after c.args.note.seen w.who c.control.new.hand.who _ c.requires.own.log.operations
-    (same_then w.who c.learn.new.who c.control.new.hand.who (learned_same w.who c.args.note.seen) c.control.ensures.same)
-    c.control.ensures.on)
+    let h = c.args.work.hand in
+    let new = c.control.new.hand in
+    let seen = c.args.note.seen in
+    let same : IsSameWorker h.who new.who = same_then h.who c.learn.new.who new.who
+    (subst (IsSameWorker h.who) (sym c.learn.ensures) (learned_same h.who seen))
+    c.control.ensures.same in
+    acted_after seen c.args.count c.in-Control.before c.control.result h.calls.items new
+    c.control.ensures.did
+    (began_after seen h.who new.who _ c.requires.own.log.operations same
+    (subst (λ w. HasGoneOn w new.who) c.learn.ensures c.control.ensures.on))
