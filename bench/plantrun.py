@@ -3,9 +3,13 @@
     plantrun.py make SEED TICKS            prints readings
     plantrun.py judge TICKS READINGS TOLD  prints figures, or the first line that is wrong (status 1)
 
-The judge is a plain table of 48 tags and four small programs, one for each thread. Each line has to
-be what its thread does next by the lines before it, and its answer what the table has.
+The judge is four small programs, one for each thread: each line has to be what its thread does next
+by what it was answered before. Lines are in the order of stamps, which threads draw when an
+operation has returned. So an operation took effect at a moment between the line of its thread
+before and its own, and its answer has to be what the tag was at such a moment. A tag is changed by
+one thread alone, so it is enough to look at each tag by itself.
 """
+import bisect
 import sys
 
 PLACES, SENSORS, SET_POINT, ACKNOWLEDGED, OUTPUT, LISTED, KEPT, RING = 48, 4, 4, 5, 9, 10, 14, 32
@@ -66,9 +70,9 @@ def input_thread(readings, counts):
 
 
 def control_thread(ticks, counts):
-    """At each tick reads the sensor and the set point, and writes the output."""
+    """At each tick reads the sensor and the set point, and writes the output; and once at the end."""
     integral = output = 0
-    for tick in range(ticks):
+    for tick in range(ticks + 1):
         operation, answer = yield
         wants(("read", 0), operation)
         measured = good_value(answer)
@@ -154,8 +158,49 @@ def parsed(line):
     return thread, (kind, *numbers), answer
 
 
-def judge(ticks, readings, told):
-    """Reads the lines told one after the other, and prints figures."""
+class Tag:
+    """A tag that one thread changes and others read: its values, each with the lines between which it
+    was written, and how many values there had been, at least, at each read."""
+
+    def __init__(self):
+        self.values, self.begun, self.done = [None], [-1], [-1]
+        self.read_at, self.seen = [-1], [0]
+
+    def write(self, begun, done, value):
+        self.values.append(value)
+        self.begun.append(begun)
+        self.done.append(done)
+
+    def is_answer(self, begun, done, answer):
+        """Whether a read between these lines may have this answer. Notes the earliest value."""
+        least = max(
+            bisect.bisect_right(self.done, begun) - 1,
+            self.seen[bisect.bisect_right(self.read_at, begun) - 1],
+        )
+        for number in range(least, bisect.bisect_left(self.begun, done)):
+            if self.values[number] == answer:
+                self.read_at.append(done)
+                self.seen.append(max(number, self.seen[-1]))
+                return True
+        return False
+
+
+def written_tags(lines):
+    """The tags of the input, by its lines."""
+    tags = [Tag() for _ in range(OUTPUT)]
+    before = 0
+    for number, line in enumerate(lines, 1):
+        if line.startswith("input write ") and " was " in line:
+            _, operation, _ = parsed(line)
+            if operation[1] >= OUTPUT:
+                raise Wrong("this tag is not the input's")
+            tags[operation[1]].write(before, number, operation[2:])
+            before = number
+    return tags
+
+
+def judge(ticks, readings, lines):
+    """Reads the lines one after the other, twice, and prints figures."""
     counts = dict.fromkeys(
         ["readings", "outputs", "raised", "acknowledged", "cleared", "kept"], 0
     )
@@ -181,9 +226,12 @@ def judge(ticks, readings, told):
 
     for name in threads:
         go_on(name, None)
-    table = [None] * PLACES
+    tags = written_tags(lines())
+    own = [None] * PLACES
+    begun = dict.fromkeys(threads, 0)
     operations = 0
-    for line in told:
+    told = lines()
+    for number, line in enumerate(told, 1):
         if " was " not in line:
             last = line
             break
@@ -191,12 +239,16 @@ def judge(ticks, readings, told):
         if name in ended or name not in threads:
             raise Wrong("this thread does no more")
         place = operation[1]
-        if answer != table[place]:
-            raise Wrong(f"the tag was {table[place]}")
+        if name == "input" or place >= OUTPUT:
+            if answer != own[place]:
+                raise Wrong(f"the tag was {own[place]}")
+        elif not tags[place].is_answer(begun[name], number, answer):
+            raise Wrong("the tag was never so meanwhile")
         if operation[0] == "write":
-            table[place] = operation[2:]
+            own[place] = operation[2:]
         elif operation[0] == "clear":
-            table[place] = None
+            own[place] = None
+        begun[name] = number
         go_on(name, (operation, answer))
         operations += 1
     else:
@@ -234,6 +286,7 @@ def main():
 
     def lines():
         nonlocal number
+        number = 0
         for line in open(words[2], encoding="ascii"):
             number += 1
             if not line.endswith("\n"):
@@ -241,7 +294,7 @@ def main():
             yield line[:-1]
 
     try:
-        judge(ticks, readings, lines())
+        judge(ticks, readings, lines)
     except (Wrong, ValueError) as wrong:
         print(f"line {number}: {wrong}")
         return 1

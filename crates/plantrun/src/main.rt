@@ -1,5 +1,5 @@
 //! Runs a plant: readings from standard input, a controller, an alarm list and a history, in four
-//! threads on one garbage-collected heap. Writes what they did in one order.
+//! threads on one garbage-collected heap. Writes what they did in real time.
 #![tactic(auto)]
 
 mod help;

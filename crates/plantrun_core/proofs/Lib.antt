@@ -1,8 +1,6 @@
 pub mod WorkersApart
-pub mod MergedOrders
+pub mod OrderOfLogs
 pub mod Lines
 pub mod LogOfTicks
-pub mod OwnPlaces
-pub mod Ranges
-pub mod Fits
+pub mod WorkerLogs
 pub mod EndOfPlant

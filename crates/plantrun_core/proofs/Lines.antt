@@ -16,10 +16,9 @@ use Rattle.plantrun_core.specs.declared.readings.Reading.{Reading}
 use Rattle.plantrun_core.specs.declared.stops.Stop.{Stop}
 use Rattle.plantrun_core.specs.declared.stops.Stop.TheVariants as stops
 use Rattle.plantrun_core.specs.Logs.{operation_of}
-use Rattle.plantrun_core.specs.Readings.{AreDue, CountsNext, HasTooMany, IsNext, IsPastEnd, IsTaken, Spells, SpellsNone, puts, reading_at, room, spelled_at}
+use Rattle.plantrun_core.specs.Readings.{AreDue, CountsNext, HasTooMany, IsNext, IsPastEnd, IsStop, IsTaken, Spells, SpellsNone, puts, reading_at, room, spelled_at}
 use Rattle.plantrun_core.specs.Roles.{word}
-use Rattle.plantrun_core.specs.Refusals.{IsRefusedAfter}
-use Rattle.plantrun_core.specs.Works.{CountsInput, HasInput, IsInputEnd}
+use Rattle.plantrun_core.specs.Works.{CountsInput, HasInput}
 
 reading_long : (line : List ℕ) → 40 ≤ length line → reading_at line ≡ None
 reading_long line long = ap (λ b. cond b (spelled_at line) None) (le-ltb (length line) 40 long)
@@ -136,19 +135,17 @@ read_many ticks (Some bytes) left new rs r number full read next =
 
 -- the next line spells none, or the source failed in it
 pub read_stop : (ticks : ℕ) (all left new : Option (List ℕ)) (rs : List Reading) (number : ℕ)
-    (stop : Stop) (hand : Hand) (a b : ℕ) → length rs ≤ room ticks → number ≡ length rs + 1
+    (stop : Stop) (a b : ℕ) → length rs ≤ room ticks → number ≡ length rs + 1
     → CountsNext a b (Err stop) → IfSome all (λ bytes. IsReadTo ticks bytes rs left)
     → IfSome left (λ bytes. IsNext ticks bytes new number (Err stop))
-    → IsInputEnd ticks all new hand rs (Some stop)
-read_stop ticks all left new rs number stops.TooMany hand a b few same counts read next =
+    → IsStop ticks all new stop
+read_stop ticks all left new rs number stops.TooMany a b few same counts read next =
     absurd counts
-read_stop ticks all left new rs number stops.Refused hand a b few same counts read next =
+read_stop ticks all left new rs number stops.NoMemory a b few same counts read next =
     absurd counts
-read_stop ticks all left new rs number stops.NoMemory hand a b few same counts read next =
-    absurd counts
-read_stop ticks None left new rs number (stops.BadLine k) hand a b few same counts read next = tt
-read_stop ticks None left new rs number stops.ReadFault hand a b few same counts read next = tt
-read_stop ticks (Some bytes) left new rs number (stops.BadLine k) hand a b few same counts read
+read_stop ticks None left new rs number (stops.BadLine k) a b few same counts read next = tt
+read_stop ticks None left new rs number stops.ReadFault a b few same counts read next = tt
+read_stop ticks (Some bytes) left new rs number (stops.BadLine k) a b few same counts read
     next =
     let by : (k ≡ number) × SpellsNone read.rest =
     subst (λ o. IfSome o (λ b. (k ≡ number) × SpellsNone b)) read.now next in
@@ -163,7 +160,7 @@ read_stop ticks (Some bytes) left new rs number (stops.BadLine k) hand a b few s
       none = by.1.spelled;
       number = by.0 ∙ same;
     }
-read_stop ticks (Some bytes) left new rs number stops.ReadFault hand a b few same counts read
+read_stop ticks (Some bytes) left new rs number stops.ReadFault a b few same counts read
     next = record {
       rs = rs;
       done = read.done;
@@ -179,7 +176,6 @@ pub counts_input : (first a b : ℕ) (stop : Stop) → a ≡ first → CountsNex
 counts_input first a b (stops.BadLine k) same counts = counts ∙ same
 counts_input first a b stops.ReadFault same counts = subst (λ x. Rose x b) same counts
 counts_input first a b stops.TooMany same counts = absurd counts
-counts_input first a b stops.Refused same counts = absurd counts
 counts_input first a b stops.NoMemory same counts = absurd counts
 
 -- ---- the loop over the lines
@@ -229,7 +225,7 @@ input_stop ticks n all left new hand stop a b few read counts next = record {
   readings = read.0;
   tags = read.1;
   log = read.3;
-  end = read_stop ticks all left new read.0 (n + 1) stop hand a b (omega (arith, read.2))
+  end = read_stop ticks all left new read.0 (n + 1) stop a b (omega (arith, read.2))
       (ap (λ k. k + 1) (sym read.2)) counts read.4 next;
 }
 
@@ -253,14 +249,4 @@ input_many ticks n all left new hand r full read next = record {
   tags = read.1;
   log = read.3;
   end = read_many ticks all left new read.0 r (n + 1) (read.2 ∙ full) read.4 next;
-}
-
-pub input_refused : (ticks n : ℕ) (all left new : Option (List ℕ)) (old : List Done) (hand : Hand)
-    → hand.calls.items ≡ old → HasRead ticks all left n (map operation_of old)
-    → IsRefusedAfter hand.who hand.calls.items → HasInput ticks all new hand (Some stops.Refused)
-input_refused ticks n all left new old hand same read refused = record {
-  readings = read.0;
-  tags = read.1;
-  log = ap (map operation_of) same ∙ read.3;
-  end = refused;
 }

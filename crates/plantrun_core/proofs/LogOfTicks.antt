@@ -1,33 +1,63 @@
--- The log of a role after its ticks: how long it is, and that its operations are at home.
-use Rattle.std.proofs.Common.{◌≡◌, ℕ, zero, suc, ◌+◌, ◌*◌, ◌/◌, ◌%◌, ◌<◌, ◌≤◌, ◌==◌, Bool, true, false, inl, inr, List, [], ◌∷◌, ◌++◌, length, length-append, Option, Some, None, Result, Ok, Err, IfOk, OnOk, sym, refl, ap, ◌∙◌, subst, eq-eqb, ne_eqb, arith}
+-- The log of a role after its ticks, and how long it is.
+use Rattle.std.proofs.Common.{◌≡◌, ℕ, zero, suc, ◌+◌, ◌*◌, ◌/◌, ◌%◌, ◌<◌, ◌≤◌, ◌^◌, ◌==◌, Bool, true, false, inl, inr, List, [], ◌∷◌, ◌++◌, length, length-append, map, append_assoc, Option, Some, None, sym, refl, ap, ◌∙◌, subst, eq-eqb, ne_eqb, arith}
 use Rattle.std.proofs.Math.Numerals.{add-one}
 use Rattle.std.proofs.lemmas.Bool.{cases_eq}
-use Rattle.std.specs.Result.{is_err}
 use Rattle.std.specs.Vec.{vec_capacity}
+use Rattle.never_heap.specs.Histories.{HistoryItem}
 use Rattle.live_tables.specs.rows.Workers.{IsSameWorker}
 use Rattle.live_tables.proofs.rows.Crews.{same_first, same_then}
 use Rattle.array_tables.specs.tag_table.Tables.{Tag}
 use Rattle.array_tables.specs.declared.tag_table.operation.Operation.{Operation}
-use Rattle.array_tables.specs.declared.tag_table.operation.Operation.TheVariants.{Read}
+use Rattle.array_tables.specs.declared.tag_table.operation.Operation.TheVariants.{Read, Write}
 use Rattle.plantrun_core.specs.declared.alarms.Limits.{Limits}
 use Rattle.plantrun_core.specs.declared.calls.Done.{Done}
+use Rattle.plantrun_core.specs.declared.hand.Hand.{Hand}
+use Rattle.plantrun_core.specs.declared.law.Loop.{Loop}
 use Rattle.plantrun_core.specs.declared.roles.Role.{Role}
 use Rattle.plantrun_core.specs.declared.roles.Role.TheVariants.{Control, Alarms, History}
 use Rattle.plantrun_core.specs.declared.work.Work.{Work}
 use Rattle.plantrun_core.specs.Alarms.{act_of, move_of}
-use Rattle.plantrun_core.specs.Roles.{AfterTicks, HasStored, HasRecorded, HasReread, HasScanned, HasScannedTo, HasTicked, HasWatched, IsFine, acted, did, limits_of, put_in_ring}
-use Rattle.plantrun_core.specs.Refusals.{IsRefusedAfter}
-use Rattle.plantrun_core.specs.Works.{HasGone, IsAtWork, at_scan, first_of, most_at, most_in}
+use Rattle.plantrun_core.specs.Roles.{AfterTicks, HasControlled, HasStored, HasRecorded, HasReread, HasScanned, HasScannedTo, HasTicked, HasWatched, IsFine, acted, are_there, closed, did, limits_of, put_in_ring, word}
+use Rattle.plantrun_core.specs.Laws.{loop_after, value_of}
+use Rattle.plantrun_core.specs.Logs.{BeganAfter, HasLogged, operation_of}
+use Rattle.plantrun_core.specs.Works.{HasActedAfter, HasControlledAll, HasGone, IsAtWork, at_scan, first_of, most_at, most_in}
 
 pub scanned_more : (i : ℕ) (old mid new : List Done) → HasScannedTo i old mid
     → HasScanned (limits_of i) i mid new → HasScannedTo (i + 1) old new
 scanned_more i old mid new so_far here =
     subst (λ (k : ℕ). HasScannedTo k old new) (sym (add-one i)) (mid, so_far, here)
 
-pub reread_more : (k : ℕ) (old mid new : List Done) (tag : Tag) → HasReread k old mid
-    → new ≡ mid ++ did (Read (14 + k)) tag ∷ [] → HasReread (k + 1) old new
+pub three_more : {X : Type 0} (old a b new : List X) (x y z : X) → a ≡ old ++ x ∷ []
+    → b ≡ a ++ y ∷ [] → new ≡ b ++ z ∷ [] → new ≡ old ++ x ∷ y ∷ z ∷ []
+three_more {X} old a b new x y z first second third =
+    third ∙ ap (λ (l : List X). l ++ z ∷ []) (second ∙ ap (λ (l : List X). l ++ y ∷ []) first)
+    ∙ append_assoc (old ++ x ∷ []) (y ∷ []) (z ∷ []) ∙ append_assoc old (x ∷ []) (y ∷ z ∷ [])
+
+-- the controller read both tags, and wrote its output with this quality
+pub controlled : (before after : Loop) (tick q : ℕ) (old a b new : List Done)
+    (measured set replaced : Tag) → after ≡ loop_after before (value_of measured) (value_of set)
+    → q ≡ word tick (are_there (value_of measured) (value_of set))
+    → HasLogged (Read 0) measured old a → HasLogged (Read 4) set a b
+    → HasLogged (Write 9 after.output q) replaced b new → HasControlled before tick old new after
+controlled before after tick q old a b new measured set replaced law quality first second third =
+    record {
+      measured = measured;
+      set = set;
+      replaced = replaced;
+      first = first.0;
+      second = second.0;
+      third = third.0;
+      law = law;
+      log = subst (λ (n : ℕ). new ≡ old ++ did (Read 0) measured first.0 ∷ did (Read 4) set second.0 ∷ did (Write 9 after.output n) replaced third.0 ∷ [])
+          quality
+          (three_more old a b new (did (Read 0) measured first.0) (did (Read 4) set second.0)
+          (did (Write 9 after.output q) replaced third.0) first.1 second.1 third.1);
+    }
+
+reread_more : (k : ℕ) (old mid new : List Done) (tag : Tag) → HasReread k old mid
+    → HasLogged (Read (14 + k)) tag mid new → HasReread (k + 1) old new
 reread_more k old mid new tag so_far more =
-    subst (λ (n : ℕ). HasReread n old new) (sym (add-one k)) (mid, tag, so_far, more)
+    subst (λ (n : ℕ). HasReread n old new) (sym (add-one k)) (mid, tag, more.0, so_far, more.1)
 
 ticked_more : (first : Role) (n : ℕ) (old new : List Done) (before after : Role)
     → AfterTicks first n old before → HasTicked before n old new after
@@ -43,13 +73,14 @@ kind_kept History after n old new h = ap first_of h.1
 
 -- ---- how long it is
 
-acted_short : (o : Option Operation) (tag : Tag) → length (acted o tag) ≤ 1
-acted_short None tag = omega arith
-acted_short (Some op) tag = omega arith
+acted_short : (o : Option Operation) (tag : Tag) (stamp : ℕ) → length (acted o tag stamp) ≤ 1
+acted_short None tag stamp = omega arith
+acted_short (Some op) tag stamp = omega arith
 
-put_short : (n : ℕ) (measured tag : Tag) → length (put_in_ring n measured tag) ≤ 1
-put_short n None tag = omega arith
-put_short n (Some p) tag = omega arith
+put_short : (n : ℕ) (measured tag : Tag) (stamp : ℕ)
+    → length (put_in_ring n measured tag stamp) ≤ 1
+put_short n None tag stamp = omega arith
+put_short n (Some p) tag stamp = omega arith
 
 -- a list that ends in these
 length_ends : (old end new : List Done) → new ≡ old ++ end → length new ≡ length old + length end
@@ -58,10 +89,12 @@ length_ends old end new e = ap length e ∙ length-append old end
 pub scanned_length : (l : Limits) (i : ℕ) (old new : List Done) → HasScanned l i old new
     → length new ≤ length old + 4
 scanned_length l i old new h =
-    let act = acted_short (act_of (move_of l h.kept h.measured h.told) i h.told) h.replaced in
-    let e = length_ends old (did (Read (10 + i)) h.kept ∷ did (Read i) h.measured
-    ∷ did (Read (5 + i)) h.told
-    ∷ acted (act_of (move_of l h.kept h.measured h.told) i h.told) h.replaced) new h.log in
+    let act = acted_short (act_of (move_of l h.kept h.measured h.told) i h.told) h.replaced
+    h.fourth in
+    let e = length_ends old (did (Read (10 + i)) h.kept h.first ∷ did (Read i) h.measured h.second
+    ∷ did (Read (5 + i)) h.told h.third
+    ∷ acted (act_of (move_of l h.kept h.measured h.told) i h.told) h.replaced h.fourth) new
+    h.log in
     omega (arith, act, e)
 
 pub scanned_to_length : (i : ℕ) (old new : List Done) → HasScannedTo i old new
@@ -74,9 +107,9 @@ scanned_to_length (suc i) old new h =
 
 kept_length : (n : ℕ) (old new : List Done) → HasStored n old new → length new ≤ length old + 2
 kept_length n old new h =
-    let put = put_short n h.measured h.replaced in
-    let e = length_ends old (did (Read 0) h.measured ∷ put_in_ring n h.measured h.replaced) new
-    h.log in
+    let put = put_short n h.measured h.replaced h.second in
+    let e = length_ends old
+    (did (Read 0) h.measured h.first ∷ put_in_ring n h.measured h.replaced h.second) new h.log in
     omega (arith, put, e)
 
 watched_length : (b : Bool) (old new : List Done) → HasWatched b old new
@@ -132,32 +165,73 @@ log_length first (suc n) log role h =
     subst (λ (k : ℕ). length log ≤ most_in role k) (add-one n)
     (omega (arith, so_far, here, most, same))
 
--- the log of the history when it has done all its ticks
-pub kept_short : (count : ℕ) (w : Work) → IsAtWork count w → first_of w.role ≡ History
-    → (w.spent ≡ false → w.ticks ≡ count) → w.spent ≡ false
-    → length w.hand.calls.items ≤ most_in History count
-kept_short count w is hist whole fresh =
-    let so_far = log_length (first_of w.role) w.ticks w.hand.calls.items w.role (is.worked fresh) in
-    let same : most_in w.role w.ticks ≡ most_in History w.ticks =
-    most_first w.role w.ticks ∙ ap (λ (r : Role). most_in r w.ticks) hist in
-    subst (λ (n : ℕ). length w.hand.calls.items ≤ most_in History n) (whole fresh)
-    (subst (λ (n : ℕ). length w.hand.calls.items ≤ n) same so_far)
+-- how long a log is at most
+abbrev pub longest : ℕ
+longest = 16 * 1048576
 
--- what a call did that did not fail
-pub ok_of : {X E : Type 0} (r : Result X E) (b : Bool) (P : Type 0) → b ≡ false → b ≡ is_err r
-    → OnOk r P → P
-ok_of (Ok x) b P fine is h = h
-ok_of (Err e) b P fine is h = absurd (cc (fine, is))
+few_in : (r : Role) (n : ℕ) → n ≤ 1048576 → most_in r n + 32 ≤ longest
+few_in (Control l) n le = omega (arith, le)
+few_in Alarms n le = omega (arith, le)
+few_in History n le = omega (arith, le)
 
-pub reread_on : {E : Type 0} (k : ℕ) (old mid new : List Done) (r : Result Tag E) (b : Bool)
-    → b ≡ false → b ≡ is_err r
-    → IfOk r (λ tag. new ≡ mid ++ did (Read (14 + k)) tag ∷ []) → HasReread k old mid
-    → HasReread (k + 1) old new × (length new ≡ length mid + 1)
-reread_on k old mid new (Ok tag) b fine is h so_far = (
-  reread_more k old mid new tag so_far h,
-  ap length h ∙ length-append mid (did (Read (14 + k)) tag ∷ []),
+-- the log of a thread that has done all its ticks
+pub whole_log : (count : ℕ) (w : Work) (first : Role) → IsAtWork count w
+    → first_of w.role ≡ first → w.ticks ≡ count
+    → AfterTicks first count w.hand.calls.items w.role
+whole_log count w first is kind whole =
+    subst (λ (n : ℕ). AfterTicks first n w.hand.calls.items w.role) whole
+    (subst (λ (r : Role). AfterTicks r w.ticks w.hand.calls.items w.role) kind is.worked)
+
+pub whole_short : (count : ℕ) (w : Work) (first : Role) → IsAtWork count w
+    → first_of w.role ≡ first → w.ticks ≡ count
+    → length w.hand.calls.items ≤ most_in first count
+whole_short count w first is kind whole =
+    let most : most_in w.role count ≡ most_in first count =
+    most_first w.role count ∙ ap (λ (r : Role). most_in r count) kind in
+    subst (λ (n : ℕ). length w.hand.calls.items ≤ n) most
+    (log_length first count w.hand.calls.items w.role (whole_log count w first is kind whole))
+
+pub whole_few : (count : ℕ) (w : Work) (first : Role) → IsAtWork count w
+    → first_of w.role ≡ first → w.ticks ≡ count → count ≤ 1048576
+    → length w.hand.calls.items + 32 ≤ 2 ^ 24
+whole_few count w first is kind whole le =
+    omega (arith, whole_short count w first is kind whole, few_in first count le)
+
+-- the controller has done one tick more
+pub tick_more : (count : ℕ) (w : Work) (before after : Loop) (new : List Done)
+    → w.role ≡ Control before → AfterTicks closed count w.hand.calls.items w.role
+    → HasControlled before count w.hand.calls.items new after → HasControlledAll count new
+tick_more count w before after new is so_far here = (
+  Control after,
+  (
+    w.hand.calls.items,
+    Control before,
+    subst (AfterTicks closed count w.hand.calls.items) is so_far,
+    (after, here, refl),
+  ),
 )
-reread_on k old mid new (Err e) b fine is h so_far = absurd (cc (fine, is))
+
+-- and began that after all of this history
+pub acted_after : (seen : List HistoryItem) (tick : ℕ) (before after : Loop) (old : List Done)
+    (hand : Hand) → HasControlled before tick old hand.calls.items after
+    → BeganAfter seen (map operation_of old) hand.who → HasActedAfter seen hand
+acted_after seen tick before after old hand here began = record {
+  earlier = old;
+  tick = did (Read 0) here.measured here.first ∷ did (Read 4) here.set here.second
+      ∷ did (Write 9 after.output (word tick (are_there (value_of here.measured) (value_of here.set))))
+      here.replaced here.third ∷ [];
+  split = here.log;
+  three = refl;
+  began = began;
+}
+
+pub reread_on : (k : ℕ) (old mid new : List Done) (tag : Tag)
+    → HasLogged (Read (14 + k)) tag mid new → HasReread k old mid
+    → HasReread (k + 1) old new × (length new ≡ length mid + 1)
+reread_on k old mid new tag h so_far = (
+  reread_more k old mid new tag so_far h,
+  ap length h.1 ∙ length-append mid (did (Read (14 + k)) tag h.0 ∷ []),
+)
 
 -- ---- a thread goes on
 
@@ -175,20 +249,28 @@ gone_then count a b c f g = record {
 }
 
 -- there is room for what it does at its next tick
-pub room_next : (count : ℕ) (w : Work) → IsAtWork count w → w.spent ≡ false → w.ticks < count
+pub room_next : (count : ℕ) (w : Work) → IsAtWork count w → w.ticks < count
     → length w.hand.calls.items + most_at w.role w.ticks ≤ vec_capacity w.hand.calls
-room_next count w is fresh more =
-    let so_far = log_length (first_of w.role) w.ticks w.hand.calls.items w.role (is.worked fresh) in
+room_next count w is more =
+    let so_far = log_length (first_of w.role) w.ticks w.hand.calls.items w.role is.worked in
     let here = most_more w.role w.ticks in
     let rest = most_mono w.role (w.ticks + 1) count (omega arith) in
     omega (arith, so_far, here, rest, is.room)
 
-pub gone_on : (count : ℕ) (old new : Work) → IsAtWork count old → old.spent ≡ false
-    → old.ticks < count → IsSameWorker old.hand.who new.hand.who
+pub few_next : (count : ℕ) (w : Work) → IsAtWork count w → w.ticks < count → count ≤ 1048576
+    → length w.hand.calls.items + most_at w.role w.ticks ≤ 2 ^ 24
+few_next count w is more le =
+    let so_far = log_length (first_of w.role) w.ticks w.hand.calls.items w.role is.worked in
+    let here = most_more w.role w.ticks in
+    let few = few_in w.role (w.ticks + 1) (omega (arith, more, le)) in
+    omega (arith, so_far, here, few)
+
+pub gone_on : (count : ℕ) (old new : Work) → IsAtWork count old → old.ticks < count
+    → IsSameWorker old.hand.who new.hand.who
     → vec_capacity new.hand.calls ≡ vec_capacity old.hand.calls → IsFine new.role
     → HasTicked old.role old.ticks old.hand.calls.items new.hand.calls.items new.role
-    → new.ticks ≡ old.ticks + 1 → new.spent ≡ false → HasGone count old new
-gone_on count old new is fresh more same capacity fine here ticks spent = record {
+    → new.ticks ≡ old.ticks + 1 → HasGone count old new
+gone_on count old new is more same capacity fine here ticks = record {
   same = same;
   first = kind;
   capacity = capacity;
@@ -196,32 +278,13 @@ gone_on count old new is fresh more same capacity fine here ticks spent = record
     few = omega (arith, ticks);
     room = omega (arith, most_same new.role old.role count kind, is.room, capacity);
     fine = fine;
-    worked = λ _. subst (λ (k : ℕ). AfterTicks (first_of new.role) k new.hand.calls.items new.role)
+    worked = subst (λ (k : ℕ). AfterTicks (first_of new.role) k new.hand.calls.items new.role)
         (sym ticks)
         (subst (λ (r : Role). AfterTicks r (old.ticks + 1) new.hand.calls.items new.role) (sym kind)
         (ticked_more (first_of old.role) old.ticks old.hand.calls.items new.hand.calls.items old.role
-        new.role (is.worked fresh) here));
-    refused = λ yes. absurd (cc (yes, spent));
+        new.role is.worked here));
   };
 }
   where
     kind : first_of new.role ≡ first_of old.role
     kind = kind_kept old.role new.role old.ticks old.hand.calls.items new.hand.calls.items here
-
-pub gone_out : (count : ℕ) (old new : Work) → IsAtWork count old
-    → IsSameWorker old.hand.who new.hand.who
-    → vec_capacity new.hand.calls ≡ vec_capacity old.hand.calls → new.role ≡ old.role
-    → new.ticks ≡ old.ticks → new.spent ≡ true
-    → IsRefusedAfter new.hand.who new.hand.calls.items → HasGone count old new
-gone_out count old new is same capacity role ticks spent refused = record {
-  same = same;
-  first = ap first_of role;
-  capacity = capacity;
-  work = record {
-    few = omega (arith, ticks, is.few);
-    room = omega (arith, ap (λ (r : Role). most_in r count) role, is.room, capacity);
-    fine = subst IsFine (sym role) is.fine;
-    worked = λ no. absurd (cc (no, spent));
-    refused = λ _. refused;
-  };
-}

@@ -1,5 +1,5 @@
 -- When an alarm is raised, acknowledged and cleared, and what is done in the list then.
-use Rattle.std.specs.Prelude.{ℕ, ◌+◌, nat_le, nat_lt, ◌==◌, Bool, false, ◌&&◌, ◌||◌, if◌then◌else◌, Option, Some, None}
+use Rattle.std.specs.Prelude.{ℕ, ◌+◌, ◌-◌, ◌^◌, min, nat_le, nat_lt, ◌==◌, Bool, false, ◌&&◌, ◌||◌, if◌then◌else◌, Option, Some, None}
 use Rattle.array_tables.specs.tag_table.Tables.{Tag}
 use Rattle.array_tables.specs.declared.tag_table.operation.Operation.{Operation}
 use Rattle.array_tables.specs.declared.tag_table.operation.Operation.TheVariants.{Write, Clear}
@@ -24,9 +24,10 @@ leaves l tag = is_outside l (value_of tag)
 abbrev pub rests : Limits → Tag → Bool
 rests l tag = is_inside l (value_of tag)
 
+-- the word of a tag, where it is one that a table holds
 abbrev pub word_of : Tag → ℕ
 word_of None = 0
-word_of (Some (v, w)) = w
+word_of (Some (v, w)) = min w (2 ^ 62 - 1)
 
 abbrev pub raised : Bool → Move
 raised leaves = if leaves then moves.Raise else moves.Stay

@@ -5,24 +5,22 @@ use Rattle.trace_text.specs.Streams.{Appends, AppendsPrefix}
 use Rattle.plantrun_core.specs.declared.calls.Logs.{Logs}
 use Rattle.plantrun_core.specs.declared.plans.Plan.{Plan}
 use Rattle.plantrun_core.specs.declared.stops.Stop.{Stop}
-use Rattle.plantrun_core.specs.declared.stops.Stop.TheVariants.{BadLine, TooMany, ReadFault, Refused, NoMemory}
+use Rattle.plantrun_core.specs.declared.stops.Stop.TheVariants.{BadLine, TooMany, ReadFault, NoMemory}
 use Rattle.plantrun_core.specs.declared.top.Ended.{Ended}
-use Rattle.plantrun_core.specs.PlantWorkers.{HaveWorked, IsStop}
-use Rattle.plantrun_core.specs.Readings.{CountsRead, plan_at}
+use Rattle.plantrun_core.specs.PlantWorkers.{HaveWorked}
+use Rattle.plantrun_core.specs.Readings.{CountsRead, IsStop, plan_at}
 
 -- the exit status of each stop
 abbrev pub status_of : Stop → ℕ
 status_of (BadLine n) = 3
 status_of TooMany = 4
 status_of ReadFault = 5
-status_of Refused = 4
 status_of NoMemory = 7
 
 abbrev pub stop_text : Stop → List ℕ
 stop_text (BadLine n) = codes "line " ++ decimal n ++ codes ": no reading"
 stop_text TooMany = codes "too many readings"
 stop_text ReadFault = codes "read fault"
-stop_text Refused = codes "an operation was refused"
 stop_text NoMemory = codes "no memory"
 
 -- the line of a stop

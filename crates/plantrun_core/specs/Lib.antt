@@ -3,9 +3,8 @@ pub mod Alarms
 pub mod Logs
 pub mod Roles
 pub mod Readings
-pub mod Refusals
 pub mod Works
 pub mod PlantWorkers
-pub mod MergedLogs
+pub mod PlantOrders
 pub mod PlantTexts
 pub mod Exits

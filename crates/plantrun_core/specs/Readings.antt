@@ -1,5 +1,5 @@
 -- What two words spell, and what a line of the input does.
-use Rattle.std.specs.Prelude.{ℕ, ◌+◌, ◌*◌, ◌<◌, ◌≤◌, ◌≡◌, ◌^◌, ◌==◌, ◌&&◌, nat_lt, nat_le, if◌then◌else◌, List, [], ◌∷◌, ◌++◌, length, Option, Some, None, Result, Ok, Err}
+use Rattle.std.specs.Prelude.{ℕ, ◌+◌, ◌*◌, ◌<◌, ◌≤◌, ◌≡◌, ◌^◌, ◌==◌, ◌&&◌, nat_lt, nat_le, if◌then◌else◌, List, [], ◌∷◌, ◌++◌, length, Option, Some, None, IfSome, Result, Ok, Err}
 use Rattle.trace_text.specs.Faults.{Rose}
 use Rattle.trace_text.specs.Lines.{lines_of, tokens_of}
 use Rattle.trace_text.specs.Reading.{◌>>=◌, number_at, four_tokens_of}
@@ -8,7 +8,7 @@ use Rattle.array_tables.specs.declared.tag_table.operation.Operation.{Operation}
 use Rattle.array_tables.specs.declared.tag_table.operation.Operation.TheVariants.{Write}
 use Rattle.plantrun_core.specs.declared.readings.Reading.{Reading}
 use Rattle.plantrun_core.specs.declared.stops.Stop.{Stop}
-use Rattle.plantrun_core.specs.declared.stops.Stop.TheVariants.{BadLine, ReadFault}
+use Rattle.plantrun_core.specs.declared.stops.Stop.TheVariants.{BadLine, TooMany, ReadFault, NoMemory}
 use Rattle.plantrun_core.specs.declared.plans.Plan.{Plan}
 use Rattle.plantrun_core.specs.Roles.{word}
 
@@ -97,6 +97,14 @@ pub record FailsBehind (ticks : ℕ) (bytes : List ℕ) (left : Option (List ℕ
   pub due : AreDue ticks done rs
   pub few : length rs ≤ room ticks
   pub cut : IsCut rest left
+
+-- The cause of each stop, where the source had these bytes and has those left. Want of memory has
+-- none.
+abbrev pub IsStop : ℕ → Option (List ℕ) → Option (List ℕ) → Stop → Type 0
+IsStop ticks all left (BadLine k) = IfSome all (λ bytes. IsBadAt ticks bytes k)
+IsStop ticks all left TooMany = IfSome all (λ bytes. HasTooMany ticks bytes)
+IsStop ticks all left ReadFault = IfSome all (λ bytes. FailsBehind ticks bytes left)
+IsStop ticks all left NoMemory = Unit {0}
 
 -- the first line spells this reading, and what is left are the lines after it
 pub record Spells (r : Reading) (bytes : List ℕ) (left : Option (List ℕ)) : Type 0 where

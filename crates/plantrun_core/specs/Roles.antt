@@ -11,8 +11,8 @@ use Rattle.plantrun_core.specs.declared.roles.Role.TheVariants.{Control, Alarms,
 use Rattle.plantrun_core.specs.Laws.{value_of, loop_after}
 use Rattle.plantrun_core.specs.Alarms.{move_of, act_of}
 
-abbrev pub did : Operation → Tag → Done
-did op tag = record { operation = op; answer = tag }
+abbrev pub did : Operation → Tag → ℕ → Done
+did op tag stamp = record { operation = op; answer = tag; stamp = stamp }
 
 -- a word: a number above one bit, which is 1 where the value is good
 abbrev pub word : ℕ → Bool → ℕ
@@ -28,15 +28,18 @@ pub record HasControlled (before : Loop) (tick : ℕ) (old new : List Done) (aft
   pub measured : Tag
   pub set : Tag
   pub replaced : Tag
+  pub first : ℕ
+  pub second : ℕ
+  pub third : ℕ
   pub law : after ≡ loop_after before (value_of measured) (value_of set)
-  pub log : new ≡ old ++ did (Read 0) measured ∷ did (Read 4) set
+  pub log : new ≡ old ++ did (Read 0) measured first ∷ did (Read 4) set second
       ∷ did (Write 9 after.output (word tick (are_there (value_of measured) (value_of set))))
-      replaced ∷ []
+      replaced third ∷ []
 
 -- the operation that was due, if any, was done
-abbrev pub acted : Option Operation → Tag → List Done
-acted None tag = []
-acted (Some op) tag = did op tag ∷ []
+abbrev pub acted : Option Operation → Tag → ℕ → List Done
+acted None tag stamp = []
+acted (Some op) tag stamp = did op tag stamp ∷ []
 
 -- a scan of alarm i: its record, the sensor and the acknowledgement were read, and the list was
 -- changed as is due
@@ -45,19 +48,32 @@ pub record HasScanned (l : Limits) (i : ℕ) (old new : List Done) : Type 0 wher
   pub measured : Tag
   pub told : Tag
   pub replaced : Tag
-  pub log : new ≡ old ++ did (Read (10 + i)) kept ∷ did (Read i) measured
-      ∷ did (Read (5 + i)) told ∷ acted (act_of (move_of l kept measured told) i told) replaced
+  pub first : ℕ
+  pub second : ℕ
+  pub third : ℕ
+  pub fourth : ℕ
+  pub log : new ≡ old ++ did (Read (10 + i)) kept first ∷ did (Read i) measured second
+      ∷ did (Read (5 + i)) told third
+      ∷ acted (act_of (move_of l kept measured told) i told) replaced fourth
+
+-- a number, where it is one that a table holds
+abbrev pub fitted : ℕ → ℕ
+fitted n = min n (2 ^ 62 - 1)
 
 -- the reading of a sensor that was read, in its place of the ring
-abbrev pub put_in_ring : ℕ → Tag → Tag → List Done
-put_in_ring number None tag = []
-put_in_ring number (Some (v, w)) tag = did (Write (14 + number % 32) v w) tag ∷ []
+abbrev pub put_in_ring : ℕ → Tag → Tag → ℕ → List Done
+put_in_ring number None tag stamp = []
+put_in_ring number (Some (v, w)) tag stamp =
+    did (Write (14 + number % 32) (fitted v) (fitted w)) tag stamp ∷ []
 
 -- the sensor was read, and the reading with this number went into the ring
 pub record HasStored (number : ℕ) (old new : List Done) : Type 0 where
   pub measured : Tag
   pub replaced : Tag
-  pub log : new ≡ old ++ did (Read 0) measured ∷ put_in_ring number measured replaced
+  pub first : ℕ
+  pub second : ℕ
+  pub log : new ≡ old ++ did (Read 0) measured first
+      ∷ put_in_ring number measured replaced second
 
 -- the integral and the output of a controller are in their ranges
 abbrev pub IsFine : Role → Type 0
@@ -107,8 +123,8 @@ AfterTicks first (suc n) log role =
 abbrev pub HasReread : ℕ → List Done → List Done → Type 0
 HasReread zero old new = new ≡ old
 HasReread (suc k) old new =
-    (mid : List Done) × (tag : Tag) × HasReread k old mid
-    × (new ≡ mid ++ did (Read (14 + k)) tag ∷ [])
+    (mid : List Done) × (tag : Tag) × (stamp : ℕ) × HasReread k old mid
+    × (new ≡ mid ++ did (Read (14 + k)) tag stamp ∷ [])
 
 -- the controller before its first tick: its output is closed
 abbrev pub closed : Role

@@ -1,7 +1,8 @@
 -- What a thread has done, when it ends or while it works.
-use Rattle.std.specs.Prelude.{ℕ, ◌+◌, ◌*◌, ◌/◌, ◌%◌, ◌<◌, ◌≤◌, ◌≡◌, ◌==◌, Bool, true, false, List, map, Option, Some, None, IfSome}
+use Rattle.std.specs.Prelude.{ℕ, suc, ◌+◌, ◌*◌, ◌/◌, ◌%◌, ◌<◌, ◌≤◌, ◌≡◌, ◌==◌, ◌++◌, Bool, true, false, List, length, map, Option, Some, None, IfSome}
 use Rattle.std.specs.List.{AllByRecursion}
 use Rattle.std.specs.Vec.{vec_capacity}
+use Rattle.never_heap.specs.Histories.{HistoryItem}
 use Rattle.trace_text.specs.Faults.{Rose}
 use Rattle.live_tables.specs.rows.Workers.{IsSameWorker}
 use Rattle.plantrun_core.specs.declared.calls.Done.{Done}
@@ -12,9 +13,8 @@ use Rattle.plantrun_core.specs.declared.roles.Role.TheVariants.{Control, Alarms,
 use Rattle.plantrun_core.specs.declared.stops.Stop.{Stop}
 use Rattle.plantrun_core.specs.declared.stops.Stop.TheVariants as stops
 use Rattle.plantrun_core.specs.declared.work.Work.{Work}
-use Rattle.plantrun_core.specs.Logs.{operation_of}
-use Rattle.plantrun_core.specs.Refusals.{IsRefusedAfter}
-use Rattle.plantrun_core.specs.Readings.{IsTaken, IsBadAt, HasTooMany, FailsBehind, puts}
+use Rattle.plantrun_core.specs.Logs.{BeganAfter, operation_of}
+use Rattle.plantrun_core.specs.Readings.{IsStop, IsTaken, puts}
 use Rattle.plantrun_core.specs.Roles.{AfterTicks, HasReread, IsFine, closed}
 
 -- how many operations a role does at most in its first n ticks
@@ -39,14 +39,12 @@ first_of (Control l) = closed
 first_of Alarms = Alarms
 first_of History = History
 
--- A thread at work in a plant of so many ticks. Its log is that of its ticks so far; or the table
--- refused it an operation.
+-- a thread at work in a plant of so many ticks: its log is that of its ticks so far
 pub record IsAtWork (count : ℕ) (w : Work) : Type 0 where
   pub few : w.ticks ≤ count
   pub room : most_in w.role count ≤ vec_capacity w.hand.calls
   pub fine : IsFine w.role
-  pub worked : w.spent ≡ false → AfterTicks (first_of w.role) w.ticks w.hand.calls.items w.role
-  pub refused : w.spent ≡ true → IsRefusedAfter w.hand.who w.hand.calls.items
+  pub worked : AfterTicks (first_of w.role) w.ticks w.hand.calls.items w.role
 
 -- the same thread, later
 pub record HasGone (count : ℕ) (old new : Work) : Type 0 where
@@ -56,17 +54,9 @@ pub record HasGone (count : ℕ) (old new : Work) : Type 0 where
   pub work : IsAtWork count new
 
 -- why the input ended, or that it was taken to its end, where it wrote these readings
-abbrev pub IsInputEnd : ℕ → Option (List ℕ) → Option (List ℕ) → Hand → List Reading
-    → Option Stop → Type 0
-IsInputEnd ticks all left hand rs None = IfSome all (λ bytes. IsTaken ticks bytes rs)
-IsInputEnd ticks all left hand rs (Some (stops.BadLine k)) =
-    IfSome all (λ bytes. IsBadAt ticks bytes k)
-IsInputEnd ticks all left hand rs (Some stops.TooMany) =
-    IfSome all (λ bytes. HasTooMany ticks bytes)
-IsInputEnd ticks all left hand rs (Some stops.ReadFault) =
-    IfSome all (λ bytes. FailsBehind ticks bytes left)
-IsInputEnd ticks all left hand rs (Some stops.Refused) = IsRefusedAfter hand.who hand.calls.items
-IsInputEnd ticks all left hand rs (Some stops.NoMemory) = ⊥
+abbrev pub IsInputEnd : ℕ → Option (List ℕ) → Option (List ℕ) → List Reading → Option Stop → Type 0
+IsInputEnd ticks all left rs None = IfSome all (λ bytes. IsTaken ticks bytes rs)
+IsInputEnd ticks all left rs (Some stop) = IsStop ticks all left stop
 
 -- how many faults the source has counted then
 abbrev pub CountsInput : ℕ → ℕ → Option Stop → Type 0
@@ -79,9 +69,21 @@ pub record HasInput (ticks : ℕ) (all left : Option (List ℕ)) (hand : Hand) (
   pub readings : List Reading
   pub tags : AllByRecursion (λ (r : Reading). r.tag < 9) readings
   pub log : map operation_of hand.calls.items ≡ puts 1 readings
-  pub end : IsInputEnd ticks all left hand readings stop
+  pub end : IsInputEnd ticks all left readings stop
 
 -- the history's log: that of all its ticks, and then of the ring
 abbrev pub HasKeptAll : ℕ → List Done → Type 0
 HasKeptAll ticks log =
     (mid : List Done) × (role : Role) × AfterTicks History ticks mid role × HasReread 32 mid log
+
+-- the controller's log: that of all its ticks, and of one more
+abbrev pub HasControlledAll : ℕ → List Done → Type 0
+HasControlledAll ticks log = (role : Role) × AfterTicks closed (suc ticks) log role
+
+-- The worker began its last tick, whose three operations end its log, after all of this history.
+pub record HasActedAfter (seen : List HistoryItem) (hand : Hand) : Type 0 where
+  pub earlier : List Done
+  pub tick : List Done
+  pub split : hand.calls.items ≡ earlier ++ tick
+  pub three : length tick ≡ 3
+  pub began : BeganAfter seen (map operation_of earlier) hand.who

@@ -5,7 +5,7 @@ ghost use Rattle.plantrun_core.specs.Alarms as alarms;
 ghost use Rattle.plantrun_core.specs.Roles as roles;
 
 use crate::law::value_of;
-use crate::places::{ALARMS, LISTED};
+use crate::places::{ALARMS, LARGEST, LISTED};
 use array_tables::tag_table::Operation;
 
 /// A good value below `low` or above `high` raises an alarm, which is cleared once a good value is
@@ -109,12 +109,12 @@ fn cleared(rests: bool) -> Move
     if rests { Move::Clear } else { Move::Stay }
 }
 
-/// The word of a tag; 0 of none.
+/// The word of a tag, at most 2^62 - 1, which is the most that a table holds; 0 of none.
 pub fn word_of(tag: Option<(u64, u64)>) -> u64
     ensures { result ≡ alarms.word_of tag }
 {
     match tag {
-        Some((_, word)) => word,
+        Some((_, word)) => word.min(LARGEST),
         None => 0,
     }
 }

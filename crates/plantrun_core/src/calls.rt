@@ -2,14 +2,16 @@
 
 use array_tables::tag_table::Operation;
 
-/// An operation that a thread did, with its answer: what the tag was before.
+/// An operation that a thread did, with its answer, what the tag was before, and the stamp that the
+/// thread drew when the operation had returned.
 #[derive(Clone, Copy, PartialEq, Eq)]
 pub struct Done {
     pub operation: Operation,
     pub answer: Option<(u64, u64)>,
+    pub stamp: u64,
 }
 
-/// The same in an order of all threads.
+/// An operation of one of the threads.
 #[derive(Clone, Copy)]
 pub struct Step {
     pub thread: u32,

@@ -1,12 +1,12 @@
 //! The table with its four workers: how it is opened, used and closed.
-#![tactic(auto, using(live_tables::proofs::rows::Crews::same_first, live_tables::proofs::rows::Crews::same_then, live_tables::proofs::rows::Crews::of_same))]
+#![tactic(auto, using(live_tables::proofs::rows::Crews::same_first, live_tables::proofs::rows::Crews::same_then, live_tables::proofs::rows::Crews::of_same, crate::proofs::WorkerLogs::plant_same))]
 
-ghost use Rattle.std.specs.Prelude.{ℕ, List, Option, ◌≡◌, ◌+◌, ◌≤◌, ◌∷◌, [], length, false, IfSome};
+ghost use Rattle.std.specs.Prelude.{ℕ, List, Option, ◌≡◌, ◌+◌, ◌≤◌, ◌∷◌, [], length, IfSome};
 ghost use Rattle.std.specs.Vec.{vec_capacity};
 ghost use Rattle.live_tables.specs.tags.Live.{HaveOneTable, opened_config};
-ghost use Rattle.live_tables.specs.rows.Workers.{AreFresh, AreInOrder, IsFresh, IsOf, IsSameWorker};
-ghost use Rattle.plantrun_core.specs.PlantWorkers as ends;
-ghost use Rattle.plantrun_core.specs.PlantWorkers.{AreAtWork, AreOfTable, AreTheirs, HasLogs, HaveEnded, HaveGone, IsCrew, IsGone, IsNew, IsPlantOf, IsWorker};
+ghost use Rattle.live_tables.specs.rows.Workers.{AreFresh, AreInOrder, IsFresh, IsSameWorker};
+ghost use Rattle.plantrun_core.specs.PlantWorkers.{AreAtWork, AreOfTable, AreTheirs, HaveEnded, HaveGone, IsCrew, IsGone, IsHandAt, IsNew, IsPlantOf, IsWorker, logs_of};
+ghost use Rattle.plantrun_core.specs.Logs.{IsHandOf};
 ghost use Rattle.plantrun_core.specs.Readings.{room};
 ghost use Rattle.plantrun_core.specs.Roles.{IsFine};
 ghost use Rattle.plantrun_core.specs.Works.{CountsInput, HasGone, HasInput, IsAtWork, first_of, most_in};
@@ -20,7 +20,7 @@ use crate::places::{PLACES, RING};
 use crate::roles::Role;
 use crate::stops::Stop;
 use crate::telling::Figures;
-use crate::work::{Work, rereads, works};
+use crate::work::{Work, acts_last, rereads, works};
 use live_tables::tags::{LiveTags, TagWorker};
 use std::alloc::Global;
 use std::sync::Wait;
@@ -71,16 +71,19 @@ pub struct Closed {
 }
 
 /// A worker that has done nothing, with room in its log for so many operations.
-fn hand_of(alloc: Global, _table: &LiveTags, thread: u32, who: TagWorker, most: u64) -> Option<Hand>
-    requires own { IsWorker _table.now thread who }
+fn hand_of(alloc: Global, table: &LiveTags, thread: u32, who: TagWorker, most: u64) -> Option<Hand>
+    requires config { table.now.config ≡ opened_config 4 48 }
+    requires own { IsWorker table.now thread who }
     requires fresh { IsFresh who }
-    ensures worker { IfSome result (λ h. IsWorker _table.now thread h.who) }
+    ensures worker { IfSome result (λ h. IsHandAt table.now thread h) }
     ensures none { IfSome result (λ h. h.calls.items ≡ []) }
     ensures room { IfSome result (λ h. most ≤ vec_capacity h.calls) }
 {
     let Ok(calls) = Vec::with_capacity(alloc, most as usize) else {
         return None;
     };
+    let mut who = who;
+    table.stamp(&mut who);
     Some(Hand {
         who,
         calls,
@@ -155,7 +158,7 @@ fn crew_of(alloc: Global, table: &LiveTags, workers: Vec<TagWorker>, ticks: u64)
 {
     let (input, control, alarms, history) = workers_of(table, workers);
     let input = hand_of(alloc, table, 0, input, 2 * ticks + 64)?;
-    let control = hand_of(alloc, table, 1, control, 3 * ticks)?;
+    let control = hand_of(alloc, table, 1, control, 3 * ticks + 3)?;
     let alarms = hand_of(alloc, table, 2, alarms, 4 * ticks + 16)?;
     let history = hand_of(alloc, table, 3, history, ticks + u64::from(RING) + 2)?;
     Some(Crew {
@@ -180,16 +183,16 @@ fn before_ticks(hand: Hand, role: Role, _ticks: u64) -> Work
         hand,
         role,
         ticks: 0,
-        spent: false,
     }
 }
 
 /// Runs a thread until it ends or is halted.
 fn shift<R: Wait + Clock>(rt: &R, table: &LiveTags, ticks: Ticks, halt: &AtomicU64, work: &mut Work)
-    requires own { IsOf table.now work.old.hand.who }
+    requires own { IsHandOf table.now work.old.hand }
     requires count { ticks.count ≤ 1048576 }
     requires work { IsAtWork ticks.count work.old }
-    ensures { HasGone ticks.count work.old work.new }
+    ensures own { IsHandOf table.now work.new.hand }
+    ensures gone { HasGone ticks.count work.old work.new }
 {
     works(rt, table, ticks, Some(halt), work);
 }
@@ -203,9 +206,10 @@ fn both<R: Threads + Wait + Clock + Sync>(
     alarms: &mut Work,
     history: &mut Work,
 )
-    requires own { IsOf table.now alarms.old.hand.who × IsOf table.now history.old.hand.who }
+    requires own { IsHandOf table.now alarms.old.hand × IsHandOf table.now history.old.hand }
     requires count { ticks.count ≤ 1048576 }
     requires at { IsAtWork ticks.count alarms.old × IsAtWork ticks.count history.old }
+    ensures own { IsHandOf table.now alarms.new.hand × IsHandOf table.now history.new.hand }
     ensures alarms { HasGone ticks.count alarms.old alarms.new }
     ensures history { HasGone ticks.count history.old history.new }
 {
@@ -227,7 +231,8 @@ fn at_ticks<R: Threads + Wait + Clock + Sync>(
     requires own { AreOfTable table.now works.old }
     requires count { ticks.count ≤ 1048576 }
     requires at { AreAtWork ticks.count works.old }
-    ensures { HaveGone ticks.count works.old works.new }
+    ensures own { AreOfTable table.now works.new }
+    ensures gone { HaveGone ticks.count works.old works.new }
 {
     let Works {
         control,
@@ -238,7 +243,7 @@ fn at_ticks<R: Threads + Wait + Clock + Sync>(
         rt,
         &mut || shift(rt, table, ticks, halt, control),
         &mut ||
-            requires { (IsOf table.now alarms.now.hand.who × IsOf table.now history.now.hand.who)
+            requires { (IsHandOf table.now alarms.now.hand × IsHandOf table.now history.now.hand)
                 × (ticks.count ≤ 1048576)
                 × (IsAtWork ticks.count alarms.now × IsAtWork ticks.count history.now) }
         { both(rt, table, ticks, halt, alarms, history) },
@@ -256,11 +261,12 @@ fn together<R: Threads + Wait + Clock + Sync, S: Source>(
     input: &mut Hand,
 ) -> Option<Stop>
     requires own { AreOfTable table.now works.old }
-    requires input { IsOf table.now input.old.who }
+    requires input { IsHandOf table.now input.old }
     requires count { ticks.count ≤ 1048576 }
     requires at { AreAtWork ticks.count works.old }
     requires fresh { input.old.calls.items ≡ [] }
     requires room { room ticks.count ≤ vec_capacity input.old.calls }
+    ensures own { AreOfTable table.now works.new × IsHandOf table.now input.new }
     ensures works { HaveGone ticks.count works.old works.new }
     ensures same { IsSameWorker input.old.who input.new.who }
     ensures input { HasInput ticks.count (S.left source.old) (S.left source.new) input.new result }
@@ -287,6 +293,7 @@ pub(crate) fn ran<R: Threads + Wait + Clock + Sync, S: Source>(
     source: &mut S,
     crew: Crew,
 ) -> Ends
+    requires config { table.now.config ≡ opened_config 4 48 }
     requires crew { IsCrew table.now crew }
     requires fresh { IsNew ticks.count crew }
     requires count { ticks.count ≤ 1048576 }
@@ -312,27 +319,18 @@ pub(crate) fn ran<R: Threads + Wait + Clock + Sync, S: Source>(
     Ends { input, stop, works }
 }
 
-/// Why a plant stops, if one of the threads at ticks was refused an operation.
-fn stop_by(control: bool, alarms: bool, history: bool) -> Option<Stop>
-    ensures { result ≡ ends.stop_by control alarms history }
-{
-    match (control, alarms, history) {
-        (false, false, false) => None,
-        _ => Some(Stop::Refused),
-    }
-}
-
-/// Lets each thread do what is left of its ticks, if the input was taken to its end, and then reads
-/// the ring. Nothing is left unless the plant was halted, which the input does only where it stops.
+/// Lets each thread do what is left of its ticks, if the input was taken to its end. Then the
+/// controller acts on the last readings, and the history reads the ring. No tick is left unless the
+/// plant was halted, which the input does only where it stops.
 pub(crate) fn finished<R: Wait + Clock>(rt: &R, table: &LiveTags, ticks: Ticks, ends: Ends) -> Gone
+    requires config { table.now.config ≡ opened_config 4 48 }
     requires crew { AreTheirs table.now ends }
     requires count { ticks.count ≤ 1048576 }
     requires ends { HaveEnded ticks.count ends.works }
     ensures crew { IsCrew table.now result.crew }
     ensures gone { (all left : Option (List ℕ)) → HasInput ticks.count all left ends.input ends.stop
         → IsGone ticks.count all left result.crew result.stop }
-    ensures counted { (old new : ℕ) → CountsInput old new ends.stop
-        → CountsInput old new result.stop }
+    ensures stop { result.stop ≡ ends.stop }
 {
     let Ends { input, stop, works } = ends;
     let Works {
@@ -351,16 +349,18 @@ pub(crate) fn finished<R: Wait + Clock>(rt: &R, table: &LiveTags, ticks: Ticks, 
             stop,
         };
     }
+    let mut input = input;
+    let note = table.note(&mut input.who);
     let control = finishes(rt, table, ticks, control);
+    let control = acts_last(rt, table, ticks.count, note, control);
     let alarms = finishes(rt, table, ticks, alarms);
     let history = rereads(rt, table, ticks.count, finishes(rt, table, ticks, history));
-    let stop = stop_by(control.spent, alarms.spent, history.spent);
     Gone {
         crew: Crew {
             input,
-            control: control.hand,
+            control,
             alarms: alarms.hand,
-            history: history.hand,
+            history,
         },
         stop,
     }
@@ -368,11 +368,12 @@ pub(crate) fn finished<R: Wait + Clock>(rt: &R, table: &LiveTags, ticks: Ticks, 
 
 /// Lets a thread do what is left of its ticks.
 fn finishes<R: Wait + Clock>(rt: &R, table: &LiveTags, ticks: Ticks, work: Work) -> Work
-    requires own { IsOf table.now work.hand.who }
+    requires own { IsHandOf table.now work.hand }
     requires count { ticks.count ≤ 1048576 }
     requires work { IsAtWork ticks.count work }
+    ensures own { IsHandOf table.now result.hand }
     ensures gone { HasGone ticks.count work result }
-    ensures whole { result.spent ≡ false → result.ticks ≡ ticks.count }
+    ensures whole { result.ticks ≡ ticks.count }
 {
     let mut work = work;
     works(rt, table, ticks, None, &mut work);
@@ -411,7 +412,7 @@ pub(crate) fn taken_apart(table: LiveTags, room: Vec<TagWorker>, crew: Crew) -> 
     requires crew { IsCrew table crew }
     ensures plant { IsPlantOf crew.input.who crew.control.who crew.alarms.who crew.history.who
         result.logs result.cycles }
-    ensures logs { HasLogs crew result.logs }
+    ensures logs { result.logs ≡ logs_of crew }
 {
     let Crew {
         input,

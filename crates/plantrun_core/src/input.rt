@@ -1,16 +1,15 @@
 //! The thread that takes the readings of the input.
-#![tactic(auto, using(live_tables::proofs::rows::Crews::same_first, live_tables::proofs::rows::Crews::same_then, live_tables::proofs::rows::Crews::of_same))]
+#![tactic(auto, using(live_tables::proofs::rows::Crews::same_first, live_tables::proofs::rows::Crews::same_then, crate::proofs::WorkerLogs::plant_same))]
 
-ghost use Rattle.std.specs.Prelude.{◌≡◌, ◌≤◌, ◌<◌, ◌+◌, ◌∷◌, ◌++◌, ◌^◌, [], length, map, OnErr, OnOk};
+ghost use Rattle.std.specs.Prelude.{◌≡◌, ◌≤◌, ◌<◌, ◌+◌, ◌∷◌, ◌++◌, ◌^◌, [], length, map};
 ghost use Rattle.std.specs.Vec.{vec_capacity};
-ghost use Rattle.live_tables.specs.rows.Workers.{IsOf, IsSameWorker};
-ghost use Rattle.plantrun_core.specs.Logs.{operation_of};
+ghost use Rattle.live_tables.specs.rows.Workers.{IsSameWorker};
+ghost use Rattle.plantrun_core.specs.Logs.{IsHandOf, operation_of};
 ghost use Rattle.plantrun_core.specs.Readings.{puts, room};
-ghost use Rattle.plantrun_core.specs.Refusals.{IsRefusedAfter};
 ghost use Rattle.plantrun_core.specs.Works.{CountsInput, HasInput};
 
 use crate::clock::Ticks;
-use crate::hand::{Hand, Spent};
+use crate::hand::Hand;
 use crate::places::INPUTS;
 use crate::readings::{Reading, next_reading};
 use crate::stops::Stop;
@@ -23,24 +22,18 @@ use trace_text::Source;
 
 /// Writes a reading, that of the line of this number from 1, into its tag. The word of the tag tells
 /// the line.
-fn put<R: Wait + Clock>(
-    rt: &R,
-    table: &LiveTags,
-    hand: &mut Hand,
-    reading: Reading,
-    number: u64,
-) -> Result<(), Spent>
-    requires own { IsOf table.now hand.old.who }
+fn put<R: Wait + Clock>(rt: &R, table: &LiveTags, hand: &mut Hand, reading: Reading, number: u64)
+    requires own { IsHandOf table.now hand.old }
     requires tag { reading.tag < INPUTS }
     requires value { reading.value < 2 ^ 32 }
     requires number { number < 2 ^ 32 }
+    requires few { length hand.old.calls.items < 2 ^ 24 }
     requires room { length hand.old.calls.items < vec_capacity hand.old.calls }
+    ensures own { IsHandOf table.now hand.new }
     ensures same { IsSameWorker hand.old.who hand.new.who }
     ensures capacity { vec_capacity hand.new.calls ≡ vec_capacity hand.old.calls }
-    ensures did { OnOk result (map operation_of hand.new.calls.items
-        ≡ map operation_of hand.old.calls.items ++ puts number (reading ∷ [])) }
-    ensures refused { OnErr result (IsRefusedAfter hand.new.who hand.new.calls.items) }
-    ensures unchanged { OnErr result (hand.new.calls.items ≡ hand.old.calls.items) }
+    ensures did { map operation_of hand.new.calls.items
+        ≡ map operation_of hand.old.calls.items ++ puts number (reading ∷ []) }
 {
     let op = Operation::Write {
         place: reading.tag,
@@ -49,8 +42,7 @@ fn put<R: Wait + Clock>(
             .saturating_mul(2)
             .saturating_add(u64::from(reading.good)),
     };
-    hand.does(rt, table, op)?;
-    Ok(())
+    hand.does(rt, table, op);
 }
 
 /// Takes the readings of the input, each at its tick, and writes them into their tags, up to the
@@ -62,10 +54,11 @@ fn reads<R: Wait + Clock, S: Source>(
     source: &mut S,
     hand: &mut Hand,
 ) -> Option<Stop>
-    requires own { IsOf table.now hand.old.who }
+    requires own { IsHandOf table.now hand.old }
     requires count { ticks.count ≤ 1048576 }
     requires fresh { hand.old.calls.items ≡ [] }
     requires room { room ticks.count ≤ vec_capacity hand.old.calls }
+    ensures own { IsHandOf table.now hand.new }
     ensures same { IsSameWorker hand.old.who hand.new.who }
     ensures input { HasInput ticks.count (S.left source.old) (S.left source.new) hand.new result }
     ensures counted { CountsInput (S.faults source.old) (S.faults source.new) result }
@@ -78,9 +71,7 @@ fn reads<R: Wait + Clock, S: Source>(
             Ok(Some(reading)) => reading,
         };
         ticks.wait(rt, reading.tick);
-        if put(rt, table, hand, reading, taken + 1).is_err() {
-            return Some(Stop::Refused);
-        }
+        put(rt, table, hand, reading, taken + 1);
         hand.counts(0, 0);
     }
     match next_reading(source, most + 1, ticks.count) {
@@ -99,10 +90,11 @@ pub(crate) fn reads_or_halts<R: Wait + Clock, S: Source>(
     source: &mut S,
     hand: &mut Hand,
 ) -> Option<Stop>
-    requires own { IsOf table.now hand.old.who }
+    requires own { IsHandOf table.now hand.old }
     requires count { ticks.count ≤ 1048576 }
     requires fresh { hand.old.calls.items ≡ [] }
     requires room { room ticks.count ≤ vec_capacity hand.old.calls }
+    ensures own { IsHandOf table.now hand.new }
     ensures same { IsSameWorker hand.old.who hand.new.who }
     ensures input { HasInput ticks.count (S.left source.old) (S.left source.new) hand.new result }
     ensures counted { CountsInput (S.faults source.old) (S.faults source.new) result }

@@ -1,5 +1,8 @@
 //! Where the tags of the plant lie in its table.
 
+/// The largest number that a tag can have.
+pub const LARGEST: u64 = (1 << 62) - 1;
+
 /// How many tags the table has.
 pub const PLACES: u32 = 48;
 

@@ -1,17 +1,17 @@
 //! What each thread does.
-#![tactic(auto, using(live_tables::proofs::rows::Crews::same_first, live_tables::proofs::rows::Crews::same_then, live_tables::proofs::rows::Crews::of_same))]
+#![tactic(auto, using(live_tables::proofs::rows::Crews::same_first, live_tables::proofs::rows::Crews::same_then, crate::proofs::WorkerLogs::plant_same))]
 
-ghost use Rattle.std.specs.Prelude.{◌≡◌, ◌≤◌, ◌<◌, ◌+◌, length, IfOk, OnErr};
+ghost use Rattle.std.specs.Prelude.{◌≡◌, ◌≤◌, ◌<◌, ◌+◌, ◌^◌, length};
 ghost use Rattle.std.specs.Vec.{vec_capacity};
-ghost use Rattle.live_tables.specs.rows.Workers.{IsOf, IsSameWorker};
+ghost use Rattle.live_tables.specs.rows.Workers.{IsSameWorker};
 ghost use Rattle.plantrun_core.specs.Roles.{HasControlled, HasStored, HasScanned, HasScannedTo, HasRecorded, HasTicked, HasWatched, IsFine};
-ghost use Rattle.plantrun_core.specs.Refusals.{IsRefusedAfter};
+ghost use Rattle.plantrun_core.specs.Logs.{HasGoneOn, IsHandOf};
 ghost use Rattle.plantrun_core.specs.Works.{at_scan, most_at};
 
 use crate::alarms::{Limits, act_of, limits_of, move_of};
-use crate::hand::{Hand, Spent};
+use crate::hand::Hand;
 use crate::law::{Loop, value_of};
-use crate::places::{ACKNOWLEDGED, ALARMS, FIRST_KEPT, LISTED, OUTPUT, RING, SET_POINT};
+use crate::places::{ACKNOWLEDGED, ALARMS, FIRST_KEPT, LARGEST, LISTED, OUTPUT, RING, SET_POINT};
 use array_tables::tag_table::Operation;
 use live_tables::tags::LiveTags;
 use std::sync::Wait;
@@ -21,28 +21,29 @@ use std::time::Clock;
 const SCAN: u64 = 5;
 
 /// Computes the output from the measured tag and the set point, and writes it.
-fn control<R: Wait + Clock>(
+pub(crate) fn control<R: Wait + Clock>(
     rt: &R,
     table: &LiveTags,
     hand: &mut Hand,
     before: Loop,
     tick: u64,
-) -> Result<Loop, Spent>
-    requires own { IsOf table.now hand.old.who }
-    requires tick { tick < 1048576 }
+) -> Loop
+    requires own { IsHandOf table.now hand.old }
+    requires tick { tick ≤ 1048576 }
     requires integral { before.integral ≤ 16384000 }
     requires output { before.output ≤ 1000 }
+    requires few { length hand.old.calls.items + 3 ≤ 2 ^ 24 }
     requires room { length hand.old.calls.items + 3 ≤ vec_capacity hand.old.calls }
+    ensures own { IsHandOf table.now hand.new }
     ensures same { IsSameWorker hand.old.who hand.new.who }
     ensures capacity { vec_capacity hand.new.calls ≡ vec_capacity hand.old.calls }
-    ensures refused { OnErr result (IsRefusedAfter hand.new.who hand.new.calls.items) }
-    ensures integral { IfOk result (λ l. l.integral ≤ 16384000) }
-    ensures output { IfOk result (λ l. l.output ≤ 1000) }
-    ensures did { IfOk result (λ after.
-        HasControlled before tick hand.old.calls.items hand.new.calls.items after) }
+    ensures integral { result.integral ≤ 16384000 }
+    ensures output { result.output ≤ 1000 }
+    ensures on { HasGoneOn hand.old.who hand.new.who }
+    ensures did { HasControlled before tick hand.old.calls.items hand.new.calls.items result }
 {
-    let measured = value_of(hand.does(rt, table, Operation::Read { place: 0 })?);
-    let set = value_of(hand.does(rt, table, Operation::Read { place: SET_POINT })?);
+    let measured = value_of(hand.does(rt, table, Operation::Read { place: 0 }));
+    let set = value_of(hand.does(rt, table, Operation::Read { place: SET_POINT }));
     let after = before.after(measured, set);
     let good = u64::from(measured.is_some() && set.is_some());
     let op = Operation::Write {
@@ -50,26 +51,20 @@ fn control<R: Wait + Clock>(
         value: after.output,
         quality: tick.saturating_mul(2).saturating_add(good),
     };
-    hand.does(rt, table, op)?;
-    Ok(after)
+    hand.does(rt, table, op);
+    after
 }
 
 /// Looks at an alarm, and changes the list where it is to be changed.
-fn scan<R: Wait + Clock>(
-    rt: &R,
-    table: &LiveTags,
-    hand: &mut Hand,
-    limits: &Limits,
-    alarm: u32,
-) -> Result<(), Spent>
-    requires own { IsOf table.now hand.old.who }
+fn scan<R: Wait + Clock>(rt: &R, table: &LiveTags, hand: &mut Hand, limits: &Limits, alarm: u32)
+    requires own { IsHandOf table.now hand.old }
     requires alarm { alarm < ALARMS }
+    requires few { length hand.old.calls.items + 4 ≤ 2 ^ 24 }
     requires room { length hand.old.calls.items + 4 ≤ vec_capacity hand.old.calls }
+    ensures own { IsHandOf table.now hand.new }
     ensures same { IsSameWorker hand.old.who hand.new.who }
     ensures capacity { vec_capacity hand.new.calls ≡ vec_capacity hand.old.calls }
-    ensures refused { OnErr result (IsRefusedAfter hand.new.who hand.new.calls.items) }
-    ensures did { IfOk result (λ _.
-        HasScanned limits.now alarm hand.old.calls.items hand.new.calls.items) }
+    ensures did { HasScanned limits.now alarm hand.old.calls.items hand.new.calls.items }
 {
     let kept = hand.does(
         rt,
@@ -77,103 +72,86 @@ fn scan<R: Wait + Clock>(
         Operation::Read {
             place: LISTED + alarm,
         },
-    )?;
-    let measured = hand.does(rt, table, Operation::Read { place: alarm })?;
+    );
+    let measured = hand.does(rt, table, Operation::Read { place: alarm });
     let told = hand.does(
         rt,
         table,
         Operation::Read {
             place: ACKNOWLEDGED + alarm,
         },
-    )?;
+    );
     match act_of(move_of(limits, kept, measured, told), alarm, told) {
         Some(op) => {
-            hand.does(rt, table, op)?;
-            Ok(())
+            hand.does(rt, table, op);
         }
-        None => Ok(()),
+        None => {}
     }
 }
 
 /// Looks at all alarms.
-fn scan_all<R: Wait + Clock>(rt: &R, table: &LiveTags, hand: &mut Hand) -> Result<(), Spent>
-    requires own { IsOf table.now hand.old.who }
+fn scan_all<R: Wait + Clock>(rt: &R, table: &LiveTags, hand: &mut Hand)
+    requires own { IsHandOf table.now hand.old }
+    requires few { length hand.old.calls.items + 16 ≤ 2 ^ 24 }
     requires room { length hand.old.calls.items + 16 ≤ vec_capacity hand.old.calls }
+    ensures own { IsHandOf table.now hand.new }
     ensures same { IsSameWorker hand.old.who hand.new.who }
     ensures capacity { vec_capacity hand.new.calls ≡ vec_capacity hand.old.calls }
-    ensures refused { OnErr result (IsRefusedAfter hand.new.who hand.new.calls.items) }
-    ensures did { IfOk result (λ _. HasScannedTo 4 hand.old.calls.items hand.new.calls.items) }
+    ensures did { HasScannedTo 4 hand.old.calls.items hand.new.calls.items }
 {
     for alarm in 0..ALARMS {
-        scan(rt, table, hand, &limits_of(alarm), alarm)?;
+        scan(rt, table, hand, &limits_of(alarm), alarm);
     }
-    Ok(())
 }
 
 /// Puts the measured tag into a place of the ring, where there is one.
-fn keep<R: Wait + Clock>(
-    rt: &R,
-    table: &LiveTags,
-    hand: &mut Hand,
-    number: u64,
-) -> Result<(), Spent>
-    requires own { IsOf table.now hand.old.who }
+fn keep<R: Wait + Clock>(rt: &R, table: &LiveTags, hand: &mut Hand, number: u64)
+    requires own { IsHandOf table.now hand.old }
+    requires few { length hand.old.calls.items + 2 ≤ 2 ^ 24 }
     requires room { length hand.old.calls.items + 2 ≤ vec_capacity hand.old.calls }
+    ensures own { IsHandOf table.now hand.new }
     ensures same { IsSameWorker hand.old.who hand.new.who }
     ensures capacity { vec_capacity hand.new.calls ≡ vec_capacity hand.old.calls }
-    ensures refused { OnErr result (IsRefusedAfter hand.new.who hand.new.calls.items) }
-    ensures did { IfOk result (λ _.
-        HasStored number hand.old.calls.items hand.new.calls.items) }
+    ensures did { HasStored number hand.old.calls.items hand.new.calls.items }
 {
-    let Some((value, quality)) = hand.does(rt, table, Operation::Read { place: 0 })? else {
-        return Ok(());
+    let Some((value, quality)) = hand.does(rt, table, Operation::Read { place: 0 }) else {
+        return;
     };
     let op = Operation::Write {
         place: FIRST_KEPT + (number % u64::from(RING)) as u32,
-        value,
-        quality,
+        value: value.min(LARGEST),
+        quality: quality.min(LARGEST),
     };
-    hand.does(rt, table, op)?;
-    Ok(())
+    hand.does(rt, table, op);
 }
 
 /// Looks at all alarms, if it is time for it.
-fn watch<R: Wait + Clock>(rt: &R, table: &LiveTags, hand: &mut Hand, due: bool) -> Result<(), Spent>
-    requires own { IsOf table.now hand.old.who }
+fn watch<R: Wait + Clock>(rt: &R, table: &LiveTags, hand: &mut Hand, due: bool)
+    requires own { IsHandOf table.now hand.old }
+    requires few { length hand.old.calls.items + at_scan due 16 ≤ 2 ^ 24 }
     requires room { length hand.old.calls.items + at_scan due 16 ≤ vec_capacity hand.old.calls }
+    ensures own { IsHandOf table.now hand.new }
     ensures same { IsSameWorker hand.old.who hand.new.who }
     ensures capacity { vec_capacity hand.new.calls ≡ vec_capacity hand.old.calls }
-    ensures refused { OnErr result (IsRefusedAfter hand.new.who hand.new.calls.items) }
-    ensures did { IfOk result (λ _.
-        HasWatched due hand.old.calls.items hand.new.calls.items) }
+    ensures did { HasWatched due hand.old.calls.items hand.new.calls.items }
 {
     if due {
-        scan_all(rt, table, hand)
-    } else {
-        Ok(())
+        scan_all(rt, table, hand);
     }
 }
 
 /// Keeps a reading with this number, if it is time for it.
-fn kept<R: Wait + Clock>(
-    rt: &R,
-    table: &LiveTags,
-    hand: &mut Hand,
-    number: u64,
-    due: bool,
-) -> Result<(), Spent>
-    requires own { IsOf table.now hand.old.who }
+fn kept<R: Wait + Clock>(rt: &R, table: &LiveTags, hand: &mut Hand, number: u64, due: bool)
+    requires own { IsHandOf table.now hand.old }
+    requires few { length hand.old.calls.items + at_scan due 2 ≤ 2 ^ 24 }
     requires room { length hand.old.calls.items + at_scan due 2 ≤ vec_capacity hand.old.calls }
+    ensures own { IsHandOf table.now hand.new }
     ensures same { IsSameWorker hand.old.who hand.new.who }
     ensures capacity { vec_capacity hand.new.calls ≡ vec_capacity hand.old.calls }
-    ensures refused { OnErr result (IsRefusedAfter hand.new.who hand.new.calls.items) }
-    ensures did { IfOk result (λ _.
-        HasRecorded due number hand.old.calls.items hand.new.calls.items) }
+    ensures did { HasRecorded due number hand.old.calls.items hand.new.calls.items }
 {
     if due {
-        keep(rt, table, hand, number)
-    } else {
-        Ok(())
+        keep(rt, table, hand, number);
     }
 }
 
@@ -193,31 +171,28 @@ impl Role {
         table: &LiveTags,
         hand: &mut Hand,
         tick: u64,
-    ) -> Result<Role, Spent>
-        requires own { IsOf table.now hand.old.who }
+    ) -> Role
+        requires own { IsHandOf table.now hand.old }
         requires tick { tick < 1048576 }
         requires fine { IsFine self }
+        requires few { length hand.old.calls.items + most_at self tick ≤ 2 ^ 24 }
         requires room { length hand.old.calls.items + most_at self tick ≤ vec_capacity hand.old.calls }
+        ensures own { IsHandOf table.now hand.new }
         ensures same { IsSameWorker hand.old.who hand.new.who }
         ensures capacity { vec_capacity hand.new.calls ≡ vec_capacity hand.old.calls }
-        ensures refused { OnErr result (IsRefusedAfter hand.new.who hand.new.calls.items) }
-        ensures fine { IfOk result (λ role. IsFine role) }
-        ensures did { IfOk result (λ role.
-            HasTicked self tick hand.old.calls.items hand.new.calls.items role) }
+        ensures fine { IsFine result }
+        ensures did { HasTicked self tick hand.old.calls.items hand.new.calls.items result }
     {
         match self {
-            Role::Control(before) => match control(rt, table, hand, before, tick) {
-                Ok(after) => Ok(Role::Control(after)),
-                Err(spent) => Err(spent),
-            },
-            Role::Alarms => match watch(rt, table, hand, tick % SCAN == 0) {
-                Ok(()) => Ok(Role::Alarms),
-                Err(spent) => Err(spent),
-            },
-            Role::History => match kept(rt, table, hand, tick / SCAN, tick % SCAN == 0) {
-                Ok(()) => Ok(Role::History),
-                Err(spent) => Err(spent),
-            },
+            Role::Control(before) => Role::Control(control(rt, table, hand, before, tick)),
+            Role::Alarms => {
+                watch(rt, table, hand, tick % SCAN == 0);
+                Role::Alarms
+            }
+            Role::History => {
+                kept(rt, table, hand, tick / SCAN, tick % SCAN == 0);
+                Role::History
+            }
         }
     }
 }

@@ -16,8 +16,6 @@ pub enum Stop {
     ReadFault,
     /// Memory ran out.
     NoMemory,
-    /// The table refused an operation.
-    Refused,
 }
 
 impl Stop {
@@ -28,7 +26,7 @@ impl Stop {
     {
         match self {
             Stop::BadLine { .. } => 3,
-            Stop::TooMany | Stop::Refused => 4,
+            Stop::TooMany => 4,
             Stop::ReadFault => 5,
             Stop::NoMemory => 7,
         }
@@ -59,7 +57,6 @@ impl Stop {
             Stop::TooMany => line.prepend(b"too many readings"),
             Stop::ReadFault => line.prepend(b"read fault"),
             Stop::NoMemory => line.prepend(b"no memory"),
-            Stop::Refused => line.prepend(b"an operation was refused"),
         }
     }
 }

@@ -1,20 +1,18 @@
 //! The top call: it alone starts threads and waits.
 
 ghost use Rattle.std.specs.Prelude.{ℕ, ◌≡◌, ◌≢◌, ◌≤◌, None, IfErr, IfOk, IfSome, IsNone, OnOk, OnErr, map, string_bytes};
-ghost use Rattle.array_tables.specs.tag_table.Tables.{empty_table};
 ghost use Rattle.trace_text.specs.Streams.{Appends, AppendsPrefix};
 ghost use Rattle.plantrun_core.specs.declared.stops.Stop.TheVariants.{NoMemory};
-ghost use Rattle.plantrun_core.specs.PlantWorkers.{HasPlant, HaveWorked, IsStop};
+ghost use Rattle.plantrun_core.specs.PlantWorkers.{HasPlant, HaveWorked};
 ghost use Rattle.plantrun_core.specs.Exits.{IsExit};
-ghost use Rattle.plantrun_core.specs.Logs.{IsOrder};
-ghost use Rattle.plantrun_core.specs.MergedLogs.{AreAtHome, HasOrder, logs_of};
-ghost use Rattle.plantrun_core.specs.Readings.{CountsRead};
+ghost use Rattle.plantrun_core.specs.PlantOrders.{IsByStamps};
+ghost use Rattle.plantrun_core.specs.Readings.{CountsRead, IsStop};
 ghost use Rattle.plantrun_core.specs.PlantTexts.{parts_text, plant_text, IsTold};
 
 use crate::calls::{Logs, Step};
 use crate::clock::{Ticks, nanoseconds};
 use crate::crew::{Closed, Gone, Opened, finished, new_table, ran, taken_apart};
-use crate::order::order_of;
+use crate::order::by_stamps;
 use crate::plans::{Plan, plan_of};
 use crate::stops::Stop;
 use crate::telling::{Cycles, Figures, write_all};
@@ -29,7 +27,7 @@ use trace_text::{Failed, Sink, Source, WRITE_FAULT, put_line};
 pub struct Ended {
     /// What each thread did.
     pub logs: Logs,
-    /// All of it in one order.
+    /// All of it, by ascending stamps.
     pub order: Vec<Step>,
     /// How many cycles of collection were started.
     pub cycles: u64,
@@ -39,13 +37,16 @@ pub struct Ended {
 
 /// Runs a plant: a thread that writes the readings of the source into tags, each at its tick; a
 /// controller; a thread that keeps the alarm list; and one that keeps the last 32 readings. All
-/// tags lie in one table on one heap. Returns what the threads did, in one order.
+/// tags lie in one table on one heap. At the end the controller acts once more, on the last readings.
+/// Returns what the threads did. All of it has one order, in which each answer is that of a plain
+/// table, and which keeps real time: what has a stamp comes before what its thread, or another,
+/// began after a stamp that is no less.
 ///
 /// # Errors
 ///
 /// `BadLine` at the first line that spells no reading, `TooMany` at one reading more than 2 for
-/// each tick and 64, and `ReadFault` where the source fails; these halt the plant. `Refused` where
-/// the table refuses a worker an operation, and `NoMemory`.
+/// each tick and 64, and `ReadFault` where the source fails; these halt the plant. `NoMemory` if an
+/// allocation failed.
 pub fn plant<R: Threads + Wait + Clock + Sync, S: Source>(
     rt: &R,
     alloc: Global,
@@ -55,7 +56,7 @@ pub fn plant<R: Threads + Wait + Clock + Sync, S: Source>(
     requires { plan.ticks ≤ 1048576 }
     ensures table { IfOk result (λ e. HasPlant e.logs e.cycles) }
     ensures worked { IfOk result (λ e. HaveWorked plan.ticks (S.left source.old) e.logs) }
-    ensures order { IfOk result (λ e. IsOrder e.logs e.order.items) }
+    ensures order { IfOk result (λ e. IsByStamps e.logs e.order.items) }
     ensures stopped { IfErr result (λ stop.
         IsStop plan.ticks (S.left source.old) (S.left source.new) stop) }
     ensures counted { CountsRead (S.faults source.old) (S.faults source.new) result }
@@ -79,14 +80,11 @@ pub fn plant<R: Threads + Wait + Clock + Sync, S: Source>(
 
 /// What became of a plant that ran to its end.
 fn put_in_order(alloc: Global, closed: Closed) -> Result<Ended, Stop>
-    requires homes { (t : ℕ) → AreAtHome t (logs_of closed.logs t) }
-    requires order { HasOrder (empty_table 48) (logs_of closed.logs) }
-    ensures order { IfOk result (λ e. IsOrder e.logs e.order.items) }
-    ensures logs { IfOk result (λ e. e.logs ≡ closed.logs) }
-    ensures cycles { IfOk result (λ e. e.cycles ≡ closed.cycles) }
+    ensures order { IfOk result (λ e. IsByStamps e.logs e.order.items) }
+    ensures same { IfOk result (λ e. (e.logs ≡ closed.logs) × (e.cycles ≡ closed.cycles)) }
     ensures memory { IfErr result (λ stop. stop ≡ NoMemory) }
 {
-    let Ok(order) = order_of(alloc, &closed.logs) else {
+    let Ok(order) = by_stamps(alloc, &closed.logs) else {
         return Err(Stop::NoMemory);
     };
     Ok(Ended {
@@ -139,8 +137,8 @@ pub struct PlantExit {
 /// became of it, or one line that says why it stopped.
 ///
 /// The status is 0 where all was written, 2 where the words are no plan, 6 where the sink failed,
-/// and else that of the `Stop`: 3 for a wrong line, 4 for too many readings or a refused operation,
-/// 5 where the source failed, and 7 where memory ran out.
+/// and else that of the `Stop`: 3 for a wrong line, 4 for too many readings, 5 where the source
+/// failed, and 7 where memory ran out.
 pub fn plant_with_status<R: Threads + Wait + Clock + Sync, S: Source, K: Sink>(
     rt: &R,
     alloc: Global,
@@ -149,7 +147,7 @@ pub fn plant_with_status<R: Threads + Wait + Clock + Sync, S: Source, K: Sink>(
     sink: &mut K,
 ) -> PlantExit
     ensures table { IfSome result.ended (λ e. HasPlant e.logs e.cycles) }
-    ensures order { IfSome result.ended (λ e. IsOrder e.logs e.order.items) }
+    ensures order { IfSome result.ended (λ e. IsByStamps e.logs e.order.items) }
     ensures told { IfSome result.ended (λ e. IsTold (K.held sink.old) (K.held sink.new)
         (plant_text e.order.items e.figures e.cycles) result.status) }
     ensures stopped { IsNone result.ended → result.status ≢ 0 }

@@ -73,7 +73,7 @@ fn an_alarm_goes_its_way(rt: HostRuntime) {
     );
 }
 
-// A plant of 40 ticks ends, and all that its threads did has an order.
+// A plant of 40 ticks ends, and its controller acts on the last readings.
 #[test]
 fn a_plant_runs(rt: HostRuntime) -> Result<(), Fail> {
     let text = b"0 0 400000 1\n0 4 500000 1\n3 0 950000 1\n9 1 100000 0\n20 5 1 1\n30 0 450000 1\n";
@@ -87,8 +87,15 @@ fn a_plant_runs(rt: HostRuntime) -> Result<(), Fail> {
     match plant(&rt, rt.alloc(), plan, &mut source) {
         Ok(ended) => {
             assert_eq!(rt; ended.logs.input.len(), 6);
-            assert_eq!(rt; ended.logs.control.len(), 120);
-            assert!(rt; ended.order.len() > 126 + 8 * 12);
+            assert_eq!(rt; ended.logs.control.len(), 123);
+            assert!(rt; ended.order.len() > 129 + 8 * 12);
+            let measured = ended.logs.control.get(120).map(|done| done.answer);
+            assert_eq!(rt; measured, Some(Some((450_000, 13))));
+            let mut last = 0;
+            for step in ended.order.as_slice() {
+                assert!(rt; last <= step.done.stamp);
+                last = step.done.stamp;
+            }
             if let (Some(began), Ok(now)) = (began, rt.monotonic()) {
                 assert!(rt; now.saturating_sub(began).as_micros() > 19_000);
             }

@@ -5,17 +5,24 @@ use Rattle.live_tables.proofs.rows.Crews.{same_first, same_then}
 use Rattle.plantrun_core.specs.Logs.{operation_of}
 use Rattle.plantrun_core.specs.Readings.{IsNext, puts}
 use Rattle.plantrun_core.proofs.Lines.{input_many, read_first, read_length, read_on}
-use Rattle.plantrun_core.proofs.LogOfTicks.{ok_of}
 use Rattle.plantrun_core.proofs.input.reads.Goals as goal
 
 pub loop-taken-init : goal.loop-taken-init
 loop-taken-init g c = record {
+  own = c.requires.own;
   same = same_first c.args.hand.now.who;
   capacity = refl;
   read = read_first c.args.ticks.count (g.S.Source.left c.args.source.now)
       c.args.hand.now.calls.items c.requires.fresh;
   faults = refl;
 }
+
+pub put-requires-clause-few : goal.put-requires-clause-few
+put-requires-clause-few g c =
+    let n = read_length c.args.ticks.count c.loop-taken.taken (g.S.Source.left c.args.source.now)
+    (g.S.Source.left c.loop-taken.source) c.loop-taken.hand.calls.items
+    c.loop-taken.invariant.read in
+    omega (arith, n, c.requires.count, c.loop-taken-test.true)
 
 pub put-requires-clause-room : goal.put-requires-clause-room
 put-requires-clause-room g c =
@@ -45,9 +52,9 @@ loop-taken-preserved g c =
     rw c.in-Ok-Some.field-0-is at c.in-Ok-Some.ensures.next in
     let low : r.tag < 9 = rw c.in-Ok-Some.field-0-is at c.in-Ok-Some.ensures.tag in
     let did : map operation_of put.calls.items
-    ≡ map operation_of mid.calls.items ++ puts (n + 1) (r ∷ []) =
-    ok_of c.put.result c.is_err.result _ c.if-is_err.false c.is_err.ensures.value c.put.ensures.did in
+    ≡ map operation_of mid.calls.items ++ puts (n + 1) (r ∷ []) = c.put.ensures.did in
     record {
+      own = c.counts.ensures.own c.args.table.now c.put.ensures.own;
       same = same_then old.who mid.who new.who c.loop-taken.invariant.same
           (same_then mid.who put.who new.who c.put.ensures.same
           (subst (λ w. IsSameWorker put.who w) (sym c.counts.ensures.who) (same_first put.who)));

@@ -17,6 +17,12 @@ scan-requires-clause-room g c =
       c.loop-alarm-test.true,
     )
 
+pub scan-requires-clause-few : goal.scan-requires-clause-few
+scan-requires-clause-few g c =
+    let so_far = scanned_to_length c.loop-alarm.alarm c.args.hand.now.calls.items
+    c.loop-alarm.hand.calls.items c.loop-alarm.invariant.scanned in
+    omega (arith, so_far, c.requires.few, c.loop-alarm-test.true)
+
 pub loop-alarm-preserved : goal.loop-alarm-preserved
 loop-alarm-preserved g c =
     let i = c.loop-alarm.alarm in
@@ -24,10 +30,11 @@ loop-alarm-preserved g c =
     let mid = c.loop-alarm.hand in
     let new = c.scan.new.hand in
     record {
-      same = same_then old.who mid.who new.who c.loop-alarm.invariant.same c.in_ok-scan.ensures.same;
-      capacity = c.in_ok-scan.ensures.capacity ∙ c.loop-alarm.invariant.capacity;
+      own = c.scan.ensures.own;
+      same = same_then old.who mid.who new.who c.loop-alarm.invariant.same c.scan.ensures.same;
+      capacity = c.scan.ensures.capacity ∙ c.loop-alarm.invariant.capacity;
       scanned = scanned_more i old.calls.items mid.calls.items new.calls.items
           c.loop-alarm.invariant.scanned
           (subst (λ (l : Limits). HasScanned l i mid.calls.items new.calls.items) c.limits_of.ensures
-          c.in_ok-scan.ensures.did);
+          c.scan.ensures.did);
     }

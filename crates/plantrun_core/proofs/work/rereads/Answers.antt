@@ -1,17 +1,23 @@
-use Rattle.std.proofs.Common.{◌∙◌, ◌≡◌, ◌≤◌, ℕ, arith, length, subst}
+use Rattle.std.proofs.Common.{◌∙◌, ◌≡◌, ◌≤◌, ◌^◌, ◌+◌, ℕ, arith, length, subst}
 use Rattle.live_tables.proofs.rows.Crews.{same_then}
-use Rattle.plantrun_core.specs.declared.roles.Role.{Role}
 use Rattle.plantrun_core.specs.declared.roles.Role.TheVariants.{History}
-use Rattle.plantrun_core.specs.Roles.{AfterTicks, HasReread}
+use Rattle.plantrun_core.specs.Roles.{HasReread}
 use Rattle.plantrun_core.specs.Works.{most_in}
-use Rattle.plantrun_core.proofs.LogOfTicks.{kept_short, reread_on}
+use Rattle.plantrun_core.proofs.LogOfTicks.{reread_on, whole_few, whole_log, whole_short}
 use Rattle.plantrun_core.proofs.work.rereads.Goals as goal
+
+pub does-requires-clause-few : goal.does-requires-clause-few
+does-requires-clause-few g c =
+    let few : length c.args.work.hand.calls.items + 32 ≤ 2 ^ 24 =
+    whole_few c.args.count c.args.work History c.requires.work c.requires.history
+    c.requires.whole c.requires.count in
+    omega (arith, few, c.loop-k.invariant.length, c.loop-k-test.true)
 
 pub does-requires-clause-room : goal.does-requires-clause-room
 does-requires-clause-room g c =
     let few : length c.args.work.hand.calls.items ≤ most_in History c.args.count =
-    kept_short c.args.count c.args.work c.requires.work c.requires.history c.requires.whole
-    c.if-spent.false in
+    whole_short c.args.count c.args.work History c.requires.work c.requires.history
+    c.requires.whole in
     omega (
       arith,
       few,
@@ -27,9 +33,9 @@ loop-k-preserved g c =
     let mid = c.loop-k.hand in
     let new = c.does.new.self in
     let more = reread_on c.loop-k.k old.calls.items mid.calls.items new.calls.items c.does.result
-    c.is_err.result c.if-is_err.false c.is_err.ensures.value c.does.ensures.did
-    c.loop-k.invariant.read in
+    c.does.ensures.did c.loop-k.invariant.read in
     record {
+      own = c.does.ensures.own;
       same = same_then old.who mid.who new.who c.loop-k.invariant.same c.does.ensures.same;
       capacity = c.does.ensures.capacity ∙ c.loop-k.invariant.capacity;
       read = more.0;
@@ -37,17 +43,12 @@ loop-k-preserved g c =
     }
 
 pub returns-clause-kept : goal.returns-clause-kept
-returns-clause-kept g c fresh =
+returns-clause-kept g c =
     let w = c.args.work in
-    let done : AfterTicks History c.args.count w.hand.calls.items w.role =
-    subst (λ (n : ℕ). AfterTicks History n w.hand.calls.items w.role)
-    (c.requires.whole c.if-spent.false)
-    (subst (λ (r : Role). AfterTicks r w.ticks w.hand.calls.items w.role) c.requires.history
-    (c.requires.work.worked c.if-spent.false)) in
     let all : 32 ≡ c.loop-k.k = omega (arith, c.loop-k-test.false, c.loop-k.auto.k-end) in (
       w.hand.calls.items,
       w.role,
-      done,
+      whole_log c.args.count w History c.requires.work c.requires.history c.requires.whole,
       subst (λ (k : ℕ). HasReread k w.hand.calls.items c.loop-k.hand.calls.items)
           (let e : c.loop-k.k ≡ 32 = omega (arith, all) in e) c.loop-k.invariant.read,
     )
