@@ -1,6 +1,6 @@
 -- Orders of what four threads did: the one that is printed, and one in which each answer is that of
 -- a plain table.
-use Rattle.std.specs.Prelude.{ℕ, zero, suc, ◌+◌, ◌^◌, ◌≤◌, ◌≡◌, ◌⊎◌, List, [], ◌∷◌, ◌++◌, length, map}
+use Rattle.std.specs.Prelude.{ℕ, zero, suc, ◌^◌, ◌≤◌, ◌≡◌, ◌⊎◌, List, [], ◌∷◌, ◌++◌, length, map}
 use Rattle.std.specs.List.Sorted.{IsNonDecreasingBy, IsPermutation}
 use Rattle.array_tables.specs.operations.Linearizations.{Call, calls_of, AreAnswered}
 use Rattle.array_tables.specs.tag_table.Tables.{Tag, answer, table_after, empty_table}
