@@ -1,3 +1,4 @@
+pub mod SameWorker
 pub mod WorkersApart
 pub mod OrderOfLogs
 pub mod Lines

@@ -5,7 +5,7 @@ use Rattle.std.proofs.lemmas.Bool.{cases_eq}
 use Rattle.std.specs.Vec.{vec_capacity}
 use Rattle.never_heap.specs.Histories.{HistoryItem}
 use Rattle.live_tables.specs.rows.Workers.{IsSameWorker}
-use Rattle.live_tables.proofs.rows.Crews.{same_first, same_then}
+use Rattle.plantrun_core.proofs.SameWorker.{same_first, same_then}
 use Rattle.array_tables.specs.tag_table.Tables.{Tag}
 use Rattle.array_tables.specs.declared.tag_table.operation.Operation.{Operation}
 use Rattle.array_tables.specs.declared.tag_table.operation.Operation.TheVariants.{Read, Write}

@@ -15,7 +15,7 @@ use Rattle.live_tables.specs.rows.Stamped.{IsStampAfter}
 use Rattle.live_tables.specs.tags.Live.{HasLife, TagWorkerState, opened_config, tags}
 use Rattle.live_tables.specs.rows.Workers.{HasDrawn, HasSeenAll, IsFresh, IsSameWorker, has_learned, places_of, thread_of}
 use Rattle.live_tables.proofs.rows.Stamped.{stamp_after, stamp_later}
-use Rattle.live_tables.proofs.rows.Crews.{of_same}
+use Rattle.plantrun_core.proofs.SameWorker.{of_same}
 use Rattle.live_tables.proofs.tags.FewOperations.{few_leave_life}
 use Rattle.live_tables.proofs.tags.Opening.{can_open}
 use Rattle.plantrun_core.specs.declared.calls.Done.{Done}

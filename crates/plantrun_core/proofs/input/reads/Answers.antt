@@ -1,7 +1,7 @@
 use Rattle.std.proofs.Common.{◌≡◌, ◌∙◌, ◌+◌, ◌++◌, ◌<◌, [], ◌∷◌, sym, refl, subst, ap, arith, map, IfSome, Ok, Some}
 use Rattle.std.specs.Vec.{vec_capacity}
 use Rattle.live_tables.specs.rows.Workers.{IsSameWorker}
-use Rattle.live_tables.proofs.rows.Crews.{same_first, same_then}
+use Rattle.plantrun_core.proofs.SameWorker.{same_first, same_then}
 use Rattle.plantrun_core.specs.Logs.{operation_of}
 use Rattle.plantrun_core.specs.Readings.{IsNext, puts}
 use Rattle.plantrun_core.proofs.Lines.{input_many, read_first, read_length, read_on}

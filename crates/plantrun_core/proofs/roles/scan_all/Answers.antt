@@ -1,5 +1,5 @@
 use Rattle.std.proofs.Common.{◌∙◌, arith, subst}
-use Rattle.live_tables.proofs.rows.Crews.{same_then}
+use Rattle.plantrun_core.proofs.SameWorker.{same_then}
 use Rattle.plantrun_core.specs.declared.alarms.Limits.{Limits}
 use Rattle.plantrun_core.specs.Roles.{HasScanned}
 use Rattle.plantrun_core.proofs.LogOfTicks.{scanned_more, scanned_to_length}

@@ -1,6 +1,6 @@
 use Rattle.std.proofs.Common.{◌≤◌, ◌^◌, ◌+◌, arith, length, refl, subst, sym}
 use Rattle.live_tables.specs.rows.Workers.{IsSameWorker}
-use Rattle.live_tables.proofs.rows.Crews.{same_then}
+use Rattle.plantrun_core.proofs.SameWorker.{same_then}
 use Rattle.plantrun_core.specs.Logs.{HasGoneOn}
 use Rattle.plantrun_core.specs.Roles.{closed}
 use Rattle.plantrun_core.specs.Works.{most_in}

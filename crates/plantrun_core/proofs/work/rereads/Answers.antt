@@ -1,5 +1,5 @@
 use Rattle.std.proofs.Common.{◌∙◌, ◌≡◌, ◌≤◌, ◌^◌, ◌+◌, ℕ, arith, length, subst}
-use Rattle.live_tables.proofs.rows.Crews.{same_then}
+use Rattle.plantrun_core.proofs.SameWorker.{same_then}
 use Rattle.plantrun_core.specs.declared.roles.Role.TheVariants.{History}
 use Rattle.plantrun_core.specs.Roles.{HasReread}
 use Rattle.plantrun_core.specs.Works.{most_in}
