@@ -1,7 +1,7 @@
-"""Measures for bench/tails, and says and draws what it kept.
+"""Measures for bench/tails, and writes and draws what it kept.
 
 usage: tails.py measure PROGRAMS MACHINE KEPT RUNS TIMES LIVES [WORD..]
-       tails.py text|result|picture KEPT
+       tails.py text|result|short|picture KEPT
 
 The words are those that give a program real-time priority. A line of KEPT is `machine` with a text,
 or `curve` with the names of Curve. It needs Python 3.9.
@@ -194,7 +194,7 @@ def threads_said(threads):
 # ---- text
 
 BEYOND = (("1 us", 1000), ("10 us", 10 ** 4), ("100 us", 10 ** 5), ("1 ms", 10 ** 6))
-NAMES = 20  # columns
+NAMES = 22  # columns
 
 
 def churn_table(figures, threads, live):
@@ -240,40 +240,83 @@ def text(figures):
     yield from step_table(figures)
 
 
-def listed(figures, what):
-    """`rtheap 1 and 2, malloc 3 and 4`: what a figure is of each heap that has it."""
+# How sentences call heaps, where not by their names.
+SAID = {"rtheap, shared": "`shared_heap`", "never frees": "a program that never frees",
+        "malloc": "`malloc`", "Lua script": "a script in Lua",
+        "Boehm, incremental": "Boehm incremental", "Java, Serial": "Java's Serial",
+        "Java, G1": "G1", "Java, Z": "ZGC"}
+COLLECTORS = "Lua", "Boehm"  # of which the least of all runs is known
+
+
+def listed(figures, heaps, what):
+    """`rtheap 1 and 2, malloc 3 and 4`: what a figure is of each of the heaps that has it."""
     parts = []
-    for heap in figures.heaps:
+    for heap in heaps:
         found = what(heap)
         if found:
             parts.append(f"{SAID.get(heap, heap)} {' and '.join(found)}")
     return ", ".join(parts)
 
 
-# How sentences call heaps, where not by their names.
-SAID = {"rtheap, shared": "`shared_heap`", "never frees": "a program that never frees",
-        "malloc": "`malloc`", "Boehm, incremental": "Boehm incremental",
-        "Java, Serial": "Java's Serial", "Java, G1": "G1", "Java, Z": "ZGC"}
+def least_longest(figures, heap):
+    """The longest command of a heap as the least of all runs, for each number of live objects."""
+    found = [figures.curves.get(("least", 1, live, heap)) for live in figures.lives]
+    return [curve.longest for curve in found if curve]
+
+
+def beside_best(figures):
+    """How many times as long as that of the best other collector the longest of rtheap is."""
+    others = [least_longest(figures, heap) for heap in COLLECTORS if heap in figures.heaps]
+    own = least_longest(figures, "rtheap")
+    return [f"{one / min(rest):.2g}" for one, *rest in zip(own, *others) if rest]
+
+
+def wrapped(said):
+    return textwrap.wrap(said, 100, break_long_words=False, break_on_hyphens=False)
 
 
 def result(figures):
-    """The result in two sentences, good or bad."""
+    """The result in some sentences, good or bad."""
     lives = " and ".join(f"{live:,}" for live in figures.lives)
 
     def least(heap):
-        found = [figures.curves.get(("least", 1, live, heap)) for live in figures.lives]
-        return [micros(curve.longest) for curve in found if curve]
+        return [micros(time) for time in least_longest(figures, heap)]
 
     def on_many(heap):
         found = [figures.curves.get(("all", MANY, live, heap)) for live in figures.lives]
         return [number_said(beyond(curve, 10 ** 4)) for curve in found if curve]
 
+    def steps(heap):
+        found = [figures.curves.get((kind, 1, 500, heap)) for kind in ("step", "least step")]
+        return [micros(one) for one in (found[0].mean, found[1].longest)] if all(found) else []
+
     first = figures.of("least")[0]
     said = (f"On one thread, without the machine's noise (the least of {first.runs} runs of each "
             f"command), the longest of {first.commands:,} commands took, beside {lives} live "
-            f"objects, in µs: {listed(figures, least)}. On four threads, with the noise, so many of "
-            f"a million took longer than 10 µs: {listed(figures, on_many)}.")
-    return textwrap.wrap(said, 100, break_long_words=False, break_on_hyphens=False)
+            f"objects, in µs: {listed(figures, figures.heaps, least)}.")
+    ratios = beside_best(figures)
+    if ratios:
+        said += (f" That of rtheap is {' and '.join(ratios)} times that of the best other "
+                 "collector so measured; the aim was a tenth.")
+    said += (" On four threads, with the noise, so many of a million took longer than 10 µs: "
+             f"{listed(figures, figures.heaps, on_many)}. A step of a control loop took on "
+             "average, and at most without the noise, in µs: "
+             f"{listed(figures, figures.heaps, steps)}.")
+    return wrapped(said)
+
+
+def short(figures):
+    """The first figures of the result, of the collectors."""
+    first = figures.of("least")[0]
+    lives = " and ".join(f"{live:,}" for live in figures.lives)
+
+    def least(heap):
+        return [micros(time) for time in least_longest(figures, heap)]
+
+    return wrapped(
+        f"The longest of {first.commands:,} commands beside {lives} live objects, on one thread, "
+        f"as the least of {first.runs} runs, in µs: "
+        f"{listed(figures, ('rtheap', 'malloc', *COLLECTORS), least)}.")
 
 
 # ---- picture
@@ -292,9 +335,9 @@ STYLES = {
     "Java, G1": ("#a06000", "6 3", "square"),
     "Java, Z": ("#a06000", "2 3", "circle"),
 }
-POWERS = "1 ns", "10 ns", "100 ns", "1 µs", "10 µs", "0.1 ms", "1 ms", "10 ms", "0.1 s"
+POWERS = "1 ns", "10 ns", "0.1 µs", "1 µs", "10 µs", "0.1 ms", "1 ms", "10 ms", "0.1 s", "1 s"
 WIDTH, HEIGHT, PLOT, TALL = 1180, 860, 310, 290
-LEAST_TIME, MOST_TIME, LEAST_SHARE = 1, 8, -8  # powers of ten, of ns and of the share
+LEAST_TIME, MOST_TIME, LEAST_SHARE = 1, 9, -8  # powers of ten, of ns and of the share
 
 
 def mark(shape, x, y, colour):
@@ -378,15 +421,14 @@ def picture(figures):
     for row, live in enumerate(figures.lives):
         for column, (kind, threads) in enumerate((("all", 1), ("least", 1), ("all", MANY))):
             curves = figures.of(kind, threads, live)
-            what = (f"the least of {curves[0].runs} runs of each command" if kind == "least"
-                    else "as measured")
+            what = f"the least of {curves[0].runs} runs" if kind == "least" else "as measured"
             panel = Panel(70 + column * (PLOT + 70), 80 + row * (TALL + 70),
                           f"{threads_said(threads)}, {live:,} live: {what}")
             for curve in sorted(curves, key=lambda one: one.heap.startswith("rtheap")):
                 panel.draw(curve)
             parts += panel.parts
     parts += legend(figures, 80 + len(figures.lives) * (TALL + 70))
-    said = " ".join([*result(figures), *figures.machine[:1]])
+    said = " ".join([*result(figures), figures.machine[0]])
     yield (f'<svg xmlns="http://www.w3.org/2000/svg" viewBox="0 0 {WIDTH} {HEIGHT}" role="img" '
            'font-family="sans-serif">')
     yield "<title>How often a command takes longer than a time</title>"
@@ -399,7 +441,7 @@ def picture(figures):
 def main(words):
     if words[:1] == ["measure"] and len(words) >= 7:
         return measure(*words[1:])
-    says = {"text": text, "result": result, "picture": picture}
+    says = {"text": text, "result": result, "short": short, "picture": picture}
     if len(words) != 2 or words[0] not in says:
         sys.exit(__doc__.strip())
     print("\n".join(says[words[0]](Figures(words[1]))))
