@@ -242,33 +242,56 @@ def text(figures):
 
 # How sentences call heaps, where not by their names.
 SAID = {"rtheap, shared": "`shared_heap`", "never frees": "a program that never frees",
-        "malloc": "`malloc`", "Lua script": "a script in Lua",
-        "Boehm, incremental": "Boehm incremental", "Java, Serial": "Java's Serial",
-        "Java, G1": "G1", "Java, Z": "ZGC"}
+        "malloc": "`malloc`", "Lua script": "a script in Lua", "Boehm": "Boehm's collector"}
 COLLECTORS = "Lua", "Boehm"  # of which the least of all runs is known
 
 
+def both(values):
+    return " and ".join(values)
+
+
 def listed(figures, heaps, what):
-    """`rtheap 1 and 2, malloc 3 and 4`: what a figure is of each of the heaps that has it."""
-    parts = []
-    for heap in heaps:
-        found = what(heap)
-        if found:
-            parts.append(f"{SAID.get(heap, heap)} {' and '.join(found)}")
-    return ", ".join(parts)
+    """`rtheap 8.0 and 8.1, malloc 0.5 and 0.6`: a figure of each of the heaps that has it."""
+    found = [(SAID.get(heap, heap), what(figures, heap)) for heap in heaps]
+    return ", ".join(f"{name} {both(values)}" for name, values in found if values)
+
+
+def of_lives(figures, kind, threads, heap):
+    """The curves of a heap, for each number of live objects."""
+    found = [figures.curves.get((kind, threads, live, heap)) for live in figures.lives]
+    return [curve for curve in found if curve]
 
 
 def least_longest(figures, heap):
-    """The longest command of a heap as the least of all runs, for each number of live objects."""
-    found = [figures.curves.get(("least", 1, live, heap)) for live in figures.lives]
-    return [curve.longest for curve in found if curve]
+    return [micros(curve.longest) for curve in of_lives(figures, "least", 1, heap)]
+
+
+def late_on_many(figures, heap):
+    """How many of a million commands on four threads took longer than 10 us."""
+    return [beyond(curve, 10 ** 4) for curve in of_lives(figures, "all", MANY, heap)]
+
+
+def of_step(figures, heap):
+    """The mean of a step, and the longest as the least of all runs."""
+    step = figures.curves.get(("step", 1, 500, heap))
+    least = figures.curves.get(("least step", 1, 500, heap))
+    return [micros(step.mean), micros(least.longest)] if step and least else []
 
 
 def beside_best(figures):
     """How many times as long as that of the best other collector the longest of rtheap is."""
-    others = [least_longest(figures, heap) for heap in COLLECTORS if heap in figures.heaps]
-    own = least_longest(figures, "rtheap")
-    return [f"{one / min(rest):.2g}" for one, *rest in zip(own, *others) if rest]
+    own, *others = [[curve.longest for curve in of_lives(figures, "least", 1, heap)]
+                    for heap in ("rtheap", *COLLECTORS)]
+    ratios = [f"{one / min(rest):.2g}" for one, *rest in zip(own, *filter(None, others)) if rest]
+    return (f" That of rtheap is {both(ratios)} times that of the best other collector so "
+            "measured; the aim was a tenth." if ratios else "")
+
+
+def longest_said(figures, heaps):
+    first = figures.of("least")[0]
+    return (f"the longest of {first.commands:,} commands beside "
+            f"{both(f'{live:,}' for live in figures.lives)} live objects took, in µs: "
+            f"{listed(figures, heaps, least_longest)}.")
 
 
 def wrapped(said):
@@ -277,46 +300,26 @@ def wrapped(said):
 
 def result(figures):
     """The result in some sentences, good or bad."""
-    lives = " and ".join(f"{live:,}" for live in figures.lives)
-
-    def least(heap):
-        return [micros(time) for time in least_longest(figures, heap)]
-
-    def on_many(heap):
-        found = [figures.curves.get(("all", MANY, live, heap)) for live in figures.lives]
-        return [number_said(beyond(curve, 10 ** 4)) for curve in found if curve]
-
-    def steps(heap):
-        found = [figures.curves.get((kind, 1, 500, heap)) for kind in ("step", "least step")]
-        return [micros(one) for one in (found[0].mean, found[1].longest)] if all(found) else []
-
-    first = figures.of("least")[0]
-    said = (f"On one thread, without the machine's noise (the least of {first.runs} runs of each "
-            f"command), the longest of {first.commands:,} commands took, beside {lives} live "
-            f"objects, in µs: {listed(figures, figures.heaps, least)}.")
-    ratios = beside_best(figures)
-    if ratios:
-        said += (f" That of rtheap is {' and '.join(ratios)} times that of the best other "
-                 "collector so measured; the aim was a tenth.")
-    said += (" On four threads, with the noise, so many of a million took longer than 10 µs: "
-             f"{listed(figures, figures.heaps, on_many)}. A step of a control loop took on "
-             "average, and at most without the noise, in µs: "
-             f"{listed(figures, figures.heaps, steps)}.")
+    runs = figures.of("least")[0].runs
+    others = [count for heap in figures.heaps if heap not in ("rtheap, shared", "never frees")
+              for count in late_on_many(figures, heap)]
+    own, idle = [both(map(number_said, late_on_many(figures, heap)))
+                 for heap in ("rtheap, shared", "never frees")]
+    said = (f"On one thread, without the machine's noise (the least of {runs} runs of each "
+            f"command), {longest_said(figures, ('rtheap', *COLLECTORS, 'malloc', 'never frees'))}"
+            f"{beside_best(figures)} On four threads, with the noise, {own} of a million commands "
+            f"took longer than 10 µs on `shared_heap`, {idle} in a program that never frees, "
+            f"{number_said(min(others))} to {number_said(max(others))} on the other heaps. A step "
+            "of a control loop took on average, and at most without the noise, in µs: "
+            f"{listed(figures, ('rtheap', 'Lua', 'Lua script', 'Boehm', 'malloc'), of_step)}.")
     return wrapped(said)
 
 
 def short(figures):
-    """The first figures of the result, of the collectors."""
-    first = figures.of("least")[0]
-    lives = " and ".join(f"{live:,}" for live in figures.lives)
-
-    def least(heap):
-        return [micros(time) for time in least_longest(figures, heap)]
-
-    return wrapped(
-        f"The longest of {first.commands:,} commands beside {lives} live objects, on one thread, "
-        f"as the least of {first.runs} runs, in µs: "
-        f"{listed(figures, ('rtheap', 'malloc', *COLLECTORS), least)}.")
+    """The first figures of the result."""
+    runs = figures.of("least")[0].runs
+    return wrapped(f"On one thread, as the least of {runs} runs, "
+                   + longest_said(figures, ("rtheap", *COLLECTORS, "malloc")))
 
 
 # ---- picture
