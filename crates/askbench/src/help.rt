@@ -21,4 +21,4 @@ The numbers are decimal. The program runs only once it is built (--build), since
 takes up to 280 times as long. Scripts of bench/ run it.
 ";
 
-pub const VERSION: &str = "askbench 0.1.0\n";
+pub const VERSION: &str = "askbench 0.1.0-dev\n";

@@ -1,4 +1,4 @@
-//! What a handle owns.
+//! `Owned`: a heap of one thread, a group of workers, or a worker, which a handle of C owns.
 
 ghost use Rattle.std.specs.Prelude.{◌≡◌, ◌<◌, ℕ, length, slice_index_or};
 ghost use Rattle.std.specs.Arc.{arc_value};

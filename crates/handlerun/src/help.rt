@@ -7,4 +7,4 @@ usage: handlerun < SCRIPT   keeps handles in slots of a heap that the script's t
 Scripts are described in docs/TOOLS.md, \"handlerun\"; examples/ has one to begin with.
 ";
 
-pub const VERSION: &str = "handlerun 0.1.0\n";
+pub const VERSION: &str = "handlerun 0.1.0-dev\n";

@@ -1,5 +1,5 @@
-//! Two threads that meet: neither gets on unless the other runs beside it. And two that allocate
-//! over many cycles.
+//! Two threads on a `LockBoard` that meet: neither gets on unless the other runs beside it. And two
+//! that allocate over many cycles.
 
 ghost use Rattle.std.specs.Prelude.{◌<◌, map};
 ghost use Rattle.heap_system.specs.Machines.{IsJob};

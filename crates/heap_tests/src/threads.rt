@@ -1,6 +1,6 @@
-//! Two threads that meet: neither gets on unless the other runs beside it. Two and four threads
-//! that allocate over many cycles. And two threads that count together, or hand numbers on, by one
-//! shared element.
+//! Two threads on an `AtomBoard` that meet: neither gets on unless the other runs beside it. Two
+//! and four threads that allocate over many cycles. And two threads that count together, or hand
+//! numbers on, by one shared element.
 
 ghost use Rattle.std.specs.Prelude.{◌≡◌, true, map, IfOk};
 ghost use Rattle.heap_system.specs.Locals.{is_done};

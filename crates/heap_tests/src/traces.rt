@@ -1,4 +1,4 @@
-//! Traces for the tests.
+//! `trace_of`: a trace of commands, each repeated a number of times.
 
 ghost use Rattle.std.specs.Prelude.{IfOk};
 ghost use Rattle.never_heap.specs.Jobs.{IsTraceInBounds};

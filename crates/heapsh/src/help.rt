@@ -9,7 +9,7 @@ usage: heapsh          reads commands, one a line, and prints the reply to each
 The command help lists the commands.
 ";
 
-pub const VERSION: &str = "heapsh 0.1.0\n";
+pub const VERSION: &str = "heapsh 0.1.0-dev\n";
 
 pub const COMMANDS: &str = "\
 open 2 blocks 64 live 20 object 2 shared 0   opens a heap of version 2 (1: blocks of four words)

@@ -8,4 +8,4 @@ The first line has the low and the high limit, each other line one reading; all 
 refusal is the last line of the output: docs/TOOLS.md, \"historian\".
 ";
 
-pub const VERSION: &str = "historian 0.1.0\n";
+pub const VERSION: &str = "historian 0.1.0-dev\n";

@@ -10,4 +10,4 @@ several threads it is the most in this one order of their commands: another orde
 job's own live limit and number of blocks are not used. docs/TOOLS.md, \"livelimit\".
 ";
 
-pub const VERSION: &str = "livelimit 0.1.0\n";
+pub const VERSION: &str = "livelimit 0.1.0-dev\n";

@@ -7,4 +7,4 @@ usage: mailrun < JOB   runs a job of one or two threads, sends each number that 
 Jobs and lines are described in docs/TOOLS.md, \"mailrun\"; examples/ has a job to begin with.
 ";
 
-pub const VERSION: &str = "mailrun 0.1.0\n";
+pub const VERSION: &str = "mailrun 0.1.0-dev\n";

@@ -7,4 +7,4 @@ The input is a job and, behind its line `end`, the lines of an order, as `rtheap
 docs/FORMAT.md, \"Replays and orders\".
 ";
 
-pub const VERSION: &str = "ordercheck 0.1.0\n";
+pub const VERSION: &str = "ordercheck 0.1.0-dev\n";

@@ -11,4 +11,4 @@ one order, then their figures. bench/plantrun makes readings, and judges the out
 A refusal is the one line of the output: docs/TOOLS.md, \"plantrun\".
 ";
 
-pub const VERSION: &str = "plantrun 0.1.0\n";
+pub const VERSION: &str = "plantrun 0.1.0-dev\n";

@@ -15,4 +15,4 @@ T is at most 1,000,000,000, LINES at most 131,072, and a KEY a number of at most
 replies and refusals are described in docs/FORMAT.md; examples/ has jobs to begin with.
 ";
 
-pub const VERSION: &str = "rtheap 0.1.0\n";
+pub const VERSION: &str = "rtheap 0.1.0-dev\n";

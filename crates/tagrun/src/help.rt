@@ -7,4 +7,4 @@ usage: tagrun < SCRIPT   keeps a table of tags on a heap that the script's threa
 Scripts are described in docs/TOOLS.md, \"tagrun\"; examples/ has one to begin with.
 ";
 
-pub const VERSION: &str = "tagrun 0.1.0\n";
+pub const VERSION: &str = "tagrun 0.1.0-dev\n";

@@ -1,4 +1,4 @@
-//! Stamps of the workers of a shared heap.
+//! Drawing a stamp for a handle's worker, and following one that another drew.
 
 ghost use Rattle.std.specs.Prelude.{◌≡◌, Some};
 ghost use Rattle.shared_heap.specs.Stamps.{HasDrawn};

@@ -1,4 +1,5 @@
-//! The calls of a worker of a shared heap.
+//! Starting and polling a command of a handle's worker, closing the handle, and what of its life is
+//! left.
 
 ghost use Rattle.std.specs.Prelude.{◌≡◌, Some, None};
 ghost use Rattle.control_heap_c.specs.declared.owned.Owned.TheVariants as owned;

@@ -1,4 +1,4 @@
-//! Calls of `rt_mail`.
+//! Calls of `rt_mail`: posts of one or two senders, and whole jobs.
 
 ghost use Rattle.std.specs.Prelude.{◌≡◌, ◌≤◌, length, IfOk, IsSome, OnOk};
 ghost use Rattle.rate_plan.specs.Rates.{IsAdmitted};
