@@ -65,10 +65,10 @@ refused one changes nothing. All requests have one legal history with exact work
     Promise("saved", "Heaps saved, loaded and renewed", """
 A heap renewed, or loaded from what was saved, shows the graph of its source up to names,
 also where the source went on and each of its commands was noted. Bytes without a picture
-are refused.""",
+are refused. What was saved for a configuration is loaded in it unless memory runs out.""",
             ["saved_heap::Reading::finish", "saved_heap::Renewal::follow",
              "saved_heap::Renewal::finish", "saved_heap::renew",
-             "saved_heap::save", "saved_heap::load"]),
+             "saved_heap::save", "saved_heap::save_for", "saved_heap::load"]),
     Promise("shared", "Heap of several threads", """
 Between any two steps the answers so far fit one legal history with exact work, in which each `full`
 is licensed; at `close` there is that of the whole life. What a worker has seen comes before each

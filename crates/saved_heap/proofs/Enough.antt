@@ -1,6 +1,6 @@
 -- A configuration that allows what a picture needs fails to build it only for memory.
-use Rattle.std.proofs.Common.{◌≡◌, ℕ, zero, suc, ◌+◌, ◌*◌, ◌<◌, ◌≤◌, ◌^◌, ◌⊎◌, Bool, true, false, inl, inr, IfOk, Result, Ok, Err, List, [], ◌∷◌, length, take, get_or, refl, sym, ap, ◌∙◌, subst, arith}
-use Rattle.std.specs.List.{AllByRecursion, sum_by}
+use Rattle.std.proofs.Common.{◌≡◌, ℕ, zero, suc, ◌+◌, ◌*◌, ◌<◌, ◌≤◌, Bool, true, false, inl, inr, Result, Ok, List, [], ◌∷◌, length, take, get_or, refl, sym, ap, ◌∙◌, subst, arith}
+use Rattle.std.specs.List.{AllByRecursion}
 use Rattle.std.proofs.lemmas.Bool.{both_ways, cases_lt}
 use Rattle.std.proofs.lemmas.Nat.{mul-le}
 use Rattle.block_store.specs.declared.Config.{Config}
@@ -18,19 +18,19 @@ use Rattle.never_heap.specs.Bounds.{IsCommandInBounds}
 use Rattle.never_heap.specs.Graphs.{Graph, start_graph}
 use Rattle.never_heap.specs.Histories.{Started, Legal, is_full, replay}
 use Rattle.never_heap.specs.Licensed.{Licensed}
-use Rattle.never_heap.specs.LiveBlocks.{live_blocks, object_blocks}
-use Rattle.never_heap.specs.RightWork.{RightWork, units_owed}
+use Rattle.never_heap.specs.LiveBlocks.{live_blocks}
+use Rattle.never_heap.specs.RightWork.{units_owed}
 use Rattle.never_heap.specs.Steps.{blocks_of, makes_object, step}
 use Rattle.never_heap.proofs.Lemmas.{step_not_full}
-use Rattle.heap_system.specs.Lives.{objects_of, sum_after, most_commands, most_objects, most_units}
+use Rattle.heap_system.specs.Lives.{objects_of, sum_after}
 use Rattle.heap_system.specs.Machines.{Run}
-use Rattle.saved_heap.specs.heap_pictures.Needs.{Meets, needs_of, table_blocks}
+use Rattle.saved_heap.specs.heap_pictures.Needs.{needs_of}
 use Rattle.saved_heap.specs.heap_pictures.Pictures.{Content, is_sound}
 use Rattle.saved_heap.specs.heap_pictures.Plans.{plan_of}
 use Rattle.control_heap.specs.declared.control.OpenFault.TheVariants as opening
 use Rattle.control_heap.specs.declared.control.Refused.{Refused}
-use Rattle.control_heap.specs.Controls.{CanOpen, Control, HasAnswered, HasLeft, Stands, asked, units}
-use Rattle.control_heap.specs.Refusals.{IsOpenFault, IsRefused}
+use Rattle.control_heap.specs.Controls.{CanOpen, Control, HasAnswered, Stands}
+use Rattle.control_heap.specs.Refusals.{IsRefused}
 use Rattle.control_heap.specs.graph_view.RunsOfCommands.{HasDone, HasDoneAll, HasRoomFor, RefusesOne}
 use Rattle.control_heap.specs.graph_view.ShownGraph.{AllAreSmall, HasMetNoFull, IsSmall, StaySmall}
 use Rattle.control_heap.proofs.graph_view.GraphAnswers.{never_ok}
@@ -39,8 +39,8 @@ use Rattle.saved_heap.specs.declared.faults.CopyFault.TheVariants as copy_faults
 use Rattle.saved_heap.specs.declared.faults.RenewFault.{RenewFault}
 use Rattle.saved_heap.specs.declared.faults.RenewFault.TheVariants as renew_faults
 use Rattle.saved_heap.specs.Enough.{IsEnough, IsOutOfMemory}
-use Rattle.saved_heap.specs.Faults.{CannotBuild, AreAllowed, IsRenewFault, StopsBuilding}
-use Rattle.saved_heap.specs.Renewals.{HasBuilt, IsOpened}
+use Rattle.saved_heap.specs.Faults.{CannotBuild, AreAllowed, StopsBuilding}
+use Rattle.saved_heap.specs.Renewals.{IsOpened}
 use Rattle.saved_heap.proofs.PlanTakes.{Takes, plan_blocks, plan_takes, planned_low}
 
 -- ---- the laws that are used

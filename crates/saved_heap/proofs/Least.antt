@@ -1,18 +1,16 @@
 -- Configurations that are raised to what a picture needs.
-use Rattle.std.proofs.Common.{◌≡◌, ℕ, ◌+◌, ◌*◌, ◌<◌, ◌≤◌, max, true, false, Option, Some, None, IfSome, IfNone, List, length, refl, sym, ap, ◌∙◌, subst, arith}
-use Rattle.std.specs.List.{sum_by}
+use Rattle.std.proofs.Common.{◌≡◌, ℕ, ◌+◌, ◌*◌, ◌<◌, ◌≤◌, max, true, Option, Some, None, IfSome, IfNone, refl, sym, ap, ◌∙◌, subst, arith}
 use Rattle.block_store.specs.declared.Config.{Config}
 use Rattle.block_store.specs.declared.Width.{Width}
 use Rattle.block_store.specs.declared.Width.TheVariants.{Four, Eight}
 use Rattle.block_store.specs.Registers.{registers_end}
 use Rattle.block_store.specs.Widths.{payloads}
 use Rattle.array_trees.specs.Trees.{array_blocks, leaves, tree, IsTree}
-use Rattle.never_heap.specs.LiveBlocks.{object_blocks}
 use Rattle.saved_heap.specs.declared.heap_pictures.needs.Needs.{Needs}
-use Rattle.saved_heap.specs.heap_pictures.Needs.{IsRaised, Meets, needs_of, table_blocks}
+use Rattle.saved_heap.specs.heap_pictures.Needs.{IsRaised, Meets, needs_of}
 use Rattle.saved_heap.specs.heap_pictures.Pictures.{Content, is_sound}
 use Rattle.control_heap.specs.Controls.{CanOpen}
-use Rattle.saved_heap.specs.Enough.{SomeIsEnough, HasRoom, IsEnough, IsNoLarger}
+use Rattle.saved_heap.specs.Enough.{HasRoom, IsEnough, IsNoLarger}
 
 pub raised_enough : (c d : Config) (p : Content) → HasRoom c → is_sound p ≡ true → IsRaised c (needs_of c.width c.shared p) d → IsEnough d p
 raised_enough c d p room sound is =

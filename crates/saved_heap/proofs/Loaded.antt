@@ -13,7 +13,9 @@ use Rattle.saved_heap.proofs.heap_pictures.ReadAgain.{saved_again}
 use Rattle.control_heap.specs.Controls.{Control}
 use Rattle.saved_heap.specs.declared.faults.RenewFault.{RenewFault}
 use Rattle.saved_heap.specs.declared.faults.RenewFault.TheVariants as renew_faults
-use Rattle.saved_heap.specs.Faults.{CannotBuild, CannotRenew}
+use Rattle.saved_heap.specs.declared.faults.NotSaved.{NotSaved}
+use Rattle.saved_heap.specs.declared.faults.NotSaved.TheVariants as not_saved
+use Rattle.saved_heap.specs.Faults.{CannotBuild, CannotRenew, IsLacking, IsNotSavedFor}
 use Rattle.saved_heap.specs.SearchOrder.{IsInOrder}
 use Rattle.saved_heap.specs.Renewals.{IsBuilt, IsBuiltFrom, IsPictureOf, ShowOneGraph, ShowsUpToNames}
 
@@ -66,3 +68,10 @@ renewed_not from c p (Err (renew_faults.TooManyObjects n)) pictured order cannot
 renewed_not from c p (Err (renew_faults.ObjectTooLarge n m)) pictured order cannot = (p, pictured, order, cannot)
 renewed_not from c p (Err (renew_faults.LiveTooSmall n l y)) pictured order cannot = (p, pictured, order, cannot)
 renewed_not from c p (Err (renew_faults.Copy f)) pictured order cannot = (p, pictured, order, cannot)
+
+-- what a configuration lacks for the picture of a heap is why the heap is not saved for it
+pub lacking : (c : Config) (h : Control) (p : Content) (f : NotSaved) → IsPictureOf h p → IsInOrder p → IsLacking c p f → IsNotSavedFor c h f
+lacking c h p not_saved.NoMemory pictured order lacks = tt
+lacking c h p (not_saved.TooLarge n) pictured order lacks = (p, pictured, order, lacks)
+lacking c h p (not_saved.Open f) pictured order lacks = (p, pictured, order, lacks)
+lacking c h p (not_saved.NotEnough n) pictured order lacks = (p, pictured, order, lacks)

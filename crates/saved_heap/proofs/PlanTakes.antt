@@ -1,11 +1,10 @@
 -- What the commands of a plan take: their bounds, blocks, units, and how many they are.
-use Rattle.std.proofs.Common.{◌≡◌, ℕ, zero, suc, ◌+◌, ◌*◌, ◌<◌, ◌≤◌, ◌^◌, ◌&&◌, max, true, leb, ltb, eqb, List, [], ◌∷◌, ◌++◌, length, get_or, drop, refl, sym, ap, ◌∙◌, subst, arith}
+use Rattle.std.proofs.Common.{◌≡◌, ℕ, suc, ◌+◌, ◌*◌, ◌<◌, ◌≤◌, ◌^◌, max, true, leb, List, [], ◌∷◌, ◌++◌, length, refl, sym, ap, ◌∙◌, subst, arith}
 use Rattle.std.specs.List.{AllByRecursion, list_all, sum_by}
 use Rattle.std.proofs.Math.Nat.{mul-add}
 use Rattle.std.proofs.lemmas.Bool.{and_parts, leb-true, ltb-true}
 use Rattle.std.proofs.lemmas.List.Sums.{sum_by-cons}
 use Rattle.block_store.specs.declared.Config.{Config}
-use Rattle.block_store.specs.declared.Width.{Width}
 use Rattle.block_store.specs.declared.Value.{Value}
 use Rattle.block_store.specs.declared.Value.TheVariants.{Nil, Int, Ref}
 use Rattle.never_heap.specs.declared.Command.{Command}
@@ -15,7 +14,7 @@ use Rattle.never_heap.specs.Graphs.{Object, ObjectKind, Record, Array}
 use Rattle.never_heap.specs.LiveBlocks.{blocks_of_kind, object_blocks}
 use Rattle.never_heap.specs.RightWork.{units_owed, requested_units}
 use Rattle.never_heap.specs.Steps.{blocks_of}
-use Rattle.heap_system.specs.Lives.{objects_of, sum_after}
+use Rattle.heap_system.specs.Lives.{sum_after}
 use Rattle.saved_heap.specs.heap_pictures.Needs.{largest, table_blocks}
 use Rattle.saved_heap.specs.heap_pictures.Pictures.{Content, are_within, is_item, is_sound, is_within}
 use Rattle.saved_heap.specs.heap_pictures.Plans.{all_loads, fills, load, loads, make, make_of, make_table, makes, plan_of, store, stores}

@@ -1,5 +1,5 @@
 -- When each fault comes, and the printed texts.
-use Rattle.std.specs.Prelude.{ℕ, ◌<◌, ◌≡◌, false, List, length, slice_index_or, take, codes, Ok, Err}
+use Rattle.std.specs.Prelude.{ℕ, ◌<◌, ◌≡◌, ◌++◌, false, List, length, slice_index_or, take, codes, decimal, Ok, Err}
 use Rattle.std.specs.List.{AllByRecursion}
 use Rattle.block_store.specs.declared.Config.{Config}
 use Rattle.never_heap.specs.declared.Command.{Command}
@@ -7,12 +7,12 @@ use Rattle.never_heap.specs.declared.Reply.TheVariants.{Full as FullReply}
 use Rattle.never_heap.specs.Bounds.{IsCommandInBounds}
 use Rattle.never_heap.specs.Graphs.{Graph}
 use Rattle.saved_heap.specs.heap_pictures.Faults.{save_fault_text}
-use Rattle.saved_heap.specs.heap_pictures.Needs.{needs_of}
+use Rattle.saved_heap.specs.heap_pictures.Needs.{Meets, needs_of}
 use Rattle.saved_heap.specs.heap_pictures.Pictures.{Content, is_sound}
 use Rattle.saved_heap.specs.heap_pictures.Plans.{plan_of}
 use Rattle.saved_heap.specs.heap_pictures.Reading.{picture_at}
 use Rattle.control_heap.specs.Calls.{refused_text}
-use Rattle.control_heap.specs.Controls.{Control, HasAnswered}
+use Rattle.control_heap.specs.Controls.{CanOpen, Control, HasAnswered}
 use Rattle.control_heap.specs.Refusals.{IsOpenFault, IsRefused, open_fault_text}
 use Rattle.control_heap.specs.graph_view.RunsOfCommands.{HasDone}
 use Rattle.control_heap.specs.graph_view.ShownGraph.{Leaves}
@@ -95,6 +95,22 @@ IsNotSaved h not_saved.NoMemory = Unit {0}
 IsNotSaved h (not_saved.TooLarge n) =
     (p : Content) × IsPictureOf h p × IsInOrder p × (n ≡ length p.objects)
     × (SomeIsEnough p → ⊥)
+IsNotSaved h (not_saved.Open f) = ⊥
+IsNotSaved h (not_saved.NotEnough n) = ⊥
+
+-- Why a configuration is not enough for a picture: it cannot be opened, or does not allow what the
+-- picture needs, or there is none that is enough.
+abbrev pub IsLacking : Config → Content → NotSaved → Type 0
+IsLacking c p not_saved.NoMemory = ⊥
+IsLacking c p (not_saved.TooLarge n) = (n ≡ length p.objects) × (SomeIsEnough p → ⊥)
+IsLacking c p (not_saved.Open f) = IsOpenFault c f × (CanOpen c → ⊥)
+IsLacking c p (not_saved.NotEnough n) = (n ≡ needs_of c.width c.shared p) × (Meets c n → ⊥)
+
+-- Why a heap is not saved for a configuration: of memory nothing is said, or the configuration is
+-- not enough for its picture, which has no other objects.
+abbrev pub IsNotSavedFor : Config → Control → NotSaved → Type 0
+IsNotSavedFor c h not_saved.NoMemory = Unit {0}
+IsNotSavedFor c h f = (p : Content) × IsPictureOf h p × IsInOrder p × IsLacking c p f
 
 -- why bytes cannot be loaded
 abbrev pub IsLoadFault : List ℕ → Config → LoadFault → Type 0
@@ -131,7 +147,7 @@ renew_fault_text renew_faults.Unsound = codes "the picture is not that of a heap
 renew_fault_text (renew_faults.TooManyObjects n) =
     codes "more than 65,534 objects; keep fewer, in larger ones"
 renew_fault_text (renew_faults.ObjectTooLarge needed most) =
-    codes "an object, or the table of all, is too large; raise `object` (at most 1024)"
+    codes "an object, or the table of all, is too large; raise `object`, up to 1024"
 renew_fault_text (renew_faults.LiveTooSmall needed live cycle) =
     codes "more is live while the picture is built than the limit; raise `live` and `blocks`"
 renew_fault_text (renew_faults.Copy f) = copy_fault_text f
@@ -140,7 +156,43 @@ abbrev pub not_saved_text : NotSaved → List ℕ
 not_saved_text not_saved.NoMemory = codes "memory ran out; free memory"
 not_saved_text (not_saved.TooLarge n) =
     codes "no configuration is sure to hold the objects and a table of them; keep fewer"
+not_saved_text (not_saved.Open f) = open_fault_text f
+not_saved_text (not_saved.NotEnough n) =
+    codes "the configuration allows less than the objects need; raise it"
 
 abbrev pub load_fault_text : LoadFault → List ℕ
 load_fault_text (load_faults.Bytes f) = save_fault_text f
 load_fault_text (load_faults.Build f) = renew_fault_text f
+
+-- ---- the texts with their numbers
+
+abbrev pub with_numbers : List ℕ → ℕ → ℕ → List ℕ
+with_numbers text needed allowed =
+    text ++ codes " (needed " ++ decimal needed ++ codes ", allowed " ++ decimal allowed
+    ++ codes ")"
+
+abbrev pub with_objects : List ℕ → ℕ → List ℕ
+with_objects text n = text ++ codes " (" ++ decimal n ++ codes " objects)"
+
+abbrev pub with_needs : List ℕ → ℕ → ℕ → List ℕ
+with_needs text object live =
+    text ++ codes " (object " ++ decimal object ++ codes ", live " ++ decimal live ++ codes ")"
+
+abbrev pub renew_fault_printed : RenewFault → List ℕ
+renew_fault_printed (renew_faults.TooManyObjects n) =
+    with_numbers (renew_fault_text (renew_faults.TooManyObjects n)) n 65534
+renew_fault_printed (renew_faults.ObjectTooLarge needed most) =
+    with_numbers (renew_fault_text (renew_faults.ObjectTooLarge needed most)) needed most
+renew_fault_printed (renew_faults.LiveTooSmall needed live cycle) =
+    with_numbers (renew_fault_text (renew_faults.LiveTooSmall needed live cycle)) needed live
+renew_fault_printed f = renew_fault_text f
+
+abbrev pub not_saved_printed : NotSaved → List ℕ
+not_saved_printed (not_saved.TooLarge n) = with_objects (not_saved_text (not_saved.TooLarge n)) n
+not_saved_printed (not_saved.NotEnough n) =
+    with_needs (not_saved_text (not_saved.NotEnough n)) n.object n.live
+not_saved_printed f = not_saved_text f
+
+abbrev pub load_fault_printed : LoadFault → List ℕ
+load_fault_printed (load_faults.Bytes f) = save_fault_text f
+load_fault_printed (load_faults.Build f) = renew_fault_printed f

@@ -1,9 +1,10 @@
-//! Why a heap could not be loaded or renewed, and the printed texts of the causes.
+//! Why a heap could not be saved, loaded or renewed, and the printed texts of the causes.
 
-ghost use Rattle.std.specs.Prelude.{◌≡◌};
-ghost use Rattle.saved_heap.specs.Faults.{copy_fault_text, load_fault_text, not_saved_text, on_fault_text, renew_fault_text};
+ghost use Rattle.std.specs.Prelude.{◌≡◌, Some};
+ghost use Rattle.std.specs.Fmt.{DisplaysOnOk};
+ghost use Rattle.saved_heap.specs.Faults.{copy_fault_text, load_fault_text, not_saved_text, on_fault_text, renew_fault_text, with_needs, with_numbers, with_objects};
 
-use crate::heap_pictures::SaveFault;
+use crate::heap_pictures::{Needs, SaveFault};
 use block_store::OutOfMemory;
 use control_heap::{OpenFault, Refused};
 use std::error::Error;
@@ -73,6 +74,10 @@ pub enum NotSaved {
         /// How many objects there are.
         objects: u64,
     },
+    /// The configuration to load them into cannot be opened.
+    Open(OpenFault),
+    /// The configuration to load them into does not allow what they need.
+    NotEnough(Needs),
 }
 
 /// Why bytes could not be loaded.
@@ -169,7 +174,7 @@ impl RenewFault {
             RenewFault::TooManyObjects { .. } =>
                 "more than 65,534 objects; keep fewer, in larger ones",
             RenewFault::ObjectTooLarge { .. } =>
-                "an object, or the table of all, is too large; raise `object` (at most 1024)",
+                "an object, or the table of all, is too large; raise `object`, up to 1024",
             RenewFault::LiveTooSmall { .. } =>
                 "more is live while the picture is built than the limit; raise `live` and `blocks`",
             RenewFault::Copy(fault) => fault.text(),
@@ -179,13 +184,34 @@ impl RenewFault {
 
 impl fmt::Display for RenewFault {
     ghost use Rattle.std.specs.Prelude.{Some};
-    ghost use Rattle.saved_heap.specs.Faults.{renew_fault_text};
+    ghost use Rattle.saved_heap.specs.Faults.{renew_fault_printed};
 
-    ghost output = { λ fault. Some (renew_fault_text fault) };
+    ghost output = { λ fault. Some (renew_fault_printed fault) };
 
     fn fmt<W: fmt::Write>(&self, f: &mut fmt::Formatter<W>) -> fmt::Result {
-        f.write_str(self.text())
+        let text = self.text();
+        match *self {
+            RenewFault::TooManyObjects { objects } => write_numbers(f, text, objects, 65_534),
+            RenewFault::ObjectTooLarge { needed, most } => {
+                write_numbers(f, text, u64::from(needed), most)
+            }
+            RenewFault::LiveTooSmall { needed, live, .. } => write_numbers(f, text, needed, live),
+            _ => f.write_str(text),
+        }
     }
+}
+
+// Writes a text, with what is needed and what is allowed.
+fn write_numbers<W: fmt::Write>(
+    f: &mut fmt::Formatter<W>,
+    text: &str,
+    needed: u64,
+    allowed: u32,
+) -> fmt::Result
+    ensures { DisplaysOnOk W.write_str_gives f.old result
+        (Some (with_numbers text.now needed allowed)) f.new }
+{
+    write!(f, "{text} (needed {needed}, allowed {allowed})")
 }
 
 impl Error for RenewFault {}
@@ -210,19 +236,48 @@ impl NotSaved {
             NotSaved::NoMemory => "memory ran out; free memory",
             NotSaved::TooLarge { .. } =>
                 "no configuration is sure to hold the objects and a table of them; keep fewer",
+            NotSaved::Open(fault) => fault.text(),
+            NotSaved::NotEnough(_) =>
+                "the configuration allows less than the objects need; raise it",
         }
     }
 }
 
 impl fmt::Display for NotSaved {
     ghost use Rattle.std.specs.Prelude.{Some};
-    ghost use Rattle.saved_heap.specs.Faults.{not_saved_text};
+    ghost use Rattle.saved_heap.specs.Faults.{not_saved_printed};
 
-    ghost output = { λ fault. Some (not_saved_text fault) };
+    ghost output = { λ fault. Some (not_saved_printed fault) };
 
     fn fmt<W: fmt::Write>(&self, f: &mut fmt::Formatter<W>) -> fmt::Result {
-        f.write_str(self.text())
+        let text = self.text();
+        match *self {
+            NotSaved::TooLarge { objects } => write_objects(f, text, objects),
+            NotSaved::NotEnough(needs) => write_needs(f, text, needs.object, needs.live),
+            _ => f.write_str(text),
+        }
     }
+}
+
+// Writes a text, with how many objects there are.
+fn write_objects<W: fmt::Write>(f: &mut fmt::Formatter<W>, text: &str, objects: u64) -> fmt::Result
+    ensures { DisplaysOnOk W.write_str_gives f.old result
+        (Some (with_objects text.now objects)) f.new }
+{
+    write!(f, "{text} ({objects} objects)")
+}
+
+// Writes a text, with what is needed.
+fn write_needs<W: fmt::Write>(
+    f: &mut fmt::Formatter<W>,
+    text: &str,
+    object: u32,
+    live: u64,
+) -> fmt::Result
+    ensures { DisplaysOnOk W.write_str_gives f.old result
+        (Some (with_needs text.now object live)) f.new }
+{
+    write!(f, "{text} (object {object}, live {live})")
 }
 
 impl Error for NotSaved {}
@@ -241,12 +296,15 @@ impl LoadFault {
 
 impl fmt::Display for LoadFault {
     ghost use Rattle.std.specs.Prelude.{Some};
-    ghost use Rattle.saved_heap.specs.Faults.{load_fault_text};
+    ghost use Rattle.saved_heap.specs.Faults.{load_fault_printed};
 
-    ghost output = { λ fault. Some (load_fault_text fault) };
+    ghost output = { λ fault. Some (load_fault_printed fault) };
 
     fn fmt<W: fmt::Write>(&self, f: &mut fmt::Formatter<W>) -> fmt::Result {
-        f.write_str(self.text())
+        match self {
+            LoadFault::Bytes(fault) => f.write_str(fault.text()),
+            LoadFault::Build(fault) => write!(f, "{fault}"),
+        }
     }
 }
 

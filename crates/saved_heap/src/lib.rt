@@ -17,5 +17,5 @@ pub use heap_pictures::{
 pub use needs::{least_config, needs_of, raised_is_enough};
 pub use recorded_heap::{Ended, RecordFault, Recorder};
 pub use renewal::{Behind, NotBegun, Renewal, build, needs_are_enough, renew};
-pub use saves::{load, save};
+pub use saves::{load, save, save_for};
 pub use walk::{Reading, picture_of};

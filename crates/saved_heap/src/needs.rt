@@ -1,18 +1,21 @@
 //! Configurations in which pictures can be built.
 
-ghost use Rattle.std.specs.Prelude.{◌≡◌, ◌≤◌, true, false, Ok, IfOk, IfErr, IfSome, IfNone};
+ghost use Rattle.std.specs.Prelude.{◌≡◌, ◌≤◌, true, false, Ok, OnOk, IfOk, IfErr, IfSome, IfNone};
 ghost use Rattle.block_store.specs.declared.Config.{Config};
 ghost use Rattle.saved_heap.specs.heap_pictures.Needs.{IsRaised, needs_of};
 ghost use Rattle.saved_heap.specs.heap_pictures.Pictures.{Content, content_of, is_sound};
 ghost use Rattle.saved_heap.specs.heap_pictures.Reading.{picture_at};
 ghost use Rattle.control_heap.specs.Controls.{CanOpen};
+ghost use Rattle.control_heap.specs.Refusals.{IsOpenFault};
 ghost use Rattle.saved_heap.specs.Enough.{SomeIsEnough, HasRoom, IsEnough, IsNoLarger};
-ghost use Rattle.saved_heap.specs.Faults.{IsNeedsFault};
+ghost use Rattle.saved_heap.specs.Faults.{IsLacking, IsNeedsFault};
 
 use crate::heap_pictures::{Needs, Picture, ReadError, decode};
-use crate::{LoadFault, RenewFault};
+use crate::{LoadFault, NotSaved, RenewFault};
 use array_trees::tree_counts;
 use block_store::{Config, Width};
+use control_heap::OpenFault;
+use rate_plan::{PlanFault, plan};
 use std::alloc::Global;
 
 /// A configuration for one thread with room for a cycle is enough for a picture once it is raised to
@@ -60,6 +63,45 @@ pub(crate) fn some_is_enough(picture: &Picture) -> bool
             Some(_) => true,
             None => false,
         },
+    }
+}
+
+// Whether a configuration can be opened, or why it cannot.
+fn can_open(c: &Config) -> Result<(), OpenFault>
+    ensures can { OnOk result (CanOpen c.now) }
+    ensures refused { IfErr result (λ f. IsOpenFault c.now f × (CanOpen c.now → ⊥)) }
+{
+    if !c.in_bounds() {
+        return Err(OpenFault::OutOfBounds);
+    }
+    if c.threads != 1 {
+        return Err(OpenFault::NotOneThread);
+    }
+    match plan(c) {
+        Ok(_) => Ok(()),
+        Err(PlanFault::LiveTooSmall) => Err(OpenFault::LiveTooSmall),
+        Err(PlanFault::NoRate) => Err(OpenFault::NoRate),
+    }
+}
+
+/// Whether a configuration is enough for a picture, or what it lacks.
+pub(crate) fn allows(c: &Config, picture: &Picture) -> Result<(), NotSaved>
+    requires { is_sound (content_of picture.now) ≡ true }
+    ensures enough { OnOk result (IsEnough c.now (content_of picture.now)) }
+    ensures refused { IfErr result (IsLacking c.now (content_of picture.now)) }
+{
+    if let Err(fault) = can_open(c) {
+        return Err(NotSaved::Open(fault));
+    }
+    let Some(needs) = picture.needs(c.width, c.shared) else {
+        return Err(NotSaved::TooLarge {
+            objects: picture.objects.len() as u64,
+        });
+    };
+    if needs.are_met(c) {
+        Ok(())
+    } else {
+        Err(NotSaved::NotEnough(needs))
     }
 }
 

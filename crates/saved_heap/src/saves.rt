@@ -7,12 +7,12 @@ ghost use Rattle.saved_heap.specs.heap_pictures.Spelling.{saved};
 ghost use Rattle.saved_heap.specs.heap_pictures.Reading.{picture_at};
 ghost use Rattle.control_heap.specs.Controls.{Control};
 ghost use Rattle.saved_heap.specs.Enough.{SomeIsEnough, IsEnough, IsLoadOutOfMemory};
-ghost use Rattle.saved_heap.specs.Faults.{IsLoadFault, IsNotSaved};
+ghost use Rattle.saved_heap.specs.Faults.{IsLoadFault, IsNotSaved, IsNotSavedFor};
 ghost use Rattle.saved_heap.specs.SearchOrder.{IsInOrder};
 ghost use Rattle.saved_heap.specs.Renewals.{IsBuilt, IsPictureOf, ShowOneGraph, ShowsUpToNames};
 
 use crate::heap_pictures::{Picture, ReadError, decode, encode, names_follow_one_another};
-use crate::needs::some_is_enough;
+use crate::needs::{allows, some_is_enough};
 use crate::{LoadFault, NotSaved, RenewFault, build, needs_are_enough, picture_of};
 use block_store::{Config, OutOfMemory};
 use control_heap::ControlHeap;
@@ -27,7 +27,8 @@ fn written(alloc: Global, picture: &Picture) -> Result<Vec<u8>, OutOfMemory>
 
 /// What the registers of a heap reach, as bytes: those of its picture. Some configuration is enough
 /// to load them, but not always that of the heap: `needs_of` returns what they need, `Needs::raise`
-/// raises a configuration to it, and `least_config` is the smallest that is enough.
+/// raises a configuration to it, and `least_config` is the smallest that is enough. If you know
+/// which configuration you will load them into, call `save_for`.
 ///
 /// # Errors
 ///
@@ -45,6 +46,28 @@ pub fn save(alloc: Global, heap: &ControlHeap) -> Result<Vec<u8>, NotSaved>
         return Err(NotSaved::TooLarge {
             objects: picture.objects.len() as u64,
         });
+    }
+    let bytes = written(alloc, &picture)?;
+    Ok(bytes)
+}
+
+/// What `save` writes, for a heap of this configuration: `load` then fails only for memory, since
+/// the configuration is enough (`saved`).
+///
+/// # Errors
+///
+/// `Open` where the configuration cannot be opened; `NotEnough` with what the objects need, where it
+/// does not allow that; `TooLarge` where no configuration does; `NoMemory` where memory runs out.
+pub fn save_for(alloc: Global, heap: &ControlHeap, c: &Config) -> Result<Vec<u8>, NotSaved>
+    ensures saved { IfOk result (λ v.
+        (p : Content) × (v.items ≡ saved p) × IsPictureOf heap.now p × IsInOrder p
+        × IsEnough c.now p) }
+    ensures short { IfOk result (λ v. length v.items < 2 ^ 64) }
+    ensures refused { IfErr result (IsNotSavedFor c.now heap.now) }
+{
+    let picture = picture_of(alloc, heap)?;
+    if let Err(fault) = allows(c, &picture) {
+        return Err(fault);
     }
     let bytes = written(alloc, &picture)?;
     Ok(bytes)

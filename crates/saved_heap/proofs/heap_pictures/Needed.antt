@@ -1,5 +1,5 @@
 -- What a heap has to allow so that a picture can be built in it.
-use Rattle.std.proofs.Common.{◌≡◌, ℕ, zero, suc, ◌+◌, ◌<◌, ◌≤◌, max, true, List, [], ◌∷◌, length, map, take, get_or, ap, ◌∙◌, arith}
+use Rattle.std.proofs.Common.{◌≡◌, ℕ, zero, suc, ◌+◌, ◌<◌, max, true, List, [], ◌∷◌, length, map, take, get_or, ap, ◌∙◌, arith}
 use Rattle.block_store.specs.declared.Width.{Width}
 use Rattle.never_heap.specs.LiveBlocks.{object_blocks}
 use Rattle.saved_heap.specs.declared.heap_pictures.picture.Item.{Item}

@@ -1,4 +1,4 @@
-use Rattle.std.proofs.Common.{◌≡◌, ◌∙◌, ap, refl, subst, sym, arith, length, ◌≤◌}
+use Rattle.std.proofs.Common.{ap, refl, arith, length, ◌≤◌}
 use Rattle.saved_heap.specs.declared.heap_pictures.needs.Needs.{Needs}
 use Rattle.saved_heap.specs.heap_pictures.Pictures.{content_of}
 use Rattle.saved_heap.proofs.heap_pictures.Turns.{count_is}

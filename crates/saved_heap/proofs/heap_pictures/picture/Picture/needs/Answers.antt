@@ -1,4 +1,4 @@
-use Rattle.std.proofs.Common.{IsTrue, true, ◌≡◌, rules, subst, sym}
+use Rattle.std.proofs.Common.{true, ◌≡◌, rules, subst, sym}
 use Rattle.saved_heap.specs.heap_pictures.Needs.{AreShort}
 use Rattle.saved_heap.specs.heap_pictures.Pictures.{content_of, is_sound}
 use Rattle.saved_heap.proofs.heap_pictures.Needed.{all_short}
