@@ -2,7 +2,8 @@
 
 use crate::slim::{
     copy, finish, get_number, get_of_ring, load, new_ring, number_of, open, picture_of,
-    print_number, print_save, push_to_ring, put, record, renewal_of, ring_len, ring_on, save, set,
+    print_number, print_save, push_to_ring, put, record, renewal_of, ring_len, ring_on, save_for,
+    set,
 };
 use crate::stop::Stop;
 use block_store::{Config, Width};
@@ -221,7 +222,7 @@ impl Day {
     }
 
     fn save(&mut self, alloc: Global) -> Result<(), Stop> {
-        let bytes = save(alloc, &self.heap)?;
+        let bytes = save_for(alloc, &self.heap, &HEAP)?;
         replace_bytes(&mut self.saved, bytes);
         self.kept_then = self.kept;
         Ok(())

@@ -98,8 +98,8 @@ pub fn ring_len(ring: &Ring) -> u32 {
     ring.len()
 }
 
-pub fn save(alloc: Global, heap: &ControlHeap) -> Result<Vec<u8>, Stop> {
-    match saved_heap::save(alloc, heap) {
+pub fn save_for(alloc: Global, heap: &ControlHeap, config: &Config) -> Result<Vec<u8>, Stop> {
+    match saved_heap::save_for(alloc, heap, config) {
         Ok(bytes) => Ok(bytes),
         Err(fault) => Err(Stop::NotSaved(fault)),
     }

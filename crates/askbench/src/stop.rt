@@ -88,6 +88,9 @@ impl Stop {
             Stop::NoJob(TraceFault::BadLine { line, why }) => {
                 eprintln!(rt; "askbench: line {line}: {}", why.text())
             }
+            Stop::NotSaved(fault) => eprintln!(rt; "askbench: {fault}"),
+            Stop::NotLoaded(fault) => eprintln!(rt; "askbench: {fault}"),
+            Stop::NotRenewed(fault) => eprintln!(rt; "askbench: {fault}"),
             _ => eprintln!(rt; "askbench: {}", self.text()),
         };
     }
@@ -96,9 +99,6 @@ impl Stop {
         match self {
             Stop::Open(fault) => fault.text(),
             Stop::Refused(fault) => fault.text(),
-            Stop::NotSaved(fault) => fault.text(),
-            Stop::NotLoaded(fault) => fault.text(),
-            Stop::NotRenewed(fault) => fault.text(),
             Stop::NotCopied(fault) => fault.text(),
             _ => self.shared_text(),
         }

@@ -21,6 +21,8 @@ most new 1 2                                 the most operations of a command
 register 1, fields 1, text, dot              what the heap shows
 aside a, back a, alike a                     heaps with names
 save, bytes, flip 5 1, cut 9, load 2 blocks .., damage 1 2 blocks ..   heaps as bytes
+save 2 blocks ..                             only if that is enough to load them
+needs 2 blocks ..                            what the bytes need, and that raised to it
 renew 2 blocks ..                            at once, or in pieces:
 renewal 2 blocks .., room 9, copy 9, finish
 reading, read 9, plan 9, onto 9 2 blocks .., copy 9, finish

@@ -12,6 +12,7 @@ use std::fmt::Write;
 pub struct Pieces {
     reading: Option<Reading>,
     planning: Option<Planning>,
+    planned: Option<Vec<Command>>,
     kept: Vec<(Command, Reply)>,
 }
 
@@ -20,6 +21,7 @@ impl Pieces {
         Pieces {
             reading: None,
             planning: None,
+            planned: None,
             kept: Vec::new(alloc),
         }
     }
@@ -33,13 +35,14 @@ impl Pieces {
     ) -> Result<(), OutOfMemory> {
         self.reading = Some(Reading::of(alloc, heap)?);
         self.planning = None;
+        self.planned = None;
         self.kept.clear();
         Ok(out.push_str("ok")?)
     }
 
     /// Keeps a command of the heap for the copy, where one is under way.
     pub fn keep(&mut self, command: Command, reply: Option<Reply>) -> Result<(), OutOfMemory> {
-        let is_going = self.reading.is_some() || self.planning.is_some();
+        let is_going = self.reading.is_some() || self.planning.is_some() || self.planned.is_some();
         if let (true, Some(reply)) = (is_going, reply) {
             self.kept.push((command, reply))?;
         }
@@ -85,7 +88,7 @@ impl Pieces {
     }
 
     /// The renewal that does what was planned on a heap of its own, with room for the commands that
-    /// were kept and for so many more.
+    /// were kept and for so many more. A plan that the heap does not allow is kept for another.
     pub fn onto(
         &mut self,
         alloc: Global,
@@ -97,14 +100,23 @@ impl Pieces {
             out.push_str("not all is planned")?;
             return Ok(None);
         };
-        let Ok(spare) = ControlHeap::open(alloc, config) else {
-            out.push_str("refused")?;
-            return Ok(None);
-        };
-        let Ok(mut renewal) = Renewal::on(spare, commands) else {
-            out.push_str("refused")?;
-            return Ok(None);
-        };
+        match begun(alloc, config, commands, out)? {
+            Ok(renewal) => Ok(Some(self.followed(renewal, room, out)?)),
+            Err(commands) => {
+                self.planned = Some(commands);
+                Ok(None)
+            }
+        }
+    }
+
+    /// The renewal, after it has noted the commands that were kept.
+    fn followed(
+        &mut self,
+        renewal: Renewal,
+        room: usize,
+        out: &mut String,
+    ) -> Result<Renewal, OutOfMemory> {
+        let mut renewal = renewal;
         renewal.make_room(self.kept.len().saturating_add(room))?;
         for (command, reply) in self.kept.iter() {
             follow(&mut renewal, *command, *reply);
@@ -112,16 +124,42 @@ impl Pieces {
         self.kept.clear();
         let left = renewal.left();
         write!(out, "left {left}")?;
-        Ok(Some(renewal))
+        Ok(renewal)
     }
 
     fn planned(&mut self) -> Option<Vec<Command>> {
+        if let Some(commands) = self.planned.take() {
+            return Some(commands);
+        }
         match self.planning.take()?.finish() {
             Ok(commands) => Some(commands),
             Err(planning) => {
                 self.planning = Some(planning);
                 None
             }
+        }
+    }
+}
+
+/// A renewal on a heap that is opened for it, or the commands, if it cannot begin.
+fn begun(
+    alloc: Global,
+    config: Config,
+    commands: Vec<Command>,
+    out: &mut String,
+) -> Result<Result<Renewal, Vec<Command>>, OutOfMemory> {
+    let spare = match ControlHeap::open(alloc, config) {
+        Ok(spare) => spare,
+        Err(fault) => {
+            write!(out, "refused: {fault}")?;
+            return Ok(Err(commands));
+        }
+    };
+    match Renewal::on(spare, commands) {
+        Ok(renewal) => Ok(Ok(renewal)),
+        Err(not) => {
+            write!(out, "refused: {}", not.fault)?;
+            Ok(Err(not.commands))
         }
     }
 }

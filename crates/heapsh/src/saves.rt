@@ -1,10 +1,9 @@
 //! Heaps that are saved, loaded and renewed.
 
-use crate::replies::push_refused;
 use block_store::{Config, OutOfMemory};
 use control_heap::ControlHeap;
 use never_heap::{Command, Reply};
-use saved_heap::{NotSaved, Renewal, load, picture_of, renew, save};
+use saved_heap::{Needs, NotSaved, Renewal, load, needs_of, picture_of, renew, save, save_for};
 use std::alloc::Global;
 use std::fmt::Write;
 
@@ -23,19 +22,40 @@ impl Saves {
         }
     }
 
-    /// Saves a heap.
+    /// Saves a heap, if it can be loaded in this configuration, or in any where none is given.
     pub fn save(
         &mut self,
         alloc: Global,
         heap: &ControlHeap,
+        config: Option<Config>,
         out: &mut String,
     ) -> Result<(), OutOfMemory> {
-        match save(alloc, heap) {
+        let saved = match config {
+            Some(config) => save_for(alloc, heap, &config),
+            None => save(alloc, heap),
+        };
+        match saved {
             Ok(bytes) => {
                 self.bytes = bytes;
                 Ok(out.push_str("ok")?)
             }
             Err(NotSaved::NoMemory) => Err(OutOfMemory),
+            Err(fault) => Ok(write!(out, "refused: {fault}")?),
+        }
+    }
+
+    /// What the saved bytes need, and a configuration that is raised to it.
+    pub fn needs(
+        &self,
+        alloc: Global,
+        config: Config,
+        out: &mut String,
+    ) -> Result<(), OutOfMemory> {
+        if config.shared > 65_535 {
+            return usage(out);
+        }
+        match needs_of(alloc, self.bytes.as_slice(), config.width, config.shared) {
+            Ok(needs) => push_raised(out, needs, config),
             Err(fault) => Ok(write!(out, "refused: {fault}")?),
         }
     }
@@ -82,7 +102,7 @@ impl Saves {
                 Ok(Some(heap))
             }
             Err(fault) => {
-                push_refused(out, fault.text())?;
+                write!(out, "refused: {fault}")?;
                 Ok(None)
             }
         }
@@ -134,7 +154,7 @@ impl Saves {
                 self.renewal = Some(renewal);
                 Ok(())
             }
-            Err(fault) => push_refused(out, fault.text()),
+            Err(fault) => Ok(write!(out, "refused: {fault}")?),
         }
     }
 
@@ -175,7 +195,7 @@ impl Saves {
         };
         match renewal.copy(*most as usize) {
             Ok(left) => push_left(out, left),
-            Err(fault) => push_refused(out, fault.text()),
+            Err(fault) => Ok(write!(out, "refused: {fault}")?),
         }
     }
 
@@ -205,6 +225,21 @@ fn usage(out: &mut String) -> Result<(), OutOfMemory> {
     Ok(())
 }
 
+fn push_raised(out: &mut String, needs: Needs, config: Config) -> Result<(), OutOfMemory> {
+    let (object, live, objects) = (needs.object, needs.live, needs.objects);
+    write!(out, "object {object} live {live} objects {objects}: ")?;
+    match needs.raise(config) {
+        Some(raised) => push_config(out, raised),
+        None => Ok(out.push_str("it cannot be raised so far")?),
+    }
+}
+
+fn push_config(out: &mut String, config: Config) -> Result<(), OutOfMemory> {
+    let (blocks, live, object) = (config.blocks, config.live, config.object);
+    write!(out, "blocks {blocks} live {live} object {object}")?;
+    Ok(())
+}
+
 fn push_left(out: &mut String, left: usize) -> Result<(), OutOfMemory> {
     write!(out, "left {left}")?;
     Ok(())
@@ -229,7 +264,7 @@ pub fn renewed(
             Ok(Some(heap))
         }
         Err(fault) => {
-            push_refused(out, fault.text())?;
+            write!(out, "refused: {fault}")?;
             Ok(None)
         }
     }

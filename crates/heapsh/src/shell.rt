@@ -60,6 +60,7 @@ impl Shell {
             "open" => self.open(rest, out),
             "close" => self.close(out),
             "load" => self.load(rest, out),
+            "needs" => self.needs(rest, out),
             "aside" => self.set_aside(rest, out),
             "back" => self.take_back(rest, out),
             "help" => Ok(out.push_str(crate::help::COMMANDS)?),
@@ -131,6 +132,13 @@ impl Shell {
         Ok(())
     }
 
+    fn needs(&self, words: &[&str], out: &mut String) -> Result<(), OutOfMemory> {
+        match config_of(words) {
+            Some(config) => self.saves.needs(self.alloc, config, out),
+            None => Ok(out.push_str(UNKNOWN)?),
+        }
+    }
+
     /// Sets the heap aside under a name.
     fn set_aside(&mut self, words: &[&str], out: &mut String) -> Result<(), OutOfMemory> {
         let ([name], Some(heap)) = (words, self.heap.take()) else {
@@ -178,7 +186,7 @@ impl Shell {
         match word {
             "text" => push_trimmed(out, heap.text(alloc)?.as_str()),
             "dot" => push_trimmed(out, heap.dot(alloc)?.as_str()),
-            "save" => self.saves.save(alloc, heap, out),
+            "save" => save(alloc, heap, &mut self.saves, rest, out),
             "alike" => alike(alloc, heap, &self.aside, rest, out),
             "most" => most(alloc, heap, rest, out),
             "renew" => renew(alloc, heap, rest, out),
@@ -368,6 +376,20 @@ fn renew(
         *heap = new;
     }
     Ok(())
+}
+
+fn save(
+    alloc: Global,
+    heap: &ControlHeap,
+    saves: &mut Saves,
+    words: &[&str],
+    out: &mut String,
+) -> Result<(), OutOfMemory> {
+    let config = config_of(words);
+    if config.is_none() && !words.is_empty() {
+        return Ok(out.push_str(UNKNOWN)?);
+    }
+    saves.save(alloc, heap, config, out)
 }
 
 fn begin(

@@ -1,11 +1,11 @@
 //! A heap that comes back after a restart, in a larger configuration.
 
 use crate::examples::{are_alike, graph};
-use crate::slim::{load, open, put, record, save, set, written};
+use crate::slim::{load, open, put, record, save_for, set, written};
 use crate::stop::Stop;
 use block_store::{Config, Width};
 use control_heap::ControlHeap;
-use saved_heap::needs_of;
+use saved_heap::NotSaved;
 
 // The heap of the program `plant`: 40 readings, each a record of one block, in the shared array.
 const PLANT: Config = Config {
@@ -15,6 +15,14 @@ const PLANT: Config = Config {
     live: 50,
     object: 1,
     shared: 40,
+};
+
+// The same after a restart: what `save_for` says that 40 readings need.
+const RESTARTED: Config = Config {
+    blocks: 152,
+    live: 62,
+    object: 7,
+    ..PLANT
 };
 
 fn keep(heap: &mut ControlHeap, place: u64) -> Result<(), Stop> {
@@ -31,12 +39,6 @@ fn fill(heap: &mut ControlHeap) -> Result<(), Stop> {
     Ok(())
 }
 
-// The configuration in which the saved heap can be loaded.
-fn larger(rt: &HostRuntime, bytes: &[u8]) -> Option<Config> {
-    let needs = needs_of(rt.alloc(), bytes, PLANT.width, PLANT.shared).ok()?;
-    needs.raise(PLANT)
-}
-
 /// Saves a heap of readings, loads it, and prints what it needed.
 pub fn run(rt: &HostRuntime) -> Result<(), Stop> {
     let mut heap = open(rt.alloc(), PLANT)?;
@@ -45,23 +47,28 @@ pub fn run(rt: &HostRuntime) -> Result<(), Stop> {
 
 fn save_filled(rt: &HostRuntime, heap: &mut ControlHeap) -> Result<(), Stop> {
     fill(heap)?;
-    let bytes = save(rt.alloc(), heap)?;
-    load_larger(rt, heap, bytes.as_slice())
-}
-
-fn load_larger(rt: &HostRuntime, heap: &ControlHeap, bytes: &[u8]) -> Result<(), Stop> {
-    if load(rt.alloc(), bytes, PLANT).is_ok() {
+    if raised(rt, heap) != Some(RESTARTED) {
         return Err(Stop::Example);
     }
-    match larger(rt, bytes) {
-        Some(config) => load_in(rt, heap, bytes, config),
-        None => Err(Stop::Example),
+    restart(rt, heap)
+}
+
+// The configuration raised to what the heap needs, which is more than it allows.
+fn raised(rt: &HostRuntime, heap: &ControlHeap) -> Option<Config> {
+    match save_for(rt.alloc(), heap, &PLANT) {
+        Err(Stop::NotSaved(NotSaved::NotEnough(needs))) => needs.raise(PLANT),
+        _ => None,
     }
 }
 
-fn load_in(rt: &HostRuntime, heap: &ControlHeap, bytes: &[u8], config: Config) -> Result<(), Stop> {
-    let loaded = load(rt.alloc(), bytes, config)?;
+fn restart(rt: &HostRuntime, heap: &ControlHeap) -> Result<(), Stop> {
+    let loaded = reloaded(rt, heap)?;
     compare(rt, heap, &loaded)
+}
+
+fn reloaded(rt: &HostRuntime, heap: &ControlHeap) -> Result<ControlHeap, Stop> {
+    let bytes = save_for(rt.alloc(), heap, &RESTARTED)?;
+    load(rt.alloc(), bytes.as_slice(), RESTARTED)
 }
 
 fn compare(rt: &HostRuntime, saved: &ControlHeap, loaded: &ControlHeap) -> Result<(), Stop> {
