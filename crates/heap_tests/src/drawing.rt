@@ -1,4 +1,4 @@
-//! Jobs for the tests: drawn ones, and a chain that grows.
+//! Drawn jobs for the tests.
 
 ghost use Rattle.std.specs.Prelude.{◌≡◌, ◌≤◌, ◌+◌, length, map, IfOk, OnOk};
 ghost use Rattle.std.specs.List.{All};
@@ -107,33 +107,4 @@ fn drawn_command(draws: &mut Lcg64Xsh32) -> Command {
 
 fn register(draws: &mut Lcg64Xsh32) -> u8 {
     (draws.next_word() % REGISTERS) as u8
-}
-
-/// One thread that makes 59 records, of which each but the last refers to the one before.
-pub(crate) fn chain_traces(alloc: Global, c: &Config) -> Result<Vec<Vec<Command>>, OutOfMemory>
-    requires bounds { IsInBounds c.now }
-    requires one { c.now.threads ≡ 1 }
-    ensures { IfOk result (λ traces. IsJobInBounds c.now (map (λ v. v.items) traces.items)) }
-{
-    let mut traces = Vec::new(alloc);
-    traces.push(chain(alloc, c)?)?;
-    Ok(traces)
-}
-
-fn chain(alloc: Global, c: &Config) -> Result<Vec<Command>, OutOfMemory>
-    ensures { IfOk result (λ v. IsTraceInBounds c.now v.items) }
-{
-    let link = [
-        Command::New { d: 1, fields: 1 },
-        Command::Put { s: 1, i: 0, v: 2 },
-        Command::Mov { d: 2, s: 1 },
-    ];
-    let mut trace = Vec::new(alloc);
-    for place in 0..175_usize {
-        let command = link[place % 3];
-        if command.in_bounds(c) {
-            trace.push(command)?;
-        }
-    }
-    Ok(trace)
 }

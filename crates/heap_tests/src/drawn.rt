@@ -167,7 +167,12 @@ fn come_to_rest(system: &mut System, thread: u32)
 
 // Whether all threads are at rest.
 fn all_rest(system: &System) -> bool {
-    (0..system.config().threads).all(|thread| system.local(thread).at_rest())
+    for thread in 0..system.config().threads {
+        if !system.local(thread).at_rest() {
+            return false;
+        }
+    }
+    true
 }
 
 // Lets each thread end the command that it has in hand.
@@ -268,12 +273,22 @@ fn ends_in_time(system: &mut System, thread: u32, rate: u64) -> bool
     system.local(thread).done()
 }
 
+// Whether no thread has a command left.
+fn all_are_done(system: &System) -> bool {
+    for thread in 0..system.config().threads {
+        if !system.local(thread).done() {
+            return false;
+        }
+    }
+    true
+}
+
 // Whether some thread has a command left, and each does all that it has left in time.
 fn all_end_in_time(system: &mut System, rate: u64) -> bool
     requires plain { system.old.ordered ≡ None }
 {
     let threads = system.config().threads;
-    let some_left = (0..threads).any(|thread| !system.local(thread).done());
+    let some_left = !all_are_done(system);
     for thread in 0..threads {
         if !ends_in_time(system, thread, rate) {
             return false;

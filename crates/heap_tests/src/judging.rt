@@ -1,6 +1,6 @@
 //! Runs that are judged by the definitions alone, as `test_kit` answers them: 400 drawn jobs
 //! of one to four threads on small heaps, 200 of either width, by serial and by drawn turns, each
-//! to its end; and a chain of records that grows beyond the live limit.
+//! to its end.
 
 ghost use Rattle.std.specs.Prelude.{◌<◌, map};
 ghost use Rattle.never_heap.specs.Jobs.{IsJobInBounds};
@@ -8,7 +8,7 @@ ghost use Rattle.test_kit.specs.reference_runs.Happenings.{history};
 ghost use Rattle.test_kit.specs.reference_runs.HistoryBounds.{IsHistoryInBounds};
 ghost use Rattle.rate_plan.specs.Rates.{IsAdmitted};
 
-use crate::drawing::{chain_traces, drawn_heap, drawn_traces};
+use crate::drawing::{drawn_heap, drawn_traces};
 use block_store::{Config, OutOfMemory, Width};
 use heap_system::System;
 use never_heap::{Command, Entry, Reply};
@@ -19,8 +19,7 @@ use rtheap_core::schedules::replay;
 use std::alloc::Global;
 use std::process::Abort;
 use test_kit::{
-    Happened, given_in, history_of, in_bounds, is_legal, is_licensed, is_right_work, live_at,
-    starts, work,
+    Happened, given_in, history_of, in_bounds, is_legal, is_licensed, is_right_work, starts, work,
 };
 
 /// More turns than any of the jobs takes.
@@ -163,13 +162,6 @@ fn costs_few(c: &Config, h: &[Happened]) -> bool
     cycles * blocks <= units + blocks && units <= 2 * blocks * cycles
 }
 
-fn reply_of(happened: Happened) -> Option<Reply> {
-    match happened {
-        Happened::Started => None,
-        Happened::Did(entry) => Some(entry.reply),
-    }
-}
-
 // What is counted of 200 drawn runs of a width, each of which is as the definitions say.
 fn drawn_runs(rt: &impl Abort, alloc: Global, width: Width) -> Result<Seen, OutOfMemory> {
     let mut seen = NOTHING;
@@ -177,7 +169,8 @@ fn drawn_runs(rt: &impl Abort, alloc: Global, width: Width) -> Result<Seen, OutO
         let right = is_judged_right(alloc, width, key, &mut seen)?;
         assert!(rt; right, "job {key} of {width:?}");
     }
-    assert!(rt; seen.threads.iter().all(|runs| *runs >= 45), "{seen:?}");
+    let [one, two, three, four] = seen.threads;
+    assert!(rt; one.min(two).min(three).min(four) >= 45, "{seen:?}");
     assert!(rt; seen.cycles >= 1_200 && seen.fulls >= 70, "{seen:?}");
     Ok(seen)
 }
@@ -198,46 +191,5 @@ fn drawn_runs_are_as_the_definitions_say(rt: HostRuntime) -> Result<(), OutOfMem
         narrow.fulls.saturating_add(wide.fulls) >= 310,
         "{narrow:?} {wide:?}"
     );
-    Ok(())
-}
-
-// How many blocks were live when each of five cycles began, how many cycles began, and the last
-// reply, in the run of a chain that grows.
-fn chain_run(alloc: Global) -> Result<Option<([u64; 5], u64, Option<Reply>)>, OutOfMemory> {
-    let c = Config {
-        width: Width::Four,
-        threads: 1,
-        blocks: 64,
-        live: 20,
-        object: 2,
-        shared: 0,
-    };
-    if !c.in_bounds() || plan(&c).is_err() {
-        return Ok(None);
-    }
-    let traces = chain_traces(alloc, &c)?;
-    let Some(h) = run_of(alloc, c, traces, Schedule::Robin)? else {
-        return Ok(None);
-    };
-    if !in_bounds(&c, &h) {
-        return Ok(None);
-    }
-    let live = [
-        live_at(alloc, &c, &h, 1)?,
-        live_at(alloc, &c, &h, 2)?,
-        live_at(alloc, &c, &h, 3)?,
-        live_at(alloc, &c, &h, 4)?,
-        live_at(alloc, &c, &h, 5)?,
-    ];
-    Ok(Some((live, starts(&h), h.last().and_then(|last| reply_of(*last)))))
-}
-
-#[test]
-fn each_cycle_of_a_growing_chain_begins_with_more_blocks(
-    rt: HostRuntime,
-) -> Result<(), OutOfMemory> {
-    let live = [6, 16, 27, 40, 55];
-    let last = Some(Reply::Full(4));
-    assert_eq!(rt; chain_run(rt.alloc())?, Some((live, 5, last)));
     Ok(())
 }

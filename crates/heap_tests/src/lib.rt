@@ -10,13 +10,7 @@ mod judging;
 #[cfg(test)]
 mod locked;
 #[cfg(test)]
-mod lone;
-#[cfg(test)]
 mod machine_tests;
-#[cfg(test)]
-mod ordered;
-#[cfg(test)]
-mod replays;
 #[cfg(test)]
 mod tests;
 #[cfg(test)]

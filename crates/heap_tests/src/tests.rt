@@ -6,7 +6,7 @@ ghost use Rattle.std.specs.Prelude.{◌≡◌, ◌<◌, ◌≤◌, None, IfOk};
 use crate::traces::trace_of;
 use block_store::{Config, Name, OutOfMemory, Places, Value, Width};
 use heap_system::*;
-use never_heap::{Command, Logs, Reply};
+use never_heap::{Command, Entry, Logs, Reply};
 use rate_plan::plan;
 use std::alloc::Global;
 
@@ -173,6 +173,20 @@ fn turns(system: &mut System, thread: u32, entries: usize)
     }
 }
 
+fn reply_of(entry: Option<&Entry>) -> Option<Reply> {
+    match entry {
+        Some(entry) => Some(entry.reply),
+        None => None,
+    }
+}
+
+fn work_of(entry: Option<&Entry>) -> Option<u64> {
+    match entry {
+        Some(entry) => Some(entry.work),
+        None => None,
+    }
+}
+
 // What thread `t` answered.
 fn replies(logs: &Finished, t: u32) -> (usize, Option<Reply>, Option<Reply>) {
     if t >= logs.threads() {
@@ -181,8 +195,8 @@ fn replies(logs: &Finished, t: u32) -> (usize, Option<Reply>, Option<Reply>) {
     let entries = logs.entries(t);
     (
         entries.len(),
-        entries.first().map(|entry| entry.reply),
-        entries.last().map(|entry| entry.reply),
+        reply_of(entries.first()),
+        reply_of(entries.last()),
     )
 }
 
@@ -192,10 +206,7 @@ fn works(logs: &Finished, t: u32) -> (Option<u64>, Option<u64>) {
         return (None, None);
     }
     let entries = logs.entries(t);
-    (
-        entries.first().map(|entry| entry.work),
-        entries.last().map(|entry| entry.work),
-    )
+    (work_of(entries.first()), work_of(entries.last()))
 }
 
 // What the two threads answer where the reader's first command comes first.
@@ -228,25 +239,7 @@ fn a_reader_that_comes_first_reads_nil(rt: HostRuntime) -> Result<(), OutOfMemor
         assert_eq!(rt; replies(&logs, 1), (2, nil, nil));
         assert_eq!(rt; (logs.cycles(), logs.units()), (1, 0));
         assert_eq!(rt; logs.config(), &two(width));
-    }
-    Ok(())
-}
-
-#[test]
-fn a_reader_that_comes_last_reads_what_was_stored(rt: HostRuntime) -> Result<(), OutOfMemory> {
-    for width in [Width::Four, Width::Eight] {
-        let mut system = writer_and_reader(rt.alloc(), width)?;
-        turns(&mut system, 0, 3);
-        turns(&mut system, 1, 3);
-        let Ok(logs) = system.finish() else {
-            assert!(rt; false, "not finished");
-            return Ok(());
-        };
-        let stored = Some(Reply::Stored);
-        let seven = Some(Reply::Val(Value::Int(7)));
-        assert_eq!(rt; replies(&logs, 0), (2, stored, stored));
-        assert_eq!(rt; replies(&logs, 1), (2, seven, seven));
-        assert_eq!(rt; (logs.cycles(), logs.units()), (1, 0));
+        assert!(rt; logs.order().is_none());
     }
     Ok(())
 }

@@ -102,7 +102,10 @@ fn threads_allocate_over_many_cycles(rt: HostRuntime) -> Result<(), OutOfMemory>
 
 // The reply of an entry of a log.
 fn reply_of(log: &[Entry], number: u32) -> Option<Reply> {
-    log.get(number as usize).map(|entry| entry.reply)
+    match log.get(number as usize) {
+        Some(entry) => Some(entry.reply),
+        None => None,
+    }
 }
 
 // The number that a reply shows.

@@ -6,7 +6,7 @@ ghost use Rattle.block_store.specs.Configs.{IsInBounds};
 ghost use Rattle.build_steps.specs.Fits.{BuildFits, BuildReads};
 
 use crate::machine_tests::held::{can_hold, has, place_of, word_at};
-use crate::machine_tests::rows::{Row, went};
+use crate::machine_tests::rows::{Row, Wanted, row_of};
 use block_store::{Config, Places};
 use build_steps::{BuildPass, rows_stay_in_the_heap};
 use heap_machine::{Op, ScriptedMemory, Step, Words};
@@ -115,9 +115,19 @@ fn events(c: &Config, pass: &mut BuildPass, rows: &[Row]) -> Option<()>
     ensures { BuildFits c.now pass.new }
 {
     for row in rows {
-        event(c, pass, row)?;
+        event(c, pass, &row_of(c, *row))?;
     }
     Some(())
+}
+
+// A word is written over 0.
+fn exchange_row(place: usize, new: u64) -> Wanted {
+    Wanted {
+        op: Op::Exchange { place, new },
+        word: 0,
+        step: Step::Went,
+        unit: false,
+    }
 }
 
 // A block is written: its owner, its shape, its payloads and its colour.
@@ -128,18 +138,18 @@ fn writes(c: &Config, pass: &mut BuildPass, block: &Written) -> Option<()>
 {
     let owner = block.first.checked_add(1)?;
     let shape = block.first.checked_add(2)?;
-    event(c, pass, &went(Op::exchange(owner, block.owner), 0))?;
-    event(c, pass, &went(Op::exchange(shape, block.shape), 0))?;
+    event(c, pass, &exchange_row(owner, block.owner))?;
+    event(c, pass, &exchange_row(shape, block.shape))?;
     let mut place = shape;
     for payload in block.payloads {
         place = place.checked_add(1)?;
-        event(c, pass, &went(Op::exchange(place, *payload), 0))?;
+        event(c, pass, &exchange_row(place, *payload))?;
     }
-    event(c, pass, &went(Op::exchange(block.first, block.colour), 0))
+    event(c, pass, &exchange_row(block.first, block.colour))
 }
 
 // One event.
-fn event(c: &Config, pass: &mut BuildPass, row: &Row) -> Option<()>
+fn event(c: &Config, pass: &mut BuildPass, row: &Wanted) -> Option<()>
     requires bounds { IsInBounds c.now }
     requires fits { BuildFits c.now pass.old }
     ensures { BuildFits c.now pass.new }

@@ -4,7 +4,10 @@
 //! block.
 
 use crate::machine_tests::build_hand::{Making, Written, building, building_words};
-use crate::machine_tests::rows::{over, waited, went};
+use crate::machine_tests::rows::At::*;
+use crate::machine_tests::rows::End::*;
+use crate::machine_tests::rows::On::*;
+use crate::machine_tests::rows::{On, op_of};
 use crate::machine_tests::small::{PAIR, SMALL, WIDE};
 use block_store::{Config, Name, OutOfMemory};
 use heap_machine::{Op, Step, Words};
@@ -45,7 +48,12 @@ const ARRAY: Making = Making {
 // The object of this thread and serial was made, after the last event.
 fn made(thread: u32, serial: u64) -> Option<(Op, Option<Reply>)> {
     let name = Name { thread, serial };
-    Some((Op::load(0), Some(Reply::New(name))))
+    Some((Op::Load { place: 0 }, Some(Reply::New(name))))
+}
+
+// The part wants this, and has no reply yet.
+fn wants(on: On) -> Option<(Op, Option<Reply>)> {
+    Some((op_of(&FOUR, on), None))
 }
 
 // A block whose words begin at this place, of the array with serial 1 of thread 0.
@@ -63,13 +71,13 @@ fn in_array(first: usize, owner: u64, payloads: &[u64]) -> Written<'_> {
 #[test]
 fn a_record_of_two_blocks_is_built(rt: HostRuntime) -> Result<(), OutOfMemory> {
     let rows = [
-        went(Op::load(2), 6),
-        went(Op::compare_exchange(2, 6, 4), 6),
-        went(Op::exchange(6, 0), 0),
-        went(Op::exchange(5, 0), 14),
-        went(Op::load(98), 136),
-        went(Op::load(119), 152),
-        went(Op::exchange(6, 19), 0),
+        (Load(Word(2)), 6, Went),
+        (CompareExchange(Word(2), 6, 4), 6, Went),
+        (Exchange(Word(6), 0), 0, Went),
+        (Exchange(Word(5), 0), 14, Went),
+        (Load(Word(98)), 136, Went),
+        (Load(Word(119)), 152, Went),
+        (Exchange(Word(6), 19), 0, Went),
     ];
     let blocks = [
         Written {
@@ -95,7 +103,7 @@ fn a_record_of_two_blocks_is_built(rt: HostRuntime) -> Result<(), OutOfMemory> {
             room,
             &rows,
             &blocks,
-            &[over(Op::exchange(60, 28), 0)]
+            &[(Exchange(Word(60), 28), 0, Over)]
         ),
         made(1, 3)
     );
@@ -110,13 +118,13 @@ fn an_array_of_four_blocks_is_built(rt: HostRuntime) -> Result<(), OutOfMemory> 
         ..ARRAY
     };
     let rows = [
-        went(Op::load(2), 4),
-        went(Op::compare_exchange(2, 4, 0), 4),
-        went(Op::exchange(4, 0), 5),
-        went(Op::load(49), 48),
-        went(Op::load(60), 72),
-        went(Op::load(93), 80),
-        went(Op::load(104), 0),
+        (Load(Word(2)), 4, Went),
+        (CompareExchange(Word(2), 4, 0), 4, Went),
+        (Exchange(Word(4), 0), 5, Went),
+        (Load(Word(49)), 48, Went),
+        (Load(Word(60)), 72, Went),
+        (Load(Word(93)), 80, Went),
+        (Load(Word(104)), 0, Went),
     ];
     let leaf = [0, 0, 0, 0, 0, 0, 0, 0];
     let blocks = [
@@ -133,7 +141,7 @@ fn an_array_of_four_blocks_is_built(rt: HostRuntime) -> Result<(), OutOfMemory> 
             room,
             &rows,
             &blocks,
-            &[over(Op::exchange(31, 10), 0)]
+            &[(Exchange(Word(31), 10), 0, Over)]
         ),
         made(0, 1)
     );
@@ -152,11 +160,11 @@ fn a_record_of_two_wide_blocks_is_built(rt: HostRuntime) -> Result<(), OutOfMemo
         command: Command::New { d: 0, fields: 8 },
     };
     let rows = [
-        went(Op::load(2), 2),
-        went(Op::compare_exchange(2, 2, 0), 2),
-        went(Op::exchange(4, 0), 7),
-        went(Op::load(71), 96),
-        went(Op::load(126), 0),
+        (Load(Word(2)), 2, Went),
+        (CompareExchange(Word(2), 2, 0), 2, Went),
+        (Exchange(Word(4), 0), 7, Went),
+        (Load(Word(71)), 96, Went),
+        (Load(Word(126)), 0, Went),
     ];
     let blocks = [
         Written {
@@ -182,7 +190,7 @@ fn a_record_of_two_wide_blocks_is_built(rt: HostRuntime) -> Result<(), OutOfMemo
             room,
             &rows,
             &blocks,
-            &[over(Op::exchange(19, 14), 0)]
+            &[(Exchange(Word(19), 14), 0, Over)]
         ),
         made(0, 16_777_218)
     );
@@ -194,17 +202,17 @@ fn a_record_of_two_wide_blocks_is_built(rt: HostRuntime) -> Result<(), OutOfMemo
 #[test]
 fn an_array_of_eight_blocks_is_built(rt: HostRuntime) -> Result<(), OutOfMemory> {
     let rows = [
-        went(Op::load(2), 8),
-        went(Op::compare_exchange(2, 8, 0), 8),
-        went(Op::exchange(4, 0), 11),
-        went(Op::load(75), 96),
-        went(Op::load(82), 104),
-        went(Op::load(89), 112),
-        went(Op::load(96), 120),
-        went(Op::load(103), 128),
-        went(Op::load(110), 136),
-        went(Op::load(117), 144),
-        went(Op::load(124), 0),
+        (Load(Word(2)), 8, Went),
+        (CompareExchange(Word(2), 8, 0), 8, Went),
+        (Exchange(Word(4), 0), 11, Went),
+        (Load(Word(75)), 96, Went),
+        (Load(Word(82)), 104, Went),
+        (Load(Word(89)), 112, Went),
+        (Load(Word(96)), 120, Went),
+        (Load(Word(103)), 128, Went),
+        (Load(Word(110)), 136, Went),
+        (Load(Word(117)), 144, Went),
+        (Load(Word(124)), 0, Went),
     ];
     let leaf = [0, 0, 0, 0];
     let blocks = [
@@ -225,7 +233,7 @@ fn an_array_of_eight_blocks_is_built(rt: HostRuntime) -> Result<(), OutOfMemory>
             room,
             &rows,
             &blocks,
-            &[over(Op::exchange(15, 22), 0)]
+            &[(Exchange(Word(15), 22), 0, Over)]
         ),
         made(0, 1)
     );
@@ -236,7 +244,7 @@ fn an_array_of_eight_blocks_is_built(rt: HostRuntime) -> Result<(), OutOfMemory>
 // cycle before, and in the first cycle that one.
 #[test]
 fn full_is_answered_below_the_count(rt: HostRuntime) -> Result<(), OutOfMemory> {
-    let count = Op::load(2);
+    let count = Load(Word(2));
     for (cycle, free, named) in [(5, 7, 4), (1, 0, 1)] {
         let room = Vec::with_capacity(rt.alloc(), 8)?;
         assert_eq!(rt;
@@ -244,11 +252,11 @@ fn full_is_answered_below_the_count(rt: HostRuntime) -> Result<(), OutOfMemory> 
                 &FOUR,
                 Making { cycle, ..ARRAY },
                 room,
-                &[over(count, free)],
+                &[(count, free, Over)],
                 &[],
                 &[]
             ),
-            Some((Op::load(0), Some(Reply::Full(named))))
+            Some((Op::Load { place: 0 }, Some(Reply::Full(named))))
         );
     }
     let room = Vec::with_capacity(rt.alloc(), 8)?;
@@ -257,11 +265,11 @@ fn full_is_answered_below_the_count(rt: HostRuntime) -> Result<(), OutOfMemory> 
             &FOUR,
             Making { cycle: 5, ..ARRAY },
             room,
-            &[went(count, 8)],
+            &[(count, 8, Went)],
             &[],
             &[]
         ),
-        Some((Op::compare_exchange(2, 8, 0), None))
+        wants(CompareExchange(Word(2), 8, 0))
     );
     Ok(())
 }
@@ -271,17 +279,17 @@ fn full_is_answered_below_the_count(rt: HostRuntime) -> Result<(), OutOfMemory> 
 #[test]
 fn a_lost_reservation_waits(rt: HostRuntime) -> Result<(), OutOfMemory> {
     let rows = [
-        went(Op::load(2), 6),
-        waited(Op::compare_exchange(2, 6, 4), 5),
-        went(Op::load(2), 5),
-        went(Op::compare_exchange(2, 5, 3), 5),
-        went(Op::exchange(6, 0), 0),
-        waited(Op::exchange(5, 0), 0),
+        (Load(Word(2)), 6, Went),
+        (CompareExchange(Word(2), 6, 4), 5, Waited),
+        (Load(Word(2)), 5, Went),
+        (CompareExchange(Word(2), 5, 3), 5, Went),
+        (Exchange(Word(6), 0), 0, Went),
+        (Exchange(Word(5), 0), 0, Waited),
     ];
     let room = Vec::with_capacity(rt.alloc(), 2)?;
     assert_eq!(rt;
         building(&PAIR, RECORD, room, &rows, &[], &[]),
-        Some((Op::exchange(6, 0), None))
+        wants(Exchange(Word(6), 0))
     );
     Ok(())
 }
@@ -306,7 +314,7 @@ fn events_change_the_words(rt: HostRuntime) -> Result<(), OutOfMemory> {
     let room = Vec::with_capacity(rt.alloc(), 1)?;
     assert_eq!(rt;
         building_words(&FOUR, making, room, &mut words, &rows),
-        Some((Op::exchange(41, 65_536), None))
+        wants(Exchange(Word(41), 65_536))
     );
     Ok(())
 }

@@ -2,12 +2,14 @@
 //! register 1 refers to a record of one field, in block 9.
 
 use crate::machine_tests::hand::{behind, over};
+use crate::machine_tests::rows::At::*;
+use crate::machine_tests::rows::On;
+use crate::machine_tests::rows::On::*;
 use crate::machine_tests::small::{
-    FOUR, GREY, GREY_TO_6, INSIDE, MARK, NIL, ONE, SHARED, SHARED_NAME, SWEEP, Spots, THREE, TO_7,
-    TO_8, TO_9, WHITE, WIDE,
+    FOUR, GREY, GREY_TO_6, INSIDE, MARK, NIL, ONE, SHARED, SHARED_NAME, SWEEP, THREE, TO_7, TO_8,
+    TO_9, WHITE, WIDE,
 };
 use block_store::Value;
-use heap_machine::Op;
 use never_heap::{Command, Reply};
 
 const SWAP: Command = Command::Swap { s: 1, i: 0, v: 3 };
@@ -20,36 +22,28 @@ const CAS: Command = Command::Cas {
 };
 
 // The words that both commands read first: the register of the record, and its shape.
-fn to_record() -> [(Op, u64); 2] {
-    let places = Spots::of(&WIDE);
-    [
-        (Op::load(places.payload(2, 1)), TO_9),
-        (Op::load(places.shape(9)), ONE),
-    ]
+fn to_record() -> [(On, u64); 2] {
+    [(Load(Payload(2, 1)), TO_9), (Load(Shape(9)), ONE)]
 }
 
 // It shades the block of its own register before the exchange, and that of the field before it
 // stores that in the register.
 #[test]
 fn swap_shades_both_ways(rt: HostRuntime) {
-    let places = Spots::of(&WIDE);
     let [register, shape] = to_record();
     let events = [
         register,
         shape,
-        (Op::load(places.payload(2, 3)), TO_8),
-        (Op::exchange(places.grey_list(0), 0), 6),
-        (
-            Op::compare_exchange(places.colour(8), WHITE, GREY_TO_6),
-            WHITE,
-        ),
-        (Op::exchange(places.grey_list(0), 8), 0),
-        (Op::exchange(places.payload(9, 1), TO_8), TO_7),
-        (Op::load(places.owner(7)), SHARED),
-        (Op::exchange(places.grey_list(0), 0), 0),
-        (Op::compare_exchange(places.colour(7), WHITE, GREY), WHITE),
-        (Op::exchange(places.grey_list(0), 7), 0),
-        (Op::exchange(places.payload(2, 3), TO_7), TO_8),
+        (Load(Payload(2, 3)), TO_8),
+        (Exchange(GreyList(0), 0), 6),
+        (CompareExchange(Colour(8), WHITE, GREY_TO_6), WHITE),
+        (Exchange(GreyList(0), 8), 0),
+        (Exchange(Payload(9, 1), TO_8), TO_7),
+        (Load(Owner(7)), SHARED),
+        (Exchange(GreyList(0), 0), 0),
+        (CompareExchange(Colour(7), WHITE, GREY), WHITE),
+        (Exchange(GreyList(0), 7), 0),
+        (Exchange(Payload(2, 3), TO_7), TO_8),
     ];
     assert_eq!(rt; behind(&WIDE, MARK, SWAP, &events), over(7, SHARED_NAME));
 }
@@ -57,24 +51,23 @@ fn swap_shades_both_ways(rt: HostRuntime) {
 // Nothing is shaded in Sweep, nor for nil and numbers.
 #[test]
 fn swap_shades_nothing(rt: HostRuntime) {
-    let places = Spots::of(&WIDE);
     let [register, shape] = to_record();
-    let mine = Op::load(places.payload(2, 3));
+    let mine = Load(Payload(2, 3));
     let sweep = [
         register,
         shape,
         (mine, TO_8),
-        (Op::exchange(places.payload(9, 1), TO_8), TO_7),
-        (Op::load(places.owner(7)), SHARED),
-        (Op::exchange(places.payload(2, 3), TO_7), TO_8),
+        (Exchange(Payload(9, 1), TO_8), TO_7),
+        (Load(Owner(7)), SHARED),
+        (Exchange(Payload(2, 3), TO_7), TO_8),
     ];
     assert_eq!(rt; behind(&WIDE, SWEEP, SWAP, &sweep), over(4, SHARED_NAME));
     let number = [
         register,
         shape,
         (mine, NIL),
-        (Op::exchange(places.payload(9, 1), NIL), THREE),
-        (Op::exchange(places.payload(2, 3), THREE), NIL),
+        (Exchange(Payload(9, 1), NIL), THREE),
+        (Exchange(Payload(2, 3), THREE), NIL),
     ];
     assert_eq!(rt;
         behind(&WIDE, MARK, SWAP, &number),
@@ -85,17 +78,16 @@ fn swap_shades_nothing(rt: HostRuntime) {
 // It loads the register with which it compares first, and shades what it is about to store.
 #[test]
 fn cas_wins(rt: HostRuntime) {
-    let places = Spots::of(&WIDE);
     let [register, shape] = to_record();
     let events = [
         register,
         shape,
-        (Op::load(places.payload(2, 2)), TO_7),
-        (Op::load(places.payload(2, 3)), TO_8),
-        (Op::exchange(places.grey_list(0), 0), 0),
-        (Op::compare_exchange(places.colour(8), WHITE, GREY), WHITE),
-        (Op::exchange(places.grey_list(0), 8), 0),
-        (Op::compare_exchange(places.payload(9, 1), TO_7, TO_8), TO_7),
+        (Load(Payload(2, 2)), TO_7),
+        (Load(Payload(2, 3)), TO_8),
+        (Exchange(GreyList(0), 0), 0),
+        (CompareExchange(Colour(8), WHITE, GREY), WHITE),
+        (Exchange(GreyList(0), 8), 0),
+        (CompareExchange(Payload(9, 1), TO_7, TO_8), TO_7),
     ];
     assert_eq!(rt; behind(&WIDE, MARK, CAS, &events), over(8, Reply::Yes));
 }
@@ -103,15 +95,14 @@ fn cas_wins(rt: HostRuntime) {
 // Where the field has another word it answers so, and waits for nothing.
 #[test]
 fn cas_loses(rt: HostRuntime) {
-    let places = Spots::of(&WIDE);
     let [register, shape] = to_record();
     for (word, reply) in [(THREE, Reply::No), (NIL, Reply::Yes)] {
         let events = [
             register,
             shape,
-            (Op::load(places.payload(2, 2)), NIL),
-            (Op::load(places.payload(2, 3)), FOUR),
-            (Op::compare_exchange(places.payload(9, 1), NIL, FOUR), word),
+            (Load(Payload(2, 2)), NIL),
+            (Load(Payload(2, 3)), FOUR),
+            (CompareExchange(Payload(9, 1), NIL, FOUR), word),
         ];
         assert_eq!(rt; behind(&WIDE, MARK, CAS, &events), over(5, reply));
     }
@@ -139,8 +130,7 @@ fn both_are_refused(rt: HostRuntime) {
 // In its last pass it looks at the phase, and no more.
 #[test]
 fn idle_looks_once(rt: HostRuntime) {
-    let places = Spots::of(&WIDE);
-    let look = [(Op::load(places.phase()), INSIDE)];
+    let look = [(Load(Phase), INSIDE)];
     assert_eq!(rt;
         behind(&WIDE, MARK, Command::Idle { units: 3 }, &look),
         over(1, Reply::Idle)

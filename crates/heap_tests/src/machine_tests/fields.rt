@@ -1,67 +1,57 @@
 //! Commands done by hand on the words of a heap with one thread. Its register 0 refers to an array
 //! of five elements, in blocks 6 to 8, and register 1 to a record of one field, in block 9.
 
-use crate::machine_tests::hand::{behind, got, over};
+use crate::machine_tests::hand::{behind, over};
+use crate::machine_tests::rows::At::*;
+use crate::machine_tests::rows::On::*;
 use crate::machine_tests::small::{
-    FIVE, FOUR, MARK, NIL, ONE, SEVEN, SHARED, SHARED_NAME, SMALL, Spots, THREE, TO_6, TO_8, TO_9,
+    FIVE, FOUR, MARK, NIL, ONE, SEVEN, SHARED, SHARED_NAME, SMALL, THREE, TO_6, TO_8, TO_9,
 };
 use barrier_steps::FieldPass;
 use block_store::{OutOfMemory, Places, Value};
-use heap_machine::{Op, Step, Words};
+use heap_machine::{Step, Words};
 use never_heap::{Command, Reply};
 
 #[test]
-#[tactic(auto, unfolding(block_store::specs::Payloads::payload_of, block_store::specs::Payloads::target, block_store::specs::Shapes::shape_of, array_trees::specs::Levels::tree_depth))]
 fn get_of_an_element(rt: HostRuntime) {
-    let places = Places::new(&SMALL);
-    let mut get = FieldPass::new(0, 1, MARK, Command::Get { d: 3, s: 0, i: 4 });
-    assert_eq!(rt; get.want(&places), Op::load(places.payload(2, 0)));
-    assert_eq!(rt; got(&mut get, &places, TO_6), Step::Went);
-    assert_eq!(rt; get.want(&places), Op::load(places.shape(6)));
-    assert_eq!(rt; got(&mut get, &places, FIVE), Step::Went);
-    assert_eq!(rt; get.want(&places), Op::load(places.payload(6, 1)));
-    assert_eq!(rt; got(&mut get, &places, TO_8), Step::Went);
-    assert_eq!(rt; get.want(&places), Op::load(places.payload(8, 0)));
-    assert!(rt; !get.decided());
-    assert_eq!(rt; got(&mut get, &places, SEVEN), Step::Went);
-    assert!(rt; get.decided());
-    assert_eq!(rt; get.reply(), None);
-    assert_eq!(rt;
-        get.want(&places),
-        Op::exchange(places.payload(2, 3), SEVEN)
-    );
-    assert_eq!(rt; got(&mut get, &places, NIL), Step::Over);
-    assert_eq!(rt; get.reply(), Some(Reply::Val(Value::Int(7))));
+    let get = Command::Get { d: 3, s: 0, i: 4 };
+    let events = [
+        (Load(Payload(2, 0)), TO_6),
+        (Load(Shape(6)), FIVE),
+        (Load(Payload(6, 1)), TO_8),
+        (Load(Payload(8, 0)), SEVEN),
+        (Exchange(Payload(2, 3), SEVEN), NIL),
+    ];
+    let seven = Reply::Val(Value::Int(7));
+    assert_eq!(rt; behind(&SMALL, MARK, get, &events), over(4, seven));
 }
 
 #[test]
 fn put_in_a_field(rt: HostRuntime) {
-    let places = Spots::of(&SMALL);
     let put = Command::Put { s: 1, i: 0, v: 2 };
     let events = [
-        (Op::load(places.payload(2, 1)), TO_9),
-        (Op::load(places.shape(9)), ONE),
-        (Op::load(places.payload(2, 2)), FOUR),
-        (Op::exchange(places.payload(9, 1), FOUR), NIL),
+        (Load(Payload(2, 1)), TO_9),
+        (Load(Shape(9)), ONE),
+        (Load(Payload(2, 2)), FOUR),
+        (Exchange(Payload(9, 1), FOUR), NIL),
     ];
     assert_eq!(rt; behind(&SMALL, MARK, put, &events), over(4, Reply::Stored));
 }
 
 #[test]
 fn registers_are_shown(rt: HostRuntime) {
-    let places = Spots::of(&SMALL);
-    let from = (Op::load(places.payload(2, 0)), TO_6);
-    let len = [from, (Op::load(places.shape(6)), FIVE)];
+    let from = (Load(Payload(2, 0)), TO_6);
+    let len = [from, (Load(Shape(6)), FIVE)];
     assert_eq!(rt;
         behind(&SMALL, MARK, Command::Len { s: 0 }, &len),
         over(2, Reply::Len(5))
     );
-    let same = [from, (Op::load(places.payload(2, 1)), TO_9)];
+    let same = [from, (Load(Payload(2, 1)), TO_9)];
     assert_eq!(rt;
         behind(&SMALL, MARK, Command::Same { a: 0, b: 1 }, &same),
         over(2, Reply::No)
     );
-    let say = [from, (Op::load(places.owner(6)), SHARED)];
+    let say = [from, (Load(Owner(6)), SHARED)];
     assert_eq!(rt;
         behind(&SMALL, MARK, Command::Say { s: 0 }, &say),
         over(1, SHARED_NAME)
@@ -70,9 +60,8 @@ fn registers_are_shown(rt: HostRuntime) {
 
 #[test]
 fn refusals(rt: HostRuntime) {
-    let places = Spots::of(&SMALL);
     let get = Command::Get { d: 3, s: 0, i: 5 };
-    let from = Op::load(places.payload(2, 0));
+    let from = Load(Payload(2, 0));
     assert_eq!(rt;
         behind(&SMALL, MARK, get, &[(from, NIL)]),
         over(1, Reply::Null)
@@ -81,7 +70,7 @@ fn refusals(rt: HostRuntime) {
         behind(&SMALL, MARK, get, &[(from, THREE)]),
         over(1, Reply::Kind)
     );
-    let range = [(from, TO_6), (Op::load(places.shape(6)), FIVE)];
+    let range = [(from, TO_6), (Load(Shape(6)), FIVE)];
     assert_eq!(rt; behind(&SMALL, MARK, get, &range), over(2, Reply::Range));
 }
 

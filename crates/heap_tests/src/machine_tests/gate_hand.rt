@@ -8,7 +8,7 @@ ghost use Rattle.heap_machine.specs.Operations.{place_of};
 ghost use Rattle.heap_machine.specs.Readings.{CanHold};
 
 use crate::machine_tests::held::{can_hold, place_of};
-use crate::machine_tests::rows::Row;
+use crate::machine_tests::rows::{Row, Wanted, row_of};
 use block_store::{Config, PhaseWord, Places};
 use heap_machine::{Gate, Op, Step, gate_rows_stay_in_the_heap};
 
@@ -36,7 +36,7 @@ pub fn at_gate(c: &Config, way: TreePath, rows: &[Row]) -> Option<AtGate> {
         if gate.started().is_some() {
             return None;
         }
-        event(c, &mut gate, row)?;
+        event(c, &mut gate, &row_of(c, *row))?;
     }
     Some((gate.want(&Places::new(c)), gate.entered(), gate.started()))
 }
@@ -77,7 +77,7 @@ fn turning(c: &Config, thread: u32, cycle: u64, sweep: bool) -> Option<Gate>
 }
 
 // One event.
-fn event(c: &Config, gate: &mut Gate, row: &Row) -> Option<()>
+fn event(c: &Config, gate: &mut Gate, row: &Wanted) -> Option<()>
     requires bounds { IsInBounds c.now }
     requires fits { GateFits gate.old }
     requires places { GateAt c.now gate.old }

@@ -1,9 +1,11 @@
 //! Operations on a few words, and the gate of a heap of 64 blocks.
 
-use crate::machine_tests::gate_hand::{TreePath, at_gate};
-use crate::machine_tests::rows::{over, waited, waited_over, went};
-use crate::machine_tests::small::{BLACK, GREY, INSIDE, MARK, OPEN, PAIR, SMALL, Spots};
-use block_store::{Config, OutOfMemory, Width};
+use crate::machine_tests::gate_hand::{AtGate, TreePath, at_gate};
+use crate::machine_tests::rows::At::*;
+use crate::machine_tests::rows::End::*;
+use crate::machine_tests::rows::On::*;
+use crate::machine_tests::small::{BLACK, GREY, INSIDE, MARK, OPEN, PAIR, SMALL};
+use block_store::{Config, OutOfMemory, PhaseWord, Width};
 use heap_machine::{Op, Words};
 
 const ONE: Config = Config {
@@ -50,28 +52,23 @@ fn operations_answer_the_word_before(rt: HostRuntime) -> Result<(), OutOfMemory>
 
 #[test]
 fn a_thread_goes_in_and_out(rt: HostRuntime) {
-    let phase = Spots::of(&ONE).phase();
-    let look = Op::load(phase);
+    let look = Load(Phase);
     let enter = [
-        waited(look, CLOSED),
-        went(look, OPEN),
-        over(Op::compare_exchange(phase, OPEN, INSIDE), OPEN),
+        (look, CLOSED, Waited),
+        (look, OPEN, Went),
+        (CompareExchange(Phase, OPEN, INSIDE), OPEN, Over),
     ];
     assert_eq!(rt;
         at_gate(&ONE, TreePath::In, &enter),
-        Some((look, Some(MARK), None))
+        looks(Some(MARK), None)
     );
-    let leave = [over(
-        Op::FetchSub {
-            place: phase,
-            by: 1,
-        },
-        INSIDE,
-    )];
-    assert_eq!(rt;
-        at_gate(&ONE, TreePath::Out, &leave),
-        Some((look, None, None))
-    );
+    let leave = [(FetchSub(Phase, 1), INSIDE, Over)];
+    assert_eq!(rt; at_gate(&ONE, TreePath::Out, &leave), looks(None, None));
+}
+
+// Where a part looks at the phase next.
+fn looks(entered: Option<PhaseWord>, started: Option<u64>) -> Option<AtGate> {
+    Some((Op::Load { place: 0 }, entered, started))
 }
 
 // The turn over of thread `t` of two, after a Mark pass of cycle 1.
@@ -85,62 +82,62 @@ fn turn_over(thread: u32) -> TreePath {
 
 #[test]
 fn a_turn_over_that_finds_nothing_flips(rt: HostRuntime) {
-    let places = Spots::of(&TWO);
-    let phase = places.phase();
-    let look = Op::load(phase);
+    let look = Load(Phase);
     let rows = [
-        went(look, OPEN),
-        went(Op::compare_exchange(phase, OPEN, CLOSED), OPEN),
-        went(Op::load(places.grey_list(0)), 0),
-        went(Op::load(places.grey_list(1)), 0),
-        went(Op::exchange(places.cursor(), AT_FIRST), BEHIND_ALL),
-        over(Op::exchange(phase, SWEEP), CLOSED),
+        (look, OPEN, Went),
+        (CompareExchange(Phase, OPEN, CLOSED), OPEN, Went),
+        (Load(GreyList(0)), 0, Went),
+        (Load(GreyList(1)), 0, Went),
+        (Exchange(Cursor, AT_FIRST), BEHIND_ALL, Went),
+        (Exchange(Phase, SWEEP), CLOSED, Over),
     ];
-    assert_eq!(rt;
-        at_gate(&TWO, turn_over(1), &rows),
-        Some((look, None, None))
-    );
+    assert_eq!(rt; at_gate(&TWO, turn_over(1), &rows), looks(None, None));
 }
 
 #[test]
 fn a_turn_over_that_finds_a_grey_block_reopens(rt: HostRuntime) {
-    let places = Spots::of(&TWO);
-    let phase = places.phase();
-    let look = Op::load(phase);
+    let look = Load(Phase);
     let rows = [
-        went(look, OPEN),
-        went(Op::compare_exchange(phase, OPEN, CLOSED), OPEN),
-        went(Op::load(places.grey_list(0)), 0),
-        went(Op::load(places.grey_list(1)), 7),
-        over(Op::exchange(phase, OPEN), CLOSED),
+        (look, OPEN, Went),
+        (CompareExchange(Phase, OPEN, CLOSED), OPEN, Went),
+        (Load(GreyList(0)), 0, Went),
+        (Load(GreyList(1)), 7, Went),
+        (Exchange(Phase, OPEN), CLOSED, Over),
     ];
-    assert_eq!(rt;
-        at_gate(&TWO, turn_over(0), &rows),
-        Some((look, None, None))
-    );
+    assert_eq!(rt; at_gate(&TWO, turn_over(0), &rows), looks(None, None));
 }
 
 // The look whether the gate can be closed, in Mark of cycle 1, and a lost exchange.
 #[test]
 fn a_turn_over_waits_where_the_gate_is_in_use(rt: HostRuntime) {
-    let phase = Spots::of(&TWO).phase();
-    let look = Op::load(phase);
-    let close = Op::compare_exchange(phase, OPEN, CLOSED);
-    let kept_out = Some((look, None, None));
+    let look = Load(Phase);
+    let close = CompareExchange(Phase, OPEN, CLOSED);
+    let kept_out = looks(None, None);
     assert_eq!(rt;
-        at_gate(&TWO, turn_over(0), &[went(look, OPEN)]),
-        Some((close, None, None))
+        at_gate(&TWO, turn_over(0), &[(look, OPEN, Went)]),
+        Some((
+            Op::CompareExchange {
+                place: 0,
+                old: OPEN,
+                new: CLOSED
+            },
+            None,
+            None
+        ))
     );
     for word in [INSIDE, CLOSED] {
         assert_eq!(rt;
-            at_gate(&TWO, turn_over(0), &[waited_over(look, word)]),
+            at_gate(&TWO, turn_over(0), &[(look, word, WaitedOver)]),
             kept_out
         );
     }
     for word in [SWEEP, SWEEP_CLOSED, NEXT, NEXT_INSIDE] {
-        assert_eq!(rt; at_gate(&TWO, turn_over(0), &[over(look, word)]), kept_out);
+        assert_eq!(rt;
+            at_gate(&TWO, turn_over(0), &[(look, word, Over)]),
+            kept_out
+        );
     }
-    let lost = [went(look, OPEN), waited_over(close, INSIDE)];
+    let lost = [(look, OPEN, Went), (close, INSIDE, WaitedOver)];
     assert_eq!(rt; at_gate(&TWO, turn_over(0), &lost), kept_out);
 }
 
@@ -150,22 +147,20 @@ fn a_turn_over_waits_where_the_gate_is_in_use(rt: HostRuntime) {
 fn a_sweep_pass_that_finds_nothing_starts_a_cycle(rt: HostRuntime) {
     for (width, root) in [(Width::Four, 6), (Width::Eight, 4)] {
         let c = Config { width, ..TWO };
-        let places = Spots::of(&c);
-        let phase = places.phase();
-        let look = Op::load(phase);
+        let look = Load(Phase);
         let rows = [
-            went(look, SWEEP),
-            went(Op::compare_exchange(phase, SWEEP, SWEEP_CLOSED), SWEEP),
-            went(Op::exchange(places.colour(1), GREY), BLACK),
-            went(Op::exchange(places.colour(root), GREY_TO_FIRST), BLACK),
-            went(Op::exchange(places.grey_list(1), u64::from(root)), 0),
-            over(Op::exchange(phase, NEXT), SWEEP_CLOSED),
+            (look, SWEEP, Went),
+            (CompareExchange(Phase, SWEEP, SWEEP_CLOSED), SWEEP, Went),
+            (Exchange(Colour(1), GREY), BLACK, Went),
+            (Exchange(Colour(root), GREY_TO_FIRST), BLACK, Went),
+            (Exchange(GreyList(1), u64::from(root)), 0, Went),
+            (Exchange(Phase, NEXT), SWEEP_CLOSED, Over),
         ];
         let way = TreePath::Over {
             thread: 1,
             cycle: 1,
             sweep: true,
         };
-        assert_eq!(rt; at_gate(&c, way, &rows), Some((look, None, Some(2))));
+        assert_eq!(rt; at_gate(&c, way, &rows), looks(None, Some(2)));
     }
 }

@@ -6,7 +6,7 @@ ghost use Rattle.block_store.specs.Configs.{IsInBounds};
 ghost use Rattle.grey_steps.specs.Fits.{GreyFits, GreyReads};
 
 use crate::machine_tests::held::{can_hold, has, place_of, word_at};
-use crate::machine_tests::rows::Row;
+use crate::machine_tests::rows::{Row, Wanted, row_of};
 use block_store::{Config, Places};
 use grey_steps::{GreyPass, GreyRow, rows_stay_in_the_heap};
 use heap_machine::{ScriptedMemory, Step, Words};
@@ -17,7 +17,7 @@ use heap_machine::{ScriptedMemory, Step, Words};
 pub fn scanned(c: &Config, thread: u32, rows: &[Row]) -> Option<bool> {
     let mut pass = scan(c, thread)?;
     for row in rows {
-        event(c, &mut pass, row)?;
+        event(c, &mut pass, &row_of(c, *row))?;
     }
     Some(pass.nothing())
 }
@@ -26,7 +26,7 @@ pub fn scanned(c: &Config, thread: u32, rows: &[Row]) -> Option<bool> {
 pub fn shaded(c: &Config, thread: u32, block: u32, rows: &[Row]) -> Option<bool> {
     let mut pass = shade(c, thread, block)?;
     for row in rows {
-        event(c, &mut pass, row)?;
+        event(c, &mut pass, &row_of(c, *row))?;
     }
     Some(pass.nothing())
 }
@@ -80,7 +80,7 @@ fn shade(c: &Config, thread: u32, block: u32) -> Option<GreyPass>
 }
 
 // One event.
-fn event(c: &Config, pass: &mut GreyPass, row: &Row) -> Option<()>
+fn event(c: &Config, pass: &mut GreyPass, row: &Wanted) -> Option<()>
     requires bounds { IsInBounds c.now }
     requires fits { GreyFits c.now pass.old }
     ensures { GreyFits c.now pass.new }

@@ -10,6 +10,7 @@ ghost use Rattle.barrier_steps.specs.Fits.{FieldFits, FieldReads};
 ghost use Rattle.heap_tests.specs.machine_tests.Links.{before_link};
 
 use crate::machine_tests::held::{can_hold, place_of};
+use crate::machine_tests::rows::{On, op_of};
 use barrier_steps::{FieldPass, rows_stay_in_the_heap};
 use block_store::{Config, PhaseWord, Places};
 use heap_machine::{Op, ScriptedMemory, Step};
@@ -20,7 +21,12 @@ pub type Behind = (Option<usize>, Op, Option<Reply>);
 
 /// After the last event of a command.
 pub fn over(decided: usize, reply: Reply) -> Option<Behind> {
-    Some((Some(decided), Op::load(0), Some(reply)))
+    Some((Some(decided), Op::Load { place: 0 }, Some(reply)))
+}
+
+/// Before an event with this operation.
+pub fn wants(c: &Config, decided: Option<usize>, on: On) -> Option<Behind> {
+    Some((decided, op_of(c, on), None))
 }
 
 /// Where a command of the only thread comes after events with these operations, which read these
@@ -30,15 +36,15 @@ pub fn behind(
     c: &Config,
     phase: PhaseWord,
     command: Command,
-    events: &[(Op, u64)],
+    events: &[(On, u64)],
 ) -> Option<Behind>
     requires { field_decided (first_row command) ≡ false }
 {
     let mut pass = begun(c, phase, command)?;
     let mut free = events_before_link(command);
     let mut decided = None;
-    for (number, (op, word)) in events.iter().enumerate() {
-        let step = event(c, &mut pass, free, op, *word)?;
+    for (number, (on, word)) in events.iter().enumerate() {
+        let step = event(c, &mut pass, free, &op_of(c, *on), *word)?;
         if (step == Step::Over) != pass.reply().is_some() {
             return None;
         }
@@ -116,8 +122,8 @@ fn event(c: &Config, pass: &mut FieldPass, free: u32, op: &Op, word: u64) -> Opt
     Some(got(pass, &places, word))
 }
 
-/// One event, whose operation reads the word.
-pub fn got(pass: &mut FieldPass, places: &Places, word: u64) -> Step
+// One event, whose operation reads the word.
+fn got(pass: &mut FieldPass, places: &Places, word: u64) -> Step
     requires fits { FieldFits places.now pass.old }
     requires word { FieldReads places.now pass.old word }
     ensures row { pass.new ≡ field_got (extent places.now) pass.old word }

@@ -1,11 +1,13 @@
 //! Scans and shades done by hand on the words of a heap with two threads, in cycle 1.
 
 use crate::machine_tests::grey_hand::{scanned, shaded, shaded_words};
-use crate::machine_tests::rows::{over, unit, went};
-use crate::machine_tests::small::{BLACK, GREY, GREY_TO_6, NIL, PAIR, SEVEN, Spots, WHITE};
+use crate::machine_tests::rows::At::*;
+use crate::machine_tests::rows::End::*;
+use crate::machine_tests::rows::On::*;
+use crate::machine_tests::small::{BLACK, GREY, GREY_TO_6, NIL, PAIR, SEVEN, WHITE};
 use block_store::{OutOfMemory, Places};
 use grey_steps::GreyRow;
-use heap_machine::{Op, Step, Words};
+use heap_machine::{Step, Words};
 
 // Grey blocks after which block 9 or 13 is.
 const GREY_TO_9: u64 = 75;
@@ -21,35 +23,27 @@ const TO_13: u64 = 26;
 // is white, and one to block 12, which is black.
 #[test]
 fn a_block_is_scanned(rt: HostRuntime) {
-    let places = Spots::of(&PAIR);
     let rows = [
-        went(Op::exchange(places.grey_list(0), 0), 0),
-        went(Op::exchange(places.grey_list(1), 0), 11),
-        went(Op::load(places.colour(11)), GREY_TO_6),
-        went(Op::load(places.payload(11, 0)), NIL),
-        went(Op::load(places.payload(11, 1)), SEVEN),
-        went(Op::load(places.payload(11, 2)), TO_13),
-        went(
-            Op::compare_exchange(places.colour(13), WHITE, GREY_TO_6),
-            WHITE,
-        ),
-        went(Op::load(places.payload(11, 3)), TO_12),
-        went(
-            Op::compare_exchange(places.colour(12), WHITE, GREY_TO_13),
-            BLACK,
-        ),
-        unit(went(Op::exchange(places.colour(11), BLACK), GREY_TO_6)),
-        unit(over(Op::exchange(places.grey_list(0), 13), 0)),
+        (Exchange(GreyList(0), 0), 0, Went),
+        (Exchange(GreyList(1), 0), 11, Went),
+        (Load(Colour(11)), GREY_TO_6, Went),
+        (Load(Payload(11, 0)), NIL, Went),
+        (Load(Payload(11, 1)), SEVEN, Went),
+        (Load(Payload(11, 2)), TO_13, Went),
+        (CompareExchange(Colour(13), WHITE, GREY_TO_6), WHITE, Went),
+        (Load(Payload(11, 3)), TO_12, Went),
+        (CompareExchange(Colour(12), WHITE, GREY_TO_13), BLACK, Went),
+        (Exchange(Colour(11), BLACK), GREY_TO_6, Unit),
+        (Exchange(GreyList(0), 13), 0, UnitOver),
     ];
     assert_eq!(rt; scanned(&PAIR, 0, &rows), Some(false));
 }
 
 #[test]
 fn nothing_is_grey(rt: HostRuntime) {
-    let places = Spots::of(&PAIR);
     let rows = [
-        went(Op::exchange(places.grey_list(1), 0), 0),
-        over(Op::exchange(places.grey_list(0), 0), 0),
+        (Exchange(GreyList(1), 0), 0, Went),
+        (Exchange(GreyList(0), 0), 0, Over),
     ];
     assert_eq!(rt; scanned(&PAIR, 1, &rows), Some(true));
 }
@@ -57,18 +51,15 @@ fn nothing_is_grey(rt: HostRuntime) {
 // The first time it is white, and the second time grey, and the own list empty.
 #[test]
 fn a_block_is_shaded(rt: HostRuntime) {
-    let places = Spots::of(&PAIR);
-    let list = places.grey_list(1);
-    let colour = places.colour(12);
     let rows = [
-        went(Op::exchange(list, 0), 9),
-        went(Op::compare_exchange(colour, WHITE, GREY_TO_9), WHITE),
-        over(Op::exchange(list, 12), 0),
+        (Exchange(GreyList(1), 0), 9, Went),
+        (CompareExchange(Colour(12), WHITE, GREY_TO_9), WHITE, Went),
+        (Exchange(GreyList(1), 12), 0, Over),
     ];
     assert_eq!(rt; shaded(&PAIR, 1, 12, &rows), Some(false));
     let again = [
-        went(Op::exchange(list, 0), 0),
-        over(Op::compare_exchange(colour, WHITE, GREY), GREY_TO_9),
+        (Exchange(GreyList(1), 0), 0, Went),
+        (CompareExchange(Colour(12), WHITE, GREY), GREY_TO_9, Over),
     ];
     assert_eq!(rt; shaded(&PAIR, 1, 12, &again), Some(false));
 }

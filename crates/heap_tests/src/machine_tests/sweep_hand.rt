@@ -5,7 +5,7 @@ ghost use Rattle.block_store.specs.Configs.{IsInBounds};
 ghost use Rattle.sweep_steps.specs.Fits.{SweepFits, SweepReads};
 
 use crate::machine_tests::held::{can_hold, has, place_of, word_at};
-use crate::machine_tests::rows::Row;
+use crate::machine_tests::rows::{Row, Wanted, row_of};
 use block_store::{Config, Places};
 use heap_machine::{ScriptedMemory, Step, Words};
 use sweep_steps::{SweepPass, rows_stay_in_the_heap};
@@ -20,7 +20,8 @@ pub fn swept(c: &Config, thread: u32, cycle: u64, owed: u64, rows: &[Row]) -> Op
     let mut pass = begun(c, thread, cycle, owed)?;
     let mut units = 0;
     for row in rows {
-        event(c, &mut pass, row)?;
+        let row = row_of(c, *row);
+        event(c, &mut pass, &row)?;
         units = and_one(units, row.unit);
         if pass.passed() != units {
             return None;
@@ -67,7 +68,7 @@ fn begun(c: &Config, thread: u32, cycle: u64, owed: u64) -> Option<SweepPass>
 }
 
 // One event.
-fn event(c: &Config, pass: &mut SweepPass, row: &Row) -> Option<()>
+fn event(c: &Config, pass: &mut SweepPass, row: &Wanted) -> Option<()>
     requires bounds { IsInBounds c.now }
     requires fits { SweepFits c.now pass.old }
     ensures { SweepFits c.now pass.new }

@@ -1,10 +1,12 @@
 //! Sweeps done by hand on the words of a heap.
 
-use crate::machine_tests::rows::{over, unit, waited, went};
+use crate::machine_tests::rows::At::*;
+use crate::machine_tests::rows::End::*;
+use crate::machine_tests::rows::On::*;
 use crate::machine_tests::small::{BLACK, PAIR, SMALL, WHITE};
 use crate::machine_tests::sweep_hand::{swept, swept_words};
 use block_store::{Config, OutOfMemory};
-use heap_machine::{Op, Step, Words};
+use heap_machine::{Step, Words};
 
 const ALONE: Config = Config {
     blocks: 64,
@@ -32,15 +34,15 @@ const FREE_TO_18: u64 = 144;
 #[test]
 fn a_range_is_passed(rt: HostRuntime) {
     let rows = [
-        went(Op::load(1), 2),
-        went(Op::compare_exchange(1, 2, 9), 2),
-        unit(went(Op::load(12), BLACK)),
-        unit(went(Op::load(19), BLACK)),
-        unit(went(Op::load(26), BLACK)),
-        unit(went(Op::load(33), BLACK)),
-        unit(went(Op::load(40), BLACK)),
-        unit(went(Op::load(47), BLACK)),
-        unit(over(Op::load(54), FREE_TO_9)),
+        (Load(Word(1)), 2, Went),
+        (CompareExchange(Word(1), 2, 9), 2, Went),
+        (Load(Word(12)), BLACK, Unit),
+        (Load(Word(19)), BLACK, Unit),
+        (Load(Word(26)), BLACK, Unit),
+        (Load(Word(33)), BLACK, Unit),
+        (Load(Word(40)), BLACK, Unit),
+        (Load(Word(47)), BLACK, Unit),
+        (Load(Word(54)), FREE_TO_9, UnitOver),
     ];
     assert_eq!(rt; swept(&ALONE, 0, 1, 7, &rows), Some((7, false)));
 }
@@ -50,16 +52,16 @@ fn a_range_is_passed(rt: HostRuntime) {
 #[test]
 fn white_blocks_are_freed(rt: HostRuntime) {
     let rows = [
-        went(Op::load(1), 18),
-        went(Op::compare_exchange(1, 18, 21), 18),
-        went(Op::load(126), WHITE),
-        went(Op::exchange(6, 0), 9),
-        unit(went(Op::exchange(126, FREE_TO_9), WHITE)),
-        unit(went(Op::load(133), BLACK)),
-        went(Op::load(140), WHITE),
-        unit(went(Op::exchange(140, FREE_TO_18), WHITE)),
-        went(Op::exchange(6, 20), 0),
-        over(Op::FetchAdd { place: 2, by: 2 }, 5),
+        (Load(Word(1)), 18, Went),
+        (CompareExchange(Word(1), 18, 21), 18, Went),
+        (Load(Word(126)), WHITE, Went),
+        (Exchange(Word(6), 0), 9, Went),
+        (Exchange(Word(126), FREE_TO_9), WHITE, Unit),
+        (Load(Word(133)), BLACK, Unit),
+        (Load(Word(140)), WHITE, Went),
+        (Exchange(Word(140), FREE_TO_18), WHITE, Unit),
+        (Exchange(Word(6), 20), 0, Went),
+        (FetchAdd(Word(2), 2), 5, Over),
     ];
     assert_eq!(rt; swept(&PAIR, 1, 1, 100, &rows), Some((3, false)));
 }
@@ -68,9 +70,9 @@ fn white_blocks_are_freed(rt: HostRuntime) {
 #[test]
 fn nothing_is_left(rt: HostRuntime) {
     let rows = [
-        went(Op::load(1), 3),
-        waited(Op::compare_exchange(1, 3, 11), 21),
-        over(Op::load(1), 21),
+        (Load(Word(1)), 3, Went),
+        (CompareExchange(Word(1), 3, 11), 21, Waited),
+        (Load(Word(1)), 21, Over),
     ];
     assert_eq!(rt; swept(&PAIR, 0, 2, 100, &rows), Some((0, true)));
 }
