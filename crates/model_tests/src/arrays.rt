@@ -65,18 +65,31 @@ fn is_linked_in_order(width: Width, payloads: u32, e: u32) -> bool
     next == blocks
 }
 
-// Whether the way to each element ends in the leaf and at the payload that come next.
+// Whether the way to an element ends in the leaf and at the payload that come next.
+fn ends_next(width: Width, payloads: u32, e: u32, i: u32) -> bool
+    requires some { 0 < payloads }
+    requires few { e ≤ 65535 }
+{
+    let Some(leaf) = leaf_of(width, e, i) else {
+        return false;
+    };
+    let leaves = e.div_ceil(payloads).max(1);
+    let next = blocks_of_array(width, e).saturating_add(i / payloads);
+    leaf.saturating_add(leaves) == next
+        && path_at(width, e, i, depth_of(width, e)) == Some(i % payloads)
+}
+
+// Whether that is so of each element.
 fn ends_in_order(width: Width, payloads: u32, e: u32) -> bool
     requires some { 0 < payloads }
     requires few { e ≤ 65535 }
 {
-    let blocks = blocks_of_array(width, e);
-    let leaves = e.div_ceil(payloads).max(1);
-    (0..e).all(|i| {
-        let leaf = leaf_of(width, e, i).and_then(|ordinal| ordinal.checked_add(leaves));
-        leaf == Some(blocks + i / payloads)
-            && path_at(width, e, i, depth_of(width, e)) == Some(i % payloads)
-    })
+    for i in 0..e {
+        if !ends_next(width, payloads, e, i) {
+            return false;
+        }
+    }
+    true
 }
 
 // Follows the links from the root to the leaf of an element.

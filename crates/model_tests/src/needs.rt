@@ -17,6 +17,14 @@ fn rate_at(blocks: u32, live: u64) -> Option<u64> {
     .ok()
 }
 
+/// Whether it has one that is no higher.
+fn is_within(blocks: u32, live: u64, rate: u64) -> bool {
+    match rate_at(blocks, live) {
+        Some(found) => found <= rate,
+        None => false,
+    }
+}
+
 /// A heap of two threads.
 const HEAP: Config = Config {
     width: Width::Four,
@@ -33,15 +41,11 @@ fn no_smaller_number_has_the_rate(rt: HostRuntime) {
         for rate in [5, 6, 7, 12, 64, 1024] {
             match least_blocks(&HEAP, live, rate) {
                 Some(blocks) => {
-                    let here = rate_at(blocks, live);
-                    assert!(rt; here.is_some_and(|found| found <= rate), "{live} {rate}");
-                    let below = rate_at(blocks.saturating_sub(1), live);
-                    assert!(rt; below.is_none_or(|found| found > rate), "{live} {rate}");
+                    assert!(rt; is_within(blocks, live, rate), "{live} {rate}");
+                    let fewer = blocks.saturating_sub(1);
+                    assert!(rt; !is_within(fewer, live, rate), "{live} {rate}");
                 }
-                None => {
-                    let most = rate_at(65_535, live);
-                    assert!(rt; most.is_none_or(|found| found > rate), "{live} {rate}");
-                }
+                None => assert!(rt; !is_within(65_535, live, rate), "{live} {rate}"),
             }
         }
     }

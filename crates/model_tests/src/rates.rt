@@ -1,4 +1,4 @@
-//! Rates of worked heaps, and rates that are searched for one after the other.
+//! Rates that are searched for one after the other. `tests/plans.runs` has those of worked heaps.
 
 ghost use Rattle.std.specs.Prelude.{◌≤◌};
 ghost use Rattle.block_store.specs.Configs.{IsInBounds};
@@ -7,39 +7,6 @@ use block_store::Config;
 use block_store::Width::{self, Eight, Four};
 use rate_plan::PlanFault::{self, LiveTooSmall, NoRate};
 use rate_plan::plan;
-
-#[test]
-fn known_rates(rt: HostRuntime) {
-    for (width, blocks, live, rate) in [
-        (Four, 64, 20, Ok(7)),
-        (Four, 26, 20, Ok(52)),
-        (Four, 25, 20, Err(NoRate)),
-        (Four, 64, 5, Err(LiveTooSmall)),
-        (Four, 10, 5, Err(LiveTooSmall)),
-        (Eight, 64, 20, Ok(7)),
-        (Eight, 64, 4, Ok(5)),
-        (Eight, 64, 3, Err(LiveTooSmall)),
-    ] {
-        let c = Config {
-            width,
-            threads: 1,
-            blocks,
-            live,
-            object: 2,
-            shared: 0,
-        };
-        assert_eq!(rt; plan(&c), rate, "{c:?}");
-    }
-    let c = Config {
-        width: Four,
-        threads: 4,
-        blocks: 4096,
-        live: 2000,
-        object: 16,
-        shared: 64,
-    };
-    assert_eq!(rt; plan(&c), Ok(9));
-}
 
 // Tries one rate after the other. `opening` is how many blocks the heap opens with.
 fn searched(c: &Config, opening: u32) -> Result<u64, PlanFault>

@@ -27,10 +27,12 @@ fn is_laid_out(width: Width, room: u32, fields: u32) -> bool
 {
     let blocks = blocks_of_record(width, fields);
     for ordinal in 0..blocks {
-        let next = link_of(width, blocks, ordinal);
-        if next.is_some() != (room * (ordinal + 1) < fields)
-            || next.is_some_and(|n| n != ordinal + 1)
-        {
+        let next = if room * (ordinal + 1) < fields {
+            Some(ordinal + 1)
+        } else {
+            None
+        };
+        if link_of(width, blocks, ordinal) != next {
             return false;
         }
         for payload in 1..=room {
