@@ -11,3 +11,6 @@ mod slim;
 mod streams;
 #[cfg(test)]
 mod timed;
+
+#[cfg(test)]
+pub use recorded::drawn;

@@ -1,12 +1,15 @@
 //! When the pace is told of a command: before its first event, and outside the gate.
 
-use crate::testing::{Call, made_at};
+use crate::calls::{Ended, Program, answers_at, ended, run_of};
 use heap_system::Pace;
 use std::alloc::{AllocError, Global};
+use std::process::Abort;
 use std::sync::Wait;
 use std::sync::atomic::{AtomicU64, Ordering};
 use std::test::Fail;
 use std::thread;
+use std::thread::Threads;
+use test_kit::Call;
 
 /// How often a thread looks whether another has come on before it gives up.
 const LOOKS: u32 = 10_000_000;
@@ -142,26 +145,34 @@ const OUTSIDE: [Hold; 4] = [
     },
 ];
 
-// Inside the gate thread 0 would keep thread 1 from the next cycle, and so wait in vain.
-#[test]
-fn a_thread_that_waits_in_the_pace_is_outside_the_gate(rt: HostRuntime) -> Result<(), Fail> {
-    let alloc = rt.alloc();
+/// The job of which thread 1 makes that many objects four times.
+fn of_many(alloc: Global) -> Result<String, AllocError> {
     let mut objects = String::new(alloc);
     for _ in 0..4 * OBJECTS {
         objects.push_str("new 1 1\n")?;
     }
-    let text = of_two(
-        alloc,
-        "new 1 1\nnew 2 1\nput 1 0 2\nnew 2 1\n",
-        objects.as_str(),
-    )?;
+    let first = "new 1 1\nnew 2 1\nput 1 0 2\nnew 2 1\n";
+    of_two(alloc, first, objects.as_str())
+}
+
+/// What the run of a job comes to, at a pace.
+fn paced(
+    rt: &(impl Threads + Wait + Sync),
+    alloc: Global,
+    text: &str,
+    pace: &Held<'_>,
+) -> Result<Ended, Fail> {
+    ended(rt, alloc, Program::Heap, &run_of(text.as_bytes()), pace)
+}
+
+// Inside the gate thread 0 would keep thread 1 from the next cycle, and so wait in vain.
+#[test]
+fn a_thread_that_waits_in_the_pace_is_outside_the_gate(rt: HostRuntime) -> Result<(), Fail> {
+    let text = of_many(rt.alloc())?;
     let pace = Held::new(&OUTSIDE);
-    let (exit, _sink) = made_at(&rt, alloc, &Call::run(text.as_str()), &pace)?;
-    assert_eq!(rt; (exit.status, exit.due), (0, 0));
-    assert_eq!(rt;
-        (pace.commands_of(0), pace.commands_of(1)),
-        (4, 4 * OBJECTS)
-    );
+    assert_eq!(rt; paced(&rt, rt.alloc(), text.as_str(), &pace)?, (0, 0, true));
+    let commands = (pace.commands_of(0), pace.commands_of(1));
+    assert_eq!(rt; commands, (4, 4 * OBJECTS));
     assert!(rt; pace.wrong.load(Ordering::SeqCst) == 0);
     Ok(())
 }
@@ -183,24 +194,35 @@ const BETWEEN: [Hold; 2] = [
     },
 ];
 
-// Thread 1 reads the element between the call of the pace and the command that writes it.
+/// A job in which thread 0 writes an element of the shared array, and thread 1 reads it.
+const WRITER_AND_READER: &str = "rtheap 1 threads 2 blocks 64 live 20 object 2 shared 4
+thread 0
+set 1 5
+put 0 0 1
+get 2 0 0
+thread 1
+say 1
+get 1 0 0
+say 1
+end
+";
+
+/// What they are answered if the reader comes before the write.
+const UNSEEN: &[u8] = b"0 ok\n0 ok\n0 int 5\n1 nil\n1 nil\n1 nil\nend cycles 1 work 0\n";
+
+/// Runs the job, with thread 1 between the call of the pace and the command that writes.
+fn comes_between(rt: &(impl Abort + Threads + Wait + Sync), alloc: Global) -> Result<(), Fail> {
+    let pace = Held::new(&BETWEEN);
+    let call = run_of(WRITER_AND_READER.as_bytes());
+    answers_at(rt, alloc, Program::Heap, &call, &pace, (0, 0, true), UNSEEN)?;
+    assert!(rt; pace.went_well(2, 3));
+    Ok(())
+}
+
 #[test]
 fn the_pace_is_told_before_the_command_has_an_effect(rt: HostRuntime) -> Result<(), Fail> {
-    let alloc = rt.alloc();
     for _ in 0..20 {
-        let text = of_two(
-            alloc,
-            "set 1 5\nput 0 0 1\nget 2 0 0\n",
-            "say 1\nget 1 0 0\nsay 1\n",
-        )?;
-        let pace = Held::new(&BETWEEN);
-        let (exit, sink) = made_at(&rt, alloc, &Call::run(text.as_str()), &pace)?;
-        assert_eq!(rt; (exit.status, exit.due), (0, 0));
-        assert_eq!(rt;
-            sink.bytes(),
-            b"0 ok\n0 ok\n0 int 5\n1 nil\n1 nil\n1 nil\nend cycles 1 work 0\n".as_slice()
-        );
-        assert!(rt; pace.went_well(2, 3));
+        comes_between(&rt, rt.alloc())?;
     }
     Ok(())
 }
@@ -220,39 +242,57 @@ fn of_objects(alloc: Global, threads: usize, objects: u64) -> Result<String, All
     Ok(text)
 }
 
+/// Runs 100 objects of each thread, and compares how often the pace was told of each.
+fn is_told(
+    rt: &(impl Abort + Threads + Wait + Sync),
+    alloc: Global,
+    threads: usize,
+) -> Result<(), Fail> {
+    let text = of_objects(alloc, threads, 100)?;
+    let pace = Held::new(&[]);
+    assert_eq!(rt; paced(rt, alloc, text.as_str(), &pace)?, (0, 0, true));
+    assert!(rt; pace.went_well(threads, 400));
+    Ok(())
+}
+
 // A job that was done twice would be told twice.
 #[test]
 fn the_pace_is_told_of_each_command_once_and_in_order(rt: HostRuntime) -> Result<(), Fail> {
-    let alloc = rt.alloc();
     for threads in 1..=4 {
-        let text = of_objects(alloc, threads, 100)?;
-        let pace = Held::new(&[]);
-        let (exit, _sink) = made_at(&rt, alloc, &Call::run(text.as_str()), &pace)?;
-        assert_eq!(rt; (exit.status, exit.due), (0, 0));
-        assert!(rt; pace.went_well(threads, 400));
+        is_told(&rt, rt.alloc(), threads)?;
     }
     Ok(())
 }
 
-// What makes no run tells the pace of nothing.
+/// Asks by these words, at a pace that is told of nothing.
+fn is_not_told(
+    rt: &(impl Abort + Threads + Wait + Sync),
+    alloc: Global,
+    words: &[&str],
+    text: &str,
+    ran: bool,
+) -> Result<(), Fail> {
+    let pace = Held::new(&[]);
+    let call = Call {
+        words,
+        ..run_of(text.as_bytes())
+    };
+    assert_eq!(rt; ended(rt, alloc, Program::Heap, &call, &pace)?, (0, 0, ran));
+    assert!(rt; pace.went_well(4, 0));
+    Ok(())
+}
+
+// What makes no run on threads tells the pace of nothing.
 #[test]
 fn a_job_that_is_planned_or_replayed_has_no_pace(rt: HostRuntime) -> Result<(), Fail> {
-    let alloc = rt.alloc();
-    let text = of_objects(alloc, 2, 10)?;
-    let calls: [&[&str]; 3] = [
-        &["plan"],
-        &["replay", "robin", "1000000"],
-        &["trial", "7", "10"],
+    let text = of_objects(rt.alloc(), 2, 10)?;
+    let calls: [(&[&str], bool); 3] = [
+        (&["plan"], false),
+        (&["replay", "robin", "1000000"], true),
+        (&["trial", "7", "10"], false),
     ];
-    for words in calls {
-        let pace = Held::new(&[]);
-        let call = Call {
-            words,
-            ..Call::run(text.as_str())
-        };
-        let (exit, _sink) = made_at(&rt, alloc, &call, &pace)?;
-        assert_eq!(rt; (exit.status, exit.due), (0, 0));
-        assert!(rt; pace.went_well(4, 0));
+    for (words, ran) in calls {
+        is_not_told(&rt, rt.alloc(), words, text.as_str(), ran)?;
     }
     Ok(())
 }

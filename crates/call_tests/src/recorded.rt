@@ -1,39 +1,17 @@
 //! Records of drawn programs, run: each reply is the one that the program saw.
 
-use crate::testing::{Call, made};
-use block_store::{Config, Width};
-use control_heap::ControlHeap;
-use never_heap::{Command, Entry, Logs, Reply};
-use rand_core::utils::NextWord;
-use rand_pcg::Lcg64Xsh32;
-use rtheap_core::RunEnd;
-use saved_heap::Recorder;
+use crate::calls::{lent, run_of};
+use crate::fault_tests::drawn;
+use block_store::Width;
+use heap_system::NoPace;
+use never_heap::{Entry, Logs, Reply};
+use rtheap_core::{RunEnd, rtheap};
 use std::alloc::Global;
 use std::process::Abort;
 use std::sync::Wait;
 use std::test::Fail;
 use std::thread::Threads;
-use trace_text::MemSink;
-
-/// A command that may be out of bounds or answered `Full`.
-fn drawn_command(draws: &mut Lcg64Xsh32) -> Command {
-    let (d, s) = (
-        (draws.next_word() % 17) as u8,
-        (draws.next_word() % 8) as u8,
-    );
-    let i = u64::from(draws.next_word() % 5);
-    match draws.next_word() % 8 {
-        0..=2 => Command::New {
-            d,
-            fields: draws.next_word() % 9,
-        },
-        3 => Command::Get { d, s, i },
-        4 => Command::Put { s, i, v: d },
-        5 => Command::Say { s: d },
-        6 => Command::Nil { d },
-        _ => Command::Swap { s, i, v: d },
-    }
-}
+use test_kit::Lent;
 
 /// Whether the entries have these replies.
 fn have_replies(entries: &[Entry], replies: &[Reply]) -> bool {
@@ -48,6 +26,37 @@ fn have_replies(entries: &[Entry], replies: &[Reply]) -> bool {
     true
 }
 
+/// Whether a run is one of one thread with these replies.
+fn has_replies(end: Option<RunEnd>, replies: &[Reply]) -> bool {
+    match end {
+        Some(RunEnd::Ran(run)) => run.threads() == 1 && have_replies(run.entries(0), replies),
+        _ => false,
+    }
+}
+
+fn run<R: Threads + Wait + Sync>(rt: &R, alloc: Global, lent: &mut Lent) -> Option<RunEnd> {
+    rtheap(
+        rt,
+        alloc,
+        &lent.words,
+        &mut lent.source,
+        &mut lent.sink,
+        &NoPace,
+    )
+    .run
+}
+
+/// Whether the run of a text has these replies.
+fn answers_so<R: Threads + Wait + Sync>(
+    rt: &R,
+    alloc: Global,
+    text: &[u8],
+    replies: &[Reply],
+) -> Result<bool, Fail> {
+    let mut lent = lent(alloc, &run_of(text))?;
+    Ok(has_replies(run(rt, alloc, &mut lent), replies))
+}
+
 /// Records a drawn program, and runs its record.
 fn runs_as_it_was_seen(
     rt: &(impl Abort + Threads + Wait + Sync),
@@ -55,37 +64,9 @@ fn runs_as_it_was_seen(
     width: Width,
     key: u64,
 ) -> Result<(), Fail> {
-    let config = Config {
-        width,
-        threads: 1,
-        blocks: 64,
-        live: 20,
-        object: 2,
-        shared: 4,
-    };
-    let sink = MemSink::new(alloc, 100_000, Vec::new(alloc))
-        .ok()
-        .ok_or("memory")?;
-    let mut recorder = match ControlHeap::open(alloc, config) {
-        Ok(heap) => Recorder::new(heap, sink),
-        Err(_) => return Err("it does not open".into()),
-    };
-    let mut draws = Lcg64Xsh32::new(key, 1);
-    let mut replies = Vec::new(alloc);
-    for _command in 0..400 {
-        if let Ok(reply) = recorder.ask(drawn_command(&mut draws)) {
-            replies.push(reply)?;
-        }
-    }
-    let ended = recorder.end();
-    let input = str::from_utf8(ended.sink.bytes()).ok().ok_or("text")?;
-    let (exit, _sink) = made(rt, alloc, &Call::run(input))?;
-    let Some(RunEnd::Ran(run)) = exit.run else {
-        return Err("nothing was run".into());
-    };
-    assert!(rt; run.threads() == 1);
+    let (sink, replies) = drawn(alloc, width, key)?;
     assert!(rt;
-        have_replies(run.entries(0), replies.as_slice()),
+        answers_so(rt, alloc, sink.bytes(), &replies)?,
         "program {key}"
     );
     Ok(())

@@ -1,8 +1,9 @@
-//! Whole calls over sources and sinks in memory, by the program that is called.
+//! Whole calls of `tags` and `handles`: what their commands pay, and threads that meet.
 
+use crate::calls::{Program, answers_at, lent};
 use atom_board::Closed;
 use heap_system::{NoPace, Pace};
-use never_heap::{Command, Logs};
+use never_heap::{Command, Entry, Logs};
 use rt_handles::handles;
 use rt_tags::tags;
 use std::alloc::Global;
@@ -12,87 +13,74 @@ use std::sync::atomic::{AtomicU64, Ordering};
 use std::test::Fail;
 use std::thread::Threads;
 use test_kit::{Call, Lent, Meeting};
-use trace_text::MemSink;
 
-/// A program by its top call.
-#[derive(Clone, Copy)]
-pub enum Program {
-    Tags,
-    Handles,
-}
-
-/// How a call ended: its status and that which was due, the run that it shows, and what it wrote.
-#[derive(Drop)]
-pub struct Ended {
-    pub statuses: (u8, u8),
-    pub run: Option<Closed>,
-    pub sink: MemSink,
-}
-
-/// Makes a call at a pace.
-pub fn made<R: Threads + Wait + Sync>(
+/// The run of a script of tags.
+pub fn tags_run<R: Threads + Wait + Sync>(
     rt: &R,
     alloc: Global,
-    program: Program,
-    call: &Call<'_>,
-    pace: &impl Pace,
-) -> Result<Ended, Fail> {
-    let Lent {
-        words,
-        mut source,
-        mut sink,
-    } = Lent::of(alloc, call).ok().ok_or("memory")?;
-    let (statuses, run) = match program {
-        Program::Tags => {
-            let exit = tags(rt, alloc, &words, &mut source, &mut sink, pace);
-            ((exit.status, exit.due), exit.run)
-        }
-        Program::Handles => {
-            let exit = handles(rt, alloc, &words, &mut source, &mut sink, pace);
-            ((exit.status, exit.due), exit.run)
-        }
-    };
-    Ok(Ended {
-        statuses,
-        run,
-        sink,
-    })
+    lent: &mut Lent,
+) -> Option<Closed> {
+    tags(
+        rt,
+        alloc,
+        &lent.words,
+        &mut lent.source,
+        &mut lent.sink,
+        &NoPace,
+    )
+    .run
 }
 
-/// Whether a call ends with these statuses and lines, and shows a run where nothing refused it.
-pub fn ends<R: Threads + Wait + Sync + Abort>(
+/// The run of a script of handles.
+pub fn handles_run<R: Threads + Wait + Sync>(
     rt: &R,
     alloc: Global,
-    program: Program,
-    call: &Call<'_>,
-    statuses: (u8, u8),
-    lines: &str,
-) -> Result<(), Fail> {
-    let ended = made(rt, alloc, program, call, &NoPace)?;
-    assert_eq!(rt; ended.statuses, statuses);
-    assert_eq!(rt; ended.run.is_some(), statuses.1 == 0);
-    assert_eq!(rt; ended.sink.bytes(), lines.as_bytes());
-    Ok(())
+    lent: &mut Lent,
+) -> Option<Closed> {
+    handles(
+        rt,
+        alloc,
+        &lent.words,
+        &mut lent.source,
+        &mut lent.sink,
+        &NoPace,
+    )
+    .run
 }
 
-/// How many records a run made, if each made so many units, and no other command any.
-pub fn records_at<L: Logs>(run: &L, units: u64) -> Option<u64> {
+/// How many of these entries made a record, if each of them made so many units, and no other
+/// command any.
+fn records_in(entries: &[Entry], units: u64) -> Option<u64> {
     let mut records = 0u64;
-    for thread in 0..run.threads() {
-        for entry in run.entries(thread) {
-            let owed = match entry.command {
-                Command::New { .. } => {
-                    records = records.saturating_add(1);
-                    units
-                }
-                _ => 0,
-            };
-            if entry.work != owed {
-                return None;
-            }
+    for entry in entries {
+        let makes = matches!(entry.command, Command::New { .. });
+        if entry.work != if makes { units } else { 0 } {
+            return None;
         }
+        records = records.saturating_add(u64::from(makes));
     }
     Some(records)
+}
+
+/// How many records the run of a script of one thread made, if each made so many units, and no
+/// other command any.
+pub fn records_of<R: Threads + Wait + Sync>(
+    rt: &R,
+    alloc: Global,
+    program: Program,
+    script: &str,
+    units: u64,
+) -> Result<Option<u64>, Fail> {
+    let mut lent = lent(alloc, &Call::of(script.as_bytes()))?;
+    let run = match program {
+        Program::Tags => tags_run(rt, alloc, &mut lent),
+        Program::Handles => handles_run(rt, alloc, &mut lent),
+        Program::Heap => None,
+    };
+    match run {
+        Some(run) if run.threads() == 1 => Ok(records_in(run.entries(0), units)),
+        _ => Err("no run of one thread".into()),
+    }
 }
 
 /// Whether two threads of a script run beside each other, the pace is told of so many commands of
@@ -106,9 +94,16 @@ pub fn meets<R: Threads + Wait + Sync + Abort>(
     lines: &str,
 ) -> Result<(), Fail> {
     let pace = InTurn::new();
-    let ended = made(rt, alloc, program, &Call::of(input.as_bytes()), &pace)?;
-    assert_eq!(rt; ended.statuses, (0, 0));
-    assert_eq!(rt; ended.sink.bytes(), lines.as_bytes());
+    let call = Call::of(input.as_bytes());
+    answers_at(
+        rt,
+        alloc,
+        program,
+        &call,
+        &pace,
+        (0, 0, true),
+        lines.as_bytes(),
+    )?;
     assert!(rt; pace.meeting.took_place());
     assert_eq!(rt; pace.told(), Some((commands, commands)));
     Ok(())

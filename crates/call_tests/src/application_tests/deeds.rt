@@ -2,13 +2,14 @@
 //! answered.
 
 use std::alloc::{AllocError, Global};
+use std::test::Fail;
 use test_kit::Happened;
 
 /// An operation of a thread.
 pub trait Deed {
     type Place;
 
-    type Answer: Drop;
+    type Answer: Drop + PartialEq;
 
     /// How many of its commands come before the one that decides it, and after it.
     fn beside(&self) -> (usize, usize);
@@ -35,10 +36,10 @@ fn deciders<D: Deed>(alloc: Global, deeds: &[D]) -> Result<Vec<bool>, AllocError
 
 /// A thread on its way through its commands, with what its operations came to so far.
 #[derive(Drop)]
-pub struct Walk<A: Drop> {
+struct Walk<A: Drop> {
     decides: Vec<bool>,
     commands: usize,
-    pub told: Vec<A>,
+    told: Vec<A>,
 }
 
 impl<A: Drop> Walk<A> {
@@ -67,7 +68,7 @@ impl<A: Drop> Walk<A> {
 
 /// What the operations of each thread come to on plain places, in the order of what happened.
 /// `None` where other commands happened, or an operation has no place.
-pub fn walked<D: Deed>(
+fn walked<D: Deed>(
     alloc: Global,
     deeds: &[Vec<D>],
     places: &mut [D::Place],
@@ -93,4 +94,27 @@ pub fn walked<D: Deed>(
         }
     }
     Ok(Some(walks))
+}
+
+/// Whether the operations of each thread, so many, come to what it was told.
+pub fn tells<D: Deed>(
+    alloc: Global,
+    deeds: &[Vec<D>],
+    places: &mut [D::Place],
+    history: &[Happened],
+    told: &[Vec<D::Answer>],
+    operations: u64,
+) -> Result<bool, Fail> {
+    let Some(walks) = walked(alloc, deeds, places, history)? else {
+        return Ok(false);
+    };
+    if walks.len() != told.len() {
+        return Ok(false);
+    }
+    for (walk, told) in walks.iter().zip(told.iter()) {
+        if told.len() as u64 != operations || walk.told.as_slice() != told.as_slice() {
+            return Ok(false);
+        }
+    }
+    Ok(true)
 }

@@ -1,8 +1,8 @@
 //! Whole calls of `handles`: what each command pays, streams that fail, and threads beside each
 //! other. `tests/handles.runs` has what the program shows.
 
-use crate::application_tests::calling::{Program, ends, made, meets, records_at};
-use heap_system::NoPace;
+use crate::application_tests::calling::{meets, records_of};
+use crate::calls::{Program, answers};
 use std::test::Fail;
 use test_kit::Call;
 
@@ -26,38 +26,32 @@ end
 
 #[test]
 fn each_make_makes_two_records_and_pays_the_rate(rt: HostRuntime) -> Result<(), Fail> {
-    let alloc = rt.alloc();
     for (blocks, rate) in [(128, 6), (29, 58)] {
-        let input = format!(in alloc; "handles 1 threads 1 slots 1 blocks {blocks}\n{OPERATIONS}")?;
-        let ended = made(&rt, alloc, HANDLES, &Call::of(input.as_bytes()), &NoPace)?;
-        let run = ended.run.ok_or("refused")?;
-        assert_eq!(rt; records_at(&run, rate), Some(6));
+        let script = format!(in rt.alloc();
+            "handles 1 threads 1 slots 1 blocks {blocks}\n{OPERATIONS}"
+        )?;
+        let records = records_of(&rt, rt.alloc(), HANDLES, script.as_str(), rate)?;
+        assert_eq!(rt; records, Some(6));
     }
     Ok(())
 }
 
 #[test]
 fn a_fault_of_a_stream_ends_the_call(rt: HostRuntime) -> Result<(), Fail> {
-    let alloc = rt.alloc();
-    let input = format!(in alloc; "handles 1 threads 1 slots 1 blocks 128\n{OPERATIONS}")?;
+    let script = format!(in rt.alloc(); "handles 1 threads 1 slots 1 blocks 128\n{OPERATIONS}")?;
+    let call = Call::of(script.as_bytes());
     let unread = Call {
         read_fails: &[1],
-        ..Call::of(input.as_bytes())
+        ..call
     };
-    ends(
-        &rt,
-        alloc,
-        HANDLES,
-        &unread,
-        (5, 5),
-        "rt_handles: read fault\n",
-    )?;
+    let fault = b"rt_handles: read fault\n";
+    answers(&rt, rt.alloc(), HANDLES, &unread, (5, 5, false), fault)?;
     let unwritten = Call {
         write_fails: &[3],
-        ..Call::of(input.as_bytes())
+        ..call
     };
-    let lines = "0 none\n0 made 0.1\n0 0.1 7\n";
-    ends(&rt, alloc, HANDLES, &unwritten, (6, 0), lines)
+    let lines = b"0 none\n0 made 0.1\n0 0.1 7\n";
+    answers(&rt, rt.alloc(), HANDLES, &unwritten, (6, 0, true), lines)
 }
 
 #[test]

@@ -4,18 +4,21 @@
 ghost use Rattle.std.specs.Prelude.{◌≡◌, ◌≤◌, true};
 ghost use Rattle.array_tables.specs.handle_table.Handles.{size_of, sizes_of};
 
-use crate::application_tests::deeds::{Deed, walked};
-use crate::application_tests::replaying::{Replayed, replay_of};
+use crate::application_tests::calling::handles_run;
+use crate::application_tests::deeds::{Deed, tells};
+use crate::application_tests::replaying::{Replayed, by_drawn_turns};
+use crate::calls::lent;
 use array_tables::handle_table::{Operation, Outcome, outcomes};
 use block_store::OutOfMemory;
-use heap_system::NoPace;
 use never_heap::Logs;
 use rand_core::utils::NextWord;
 use rand_pcg::Lcg64Xsh32;
-use rt_handles::{handles, script_of};
+use rt_handles::script_of;
 use std::alloc::{AllocError, Global};
+use std::sync::Wait;
 use std::test::Fail;
-use test_kit::{Call, Lent};
+use std::thread::Threads;
+use test_kit::Call;
 
 /// How many operations each thread has.
 const OPERATIONS: u64 = 12;
@@ -162,20 +165,31 @@ fn handle_of(op: &Operation) -> Option<usize> {
     }
 }
 
+/// The make of the handle that an operation names, by the last make of each handle; 0 where it
+/// names none. After so many makes.
+fn make_of(op: &Operation, made: u64, last: &mut [u64; 8]) -> u64 {
+    let Some(handle) = handle_of(op) else {
+        return 0;
+    };
+    let Some(number) = last.get_mut(handle) else {
+        return 0;
+    };
+    if matches!(op, Operation::Make { .. }) {
+        *number = made;
+    }
+    *number
+}
+
 /// The operations of a thread, each with the make of its handle.
 fn deeds_of(alloc: Global, thread: u64, ops: &[Operation]) -> Result<Vec<HandleDeed>, AllocError> {
     let mut all = Vec::new(alloc);
     let mut made = 0u64;
     let mut last = [0u64; 8];
     for op in ops {
-        let mut make = 0;
-        if let Some(number) = handle_of(op).and_then(|handle| last.get_mut(handle)) {
-            if matches!(op, Operation::Make { .. }) {
-                made = made.saturating_add(1);
-                *number = made;
-            }
-            make = *number;
+        if matches!(op, Operation::Make { .. }) {
+            made = made.saturating_add(1);
         }
+        let make = make_of(op, made, &mut last);
         let op = *op;
         all.push(HandleDeed { thread, make, op })?;
     }
@@ -202,43 +216,103 @@ fn all_told(
     Ok(Some(told))
 }
 
+/// The number of slots of a script, and its operations.
+fn read(alloc: Global, text: &[u8]) -> Result<(u32, Vec<Vec<Operation>>), Fail> {
+    if text.len() >= 1 << 39 {
+        return Err("too long".into());
+    }
+    match script_of(alloc, text) {
+        Ok((header, scripts)) => Ok((header.places, scripts)),
+        Err(_) => Err("no script".into()),
+    }
+}
+
+/// The run of a script, by the turns of a drawn schedule.
+fn replayed<R: Threads + Wait + Sync>(
+    rt: &R,
+    alloc: Global,
+    text: &[u8],
+    key: u64,
+) -> Result<Replayed, Fail> {
+    let mut lent = lent(alloc, &Call::of(text))?;
+    by_drawn_turns(alloc, handles_run(rt, alloc, &mut lent), key)
+}
+
+/// The operations of all threads, each with the make of its handle.
+fn all_deeds(
+    alloc: Global,
+    scripts: &[Vec<Operation>],
+) -> Result<Vec<Vec<HandleDeed>>, AllocError> {
+    let mut deeds = Vec::new(alloc);
+    for (t, ops) in (0u64..).zip(scripts.iter()) {
+        deeds.push(deeds_of(alloc, t, ops)?)?;
+    }
+    Ok(deeds)
+}
+
+/// How many operations were told that their handle is stale.
+fn stale_in(told: &[Vec<Outcome>]) -> u64 {
+    let mut count = 0u64;
+    for outcome in told.iter().flatten() {
+        count = count.saturating_add(u64::from(*outcome == Outcome::Stale));
+    }
+    count
+}
+
+/// How many handles were stale, if what each thread was told is what plain slots have.
+fn stale_of(
+    alloc: Global,
+    places: u32,
+    scripts: &[Vec<Operation>],
+    replay: &Replayed,
+) -> Result<Option<u64>, Fail> {
+    let Ok(Some(told)) = all_told(alloc, scripts, replay) else {
+        return Err("not told".into());
+    };
+    let deeds = all_deeds(alloc, scripts)?;
+    let mut slots = vec![in alloc; None; places as usize]?;
+    let right = tells(
+        alloc,
+        &deeds,
+        &mut slots,
+        &replay.history,
+        &told,
+        OPERATIONS,
+    )?;
+    Ok(if right { Some(stale_in(&told)) } else { None })
+}
+
+/// The same of the script of this text, in which no allocation may be full.
+fn stale_in_run<R: Threads + Wait + Sync>(
+    rt: &R,
+    alloc: Global,
+    text: &[u8],
+    key: u64,
+) -> Result<Option<u64>, Fail> {
+    let (places, scripts) = read(alloc, text)?;
+    let replay = replayed(rt, alloc, text, key)?;
+    if replay.has_full() {
+        return Ok(None);
+    }
+    stale_of(alloc, places, &scripts, &replay)
+}
+
+fn drawn_stale<R: Threads + Wait + Sync>(
+    rt: &R,
+    alloc: Global,
+    key: u64,
+) -> Result<Option<u64>, Fail> {
+    let script = drawn_script(alloc, key)?;
+    stale_in_run(rt, alloc, script.as_bytes(), key)
+}
+
 #[test]
 fn drawn_turns_come_to_what_plain_slots_do(rt: HostRuntime) -> Result<(), Fail> {
-    let alloc = rt.alloc();
     let mut stale = 0u64;
     for key in 0..200 {
-        let script = drawn_script(alloc, key)?;
-        let bytes = script.as_bytes();
-        assert!(rt; bytes.len() < 1 << 39);
-        let Ok((header, scripts)) = script_of(alloc, bytes) else {
-            return Err("no script".into());
-        };
-        let mut lent = Lent::of(alloc, &Call::of(bytes)).ok().ok_or("memory")?;
-        let exit = handles(&rt, alloc, &[], &mut lent.source, &mut lent.sink, &NoPace);
-        let run = exit.run.ok_or("refused")?;
-        let replay = replay_of(alloc, &run, key)
-            .ok()
-            .ok_or("memory")?
-            .ok_or("not done")?;
-        let told = all_told(alloc, &scripts, &replay)
-            .ok()
-            .ok_or("memory")?
-            .ok_or("not told")?;
-        let mut deeds = Vec::new(alloc);
-        for (t, ops) in (0u64..).zip(scripts.iter()) {
-            deeds.push(deeds_of(alloc, t, ops)?)?;
-        }
-        let mut slots = vec![in alloc; None; header.places as usize]?;
-        let walks = walked(alloc, &deeds, &mut slots, &replay.history)?.ok_or("another script")?;
-        assert_eq!(rt; walks.len(), told.len());
-        for (walk, told) in walks.iter().zip(told.iter()) {
-            assert_eq!(rt; walk.told.as_slice(), told.as_slice(), "script {key}");
-            assert_eq!(rt; told.len() as u64, OPERATIONS);
-            for outcome in told {
-                stale = stale.saturating_add(u64::from(*outcome == Outcome::Stale));
-            }
-        }
-        assert!(rt; !replay.has_full(), "script {key}");
+        let found = drawn_stale(&rt, rt.alloc(), key)?;
+        assert!(rt; found.is_some(), "script {key}");
+        stale = stale.saturating_add(found.unwrap_or(0));
     }
     assert!(rt; stale >= 100, "{stale} handles were stale");
     Ok(())

@@ -13,6 +13,7 @@ use rate_plan::plan;
 use rtheap_core::Schedule;
 use rtheap_core::schedules::replay;
 use std::alloc::{AllocError, Global};
+use std::test::Fail;
 use test_kit::{Happened, history_of};
 
 /// More turns than any of the jobs takes.
@@ -28,17 +29,20 @@ pub struct Replayed {
 impl Replayed {
     /// Whether an allocation was answered full.
     pub fn has_full(&self) -> bool {
-        self.history.iter().any(is_full)
+        for happened in &self.history {
+            if let Happened::Did(entry) = *happened {
+                if matches!(entry.reply, Reply::Full(_)) {
+                    return true;
+                }
+            }
+        }
+        false
     }
-}
-
-fn is_full(happened: &Happened) -> bool {
-    matches!(happened, Happened::Did(entry) if matches!(entry.reply, Reply::Full(_)))
 }
 
 /// The job that a run shows, by the turns of a drawn schedule. `None` where it is no job of a rate,
 /// or a thread is not done.
-pub fn replay_of(alloc: Global, run: &Closed, key: u64) -> Result<Option<Replayed>, OutOfMemory> {
+fn replay_of(alloc: Global, run: &Closed, key: u64) -> Result<Option<Replayed>, OutOfMemory> {
     let config = *run.config();
     let traces = traces_of(alloc, run)?;
     if !config.in_bounds() || plan(&config).is_err() || !are_job(&config, &traces) {
@@ -56,6 +60,18 @@ pub fn replay_of(alloc: Global, run: &Closed, key: u64) -> Result<Option<Replaye
         return Ok(None);
     };
     Ok(Some(Replayed { run, history }))
+}
+
+/// The same of a run that a call handed back.
+pub fn by_drawn_turns(alloc: Global, run: Option<Closed>, key: u64) -> Result<Replayed, Fail> {
+    let Some(run) = run else {
+        return Err("refused".into());
+    };
+    match replay_of(alloc, &run, key) {
+        Ok(Some(replay)) => Ok(replay),
+        Ok(None) => Err("not done".into()),
+        Err(_) => Err("memory".into()),
+    }
 }
 
 /// The opening of a job, of which the order is kept.

@@ -1,8 +1,8 @@
 //! Whole calls of `tags`: what each command pays, streams that fail, and threads beside each other.
 //! `tests/tags.runs` has what the program shows.
 
-use crate::application_tests::calling::{Program, ends, made, meets, records_at};
-use heap_system::NoPace;
+use crate::application_tests::calling::{meets, records_of};
+use crate::calls::{Program, answers};
 use std::test::Fail;
 use test_kit::Call;
 
@@ -21,31 +21,32 @@ end
 
 #[test]
 fn each_write_makes_a_record_and_pays_the_rate(rt: HostRuntime) -> Result<(), Fail> {
-    let alloc = rt.alloc();
     for (blocks, rate) in [(64, 5), (11, 22)] {
-        let input = format!(in alloc; "tags 1 threads 1 tags 2 blocks {blocks}\n{OPERATIONS}")?;
-        let ended = made(&rt, alloc, TAGS, &Call::of(input.as_bytes()), &NoPace)?;
-        let run = ended.run.ok_or("refused")?;
-        assert_eq!(rt; records_at(&run, rate), Some(2));
+        let script = format!(in rt.alloc();
+            "tags 1 threads 1 tags 2 blocks {blocks}\n{OPERATIONS}"
+        )?;
+        let records = records_of(&rt, rt.alloc(), TAGS, script.as_str(), rate)?;
+        assert_eq!(rt; records, Some(2));
     }
     Ok(())
 }
 
 #[test]
 fn a_fault_of_a_stream_ends_the_call(rt: HostRuntime) -> Result<(), Fail> {
-    let alloc = rt.alloc();
-    let input = format!(in alloc; "tags 1 threads 1 tags 2 blocks 64\n{OPERATIONS}")?;
+    let script = format!(in rt.alloc(); "tags 1 threads 1 tags 2 blocks 64\n{OPERATIONS}")?;
+    let call = Call::of(script.as_bytes());
     let unread = Call {
         read_fails: &[1],
-        ..Call::of(input.as_bytes())
+        ..call
     };
-    ends(&rt, alloc, TAGS, &unread, (5, 5), "rt_tags: read fault\n")?;
+    let fault = b"rt_tags: read fault\n";
+    answers(&rt, rt.alloc(), TAGS, &unread, (5, 5, false), fault)?;
     let unwritten = Call {
         write_fails: &[3],
-        ..Call::of(input.as_bytes())
+        ..call
     };
-    let lines = "0 none\n0 none\n0 5 1\n";
-    ends(&rt, alloc, TAGS, &unwritten, (6, 0), lines)
+    let lines = b"0 none\n0 none\n0 5 1\n";
+    answers(&rt, rt.alloc(), TAGS, &unwritten, (6, 0, true), lines)
 }
 
 #[test]

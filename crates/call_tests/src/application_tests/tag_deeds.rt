@@ -1,18 +1,21 @@
 //! Scripts of tags that are drawn, run by drawn turns, and judged by a plain table in the order in
 //! which their deciding commands were answered.
 
-use crate::application_tests::deeds::{Deed, walked};
-use crate::application_tests::replaying::{Replayed, replay_of};
+use crate::application_tests::calling::tags_run;
+use crate::application_tests::deeds::{Deed, tells};
+use crate::application_tests::replaying::{Replayed, by_drawn_turns};
+use crate::calls::lent;
 use array_tables::tag_table::{Operation, answers, trace_of};
 use block_store::OutOfMemory;
-use heap_system::NoPace;
 use never_heap::{Entry, Logs};
 use rand_core::utils::NextWord;
 use rand_pcg::Lcg64Xsh32;
-use rt_tags::{script_of, tags};
+use rt_tags::script_of;
 use std::alloc::{AllocError, Global};
+use std::sync::Wait;
 use std::test::Fail;
-use test_kit::{Call, Lent};
+use std::thread::Threads;
+use test_kit::Call;
 
 /// What is at a place of a table.
 type Pair = Option<(u64, u64)>;
@@ -107,35 +110,70 @@ fn all_told(
     Ok(Some(told))
 }
 
+/// The number of places of a script, and its operations.
+fn read(alloc: Global, text: &[u8]) -> Result<(u32, Vec<Vec<Operation>>), Fail> {
+    if text.len() >= 1 << 39 {
+        return Err("too long".into());
+    }
+    match script_of(alloc, text) {
+        Ok((header, scripts)) => Ok((header.places, scripts)),
+        Err(_) => Err("no script".into()),
+    }
+}
+
+/// The run of a script, by the turns of a drawn schedule.
+fn replayed<R: Threads + Wait + Sync>(
+    rt: &R,
+    alloc: Global,
+    text: &[u8],
+    key: u64,
+) -> Result<Replayed, Fail> {
+    let mut lent = lent(alloc, &Call::of(text))?;
+    by_drawn_turns(alloc, tags_run(rt, alloc, &mut lent), key)
+}
+
+/// Whether each thread was told what a plain table has.
+fn are_plain(
+    alloc: Global,
+    places: u32,
+    scripts: &[Vec<Operation>],
+    replay: &Replayed,
+) -> Result<bool, Fail> {
+    let Ok(Some(told)) = all_told(alloc, scripts, replay) else {
+        return Err("not told".into());
+    };
+    let mut table = vec![in alloc; None; places as usize]?;
+    tells(
+        alloc,
+        scripts,
+        &mut table,
+        &replay.history,
+        &told,
+        OPERATIONS,
+    )
+}
+
+/// The same of the script of this text, in which no allocation may be full.
+fn is_plain<R: Threads + Wait + Sync>(
+    rt: &R,
+    alloc: Global,
+    text: &[u8],
+    key: u64,
+) -> Result<bool, Fail> {
+    let (places, scripts) = read(alloc, text)?;
+    let replay = replayed(rt, alloc, text, key)?;
+    Ok(!replay.has_full() && are_plain(alloc, places, &scripts, &replay)?)
+}
+
+fn is_drawn_plain<R: Threads + Wait + Sync>(rt: &R, alloc: Global, key: u64) -> Result<bool, Fail> {
+    let script = drawn_script(alloc, key)?;
+    is_plain(rt, alloc, script.as_bytes(), key)
+}
+
 #[test]
 fn drawn_turns_answer_as_a_plain_table_does(rt: HostRuntime) -> Result<(), Fail> {
-    let alloc = rt.alloc();
     for key in 0..200 {
-        let script = drawn_script(alloc, key)?;
-        let bytes = script.as_bytes();
-        assert!(rt; bytes.len() < 1 << 39);
-        let Ok((header, scripts)) = script_of(alloc, bytes) else {
-            return Err("no script".into());
-        };
-        let mut lent = Lent::of(alloc, &Call::of(bytes)).ok().ok_or("memory")?;
-        let exit = tags(&rt, alloc, &[], &mut lent.source, &mut lent.sink, &NoPace);
-        let run = exit.run.ok_or("refused")?;
-        let replay = replay_of(alloc, &run, key)
-            .ok()
-            .ok_or("memory")?
-            .ok_or("not done")?;
-        let told = all_told(alloc, &scripts, &replay)
-            .ok()
-            .ok_or("memory")?
-            .ok_or("not told")?;
-        let mut table = vec![in alloc; None; header.places as usize]?;
-        let walks = walked(alloc, &scripts, &mut table, &replay.history)?.ok_or("another script")?;
-        assert_eq!(rt; walks.len(), told.len());
-        for (walk, told) in walks.iter().zip(told.iter()) {
-            assert_eq!(rt; walk.told.as_slice(), told.as_slice(), "script {key}");
-            assert_eq!(rt; told.len() as u64, OPERATIONS);
-        }
-        assert!(rt; !replay.has_full(), "script {key}");
+        assert!(rt; is_drawn_plain(&rt, rt.alloc(), key)?, "script {key}");
     }
     Ok(())
 }

@@ -87,8 +87,8 @@ fn drawn_command(draws: &mut Lcg64Xsh32) -> Command {
     }
 }
 
-// The text of a record of drawn commands, and their replies.
-fn drawn(alloc: Global, width: Width, key: u64) -> Result<(MemSink, Vec<Reply>), Fail> {
+/// The text of a record of drawn commands, and their replies.
+pub fn drawn(alloc: Global, width: Width, key: u64) -> Result<(MemSink, Vec<Reply>), Fail> {
     let mut recorder = recorder(alloc, width, &[])?;
     let mut draws = Lcg64Xsh32::new(key, 1);
     let mut replies = Vec::new(alloc);

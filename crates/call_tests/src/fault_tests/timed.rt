@@ -236,17 +236,3 @@ fn times_are_written_as_values(rt: HostRuntime) -> Result<(), Fail> {
         LATER_VALUES,
     )
 }
-
-#[test]
-fn a_refusal_is_written_in_place_of_times(rt: HostRuntime) -> Result<(), Fail> {
-    let refusal = "rtheap: line 1: header\n";
-    answers(
-        &rt,
-        rt.alloc(),
-        &Ticks::even(),
-        &[],
-        "rtheap 1\n",
-        3,
-        refusal,
-    )
-}

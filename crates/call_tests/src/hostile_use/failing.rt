@@ -1,14 +1,13 @@
-//! Streams that fail at each of their calls in turn, sinks with too little room, and inputs that
-//! are cut off.
+//! Streams that fail at each of their calls in turn, and sinks with too little room.
 
-use crate::hostile_use::calling::{
-    ANSWERS, Call, IN_ORDER, JOB, MADE, WIDE_ANSWERS, WIDE_JOB, made,
-};
+use crate::calls::{Program, answers};
+use crate::hostile_use::jobs::{ANSWERS, IN_ORDER, JOB, MADE, WIDE_ANSWERS, WIDE_JOB};
 use std::alloc::Global;
 use std::process::Abort;
 use std::sync::Wait;
 use std::test::Fail;
 use std::thread::Threads;
+use test_kit::Call;
 
 /// A way to ask: the words, the input, the status that is due, and what is then written.
 type Asked = (&'static [&'static str], &'static [u8], u8, &'static [u8]);
@@ -55,101 +54,127 @@ fn lines_of(text: &[u8]) -> u64 {
     count
 }
 
-/// Makes a call, and compares its statuses, whether it hands a run back, and what the sink holds.
+/// Compares the statuses of a call, whether it hands a run back, and what the sink holds.
 fn ends(
     rt: &(impl Abort + Threads + Wait + Sync),
     alloc: Global,
     call: &Call<'_>,
-    status: u8,
-    due: u8,
+    (status, due): (u8, u8),
     held: &[u8],
 ) -> Result<(), Fail> {
-    let (exit, sink) = made(rt, alloc, call)?;
-    assert_eq!(rt; (exit.status, exit.due), (status, due));
-    assert_eq!(rt; sink.bytes(), held);
     let runs = matches!(call.words.first(), Some(&"run") | Some(&"replay"));
-    assert_eq!(rt; exit.run.is_some(), runs && due == 0);
+    let ended = (status, due, runs && due == 0);
+    answers(rt, alloc, Program::Heap, call, ended, held)
+}
+
+/// Asks where this put of the sink fails, if there are so many.
+fn fails_at(
+    rt: &(impl Abort + Threads + Wait + Sync),
+    alloc: Global,
+    (words, input, due, text): Asked,
+    put: u64,
+    count: u64,
+) -> Result<(), Fail> {
+    let status = if put < count { 6 } else { due };
+    let held = front(text, put, text.len());
+    let fails = [put];
+    let call = Call {
+        words,
+        write_fails: &fails,
+        ..Call::of(input)
+    };
+    ends(rt, alloc, &call, (status, due), held)
+}
+
+/// Asks once for each put of the sink, which fails, and once where none fails.
+fn fails_at_each_put(
+    rt: &(impl Abort + Threads + Wait + Sync),
+    alloc: Global,
+    asked: Asked,
+) -> Result<(), Fail> {
+    let count = lines_of(asked.3);
+    for put in 0..=count {
+        fails_at(rt, alloc, asked, put, count)?;
+    }
     Ok(())
 }
 
 #[test]
 fn a_sink_that_fails_at_any_put_holds_the_lines_before(rt: HostRuntime) -> Result<(), Fail> {
-    let alloc = rt.alloc();
-    for (words, input, due, text) in ASKED {
-        let count = lines_of(text);
-        for put in 0..count {
-            let call = Call {
-                write_fails: &[put],
-                ..Call::of(words, input)
-            };
-            ends(&rt, alloc, &call, 6, due, front(text, put, text.len()))?;
-        }
+    for asked in ASKED {
+        fails_at_each_put(&rt, rt.alloc(), asked)?;
+    }
+    Ok(())
+}
+
+/// Asks once for each number of bytes that the sink has room for, up to those of the text.
+fn fails_at_each_room(
+    rt: &(impl Abort + Threads + Wait + Sync),
+    alloc: Global,
+    (words, input, due, text): Asked,
+) -> Result<(), Fail> {
+    for room in 0..=text.len() {
         let call = Call {
-            write_fails: &[count],
-            ..Call::of(words, input)
+            words,
+            room,
+            ..Call::of(input)
         };
-        ends(&rt, alloc, &call, due, due, text)?;
+        let status = if room < text.len() { 6 } else { due };
+        ends(rt, alloc, &call, (status, due), front(text, u64::MAX, room))?;
     }
     Ok(())
 }
 
 #[test]
 fn a_sink_without_room_holds_the_lines_that_fit(rt: HostRuntime) -> Result<(), Fail> {
-    let alloc = rt.alloc();
-    for (words, input, due, text) in ASKED {
-        for room in 0..text.len() {
-            let call = Call {
-                room,
-                ..Call::of(words, input)
-            };
-            ends(&rt, alloc, &call, 6, due, front(text, u64::MAX, room))?;
-        }
-        let call = Call {
-            room: text.len(),
-            ..Call::of(words, input)
-        };
-        ends(&rt, alloc, &call, due, due, text)?;
+    for asked in ASKED {
+        fails_at_each_room(&rt, rt.alloc(), asked)?;
+    }
+    Ok(())
+}
+
+/// Asks where the source gives a byte at a time and fails at its call of this number.
+fn unread(
+    rt: &(impl Abort + Threads + Wait + Sync),
+    alloc: Global,
+    (words, job): (&[&str], &[u8]),
+    call: u64,
+    statuses: (u8, u8),
+    written: &[u8],
+) -> Result<(), Fail> {
+    let fails = [call];
+    let call = Call {
+        words,
+        most: 1,
+        read_fails: &fails,
+        ..Call::of(job)
+    };
+    ends(rt, alloc, &call, statuses, written)
+}
+
+/// Asks once for each call of the source, which fails.
+fn unread_at_each(
+    rt: &(impl Abort + Threads + Wait + Sync),
+    alloc: Global,
+    asked: (&[&str], &[u8]),
+) -> Result<(), Fail> {
+    for call in 0..=asked.1.len() as u64 {
+        unread(rt, alloc, asked, call, (5, 5), b"rtheap: read fault\n")?;
     }
     Ok(())
 }
 
 #[test]
 fn a_source_that_fails_at_any_call_is_a_read_fault(rt: HostRuntime) -> Result<(), Fail> {
-    let alloc = rt.alloc();
     let asked: [(&[&str], &[u8]); 4] = [
         (&["run"], JOB),
         (&["run"], WIDE_JOB),
         (&["plan"], JOB),
         (&["replay", "serial", "1654"], JOB),
     ];
-    for (task, job) in asked {
-        for call in 0..=job.len() as u64 {
-            let failing = Call {
-                most: 1,
-                read_fails: &[call],
-                ..Call::of(task, job)
-            };
-            ends(&rt, alloc, &failing, 5, 5, b"rtheap: read fault\n")?;
-        }
+    for one in asked {
+        unread_at_each(&rt, rt.alloc(), one)?;
     }
-    let behind = Call {
-        most: 1,
-        read_fails: &[JOB.len() as u64 + 1],
-        ..Call::of(&["run"], JOB)
-    };
-    ends(&rt, alloc, &behind, 0, 0, ANSWERS)
-}
-
-#[test]
-fn an_input_that_is_cut_off_is_no_job(rt: HostRuntime) -> Result<(), Fail> {
-    let alloc = rt.alloc();
-    for job in [JOB, WIDE_JOB] {
-        for length in 0..job.len() {
-            let input = job.get(..length).unwrap_or(job);
-            let (exit, _sink) = made(&rt, alloc, &Call::of(&["run"], input))?;
-            let due = if length + 1 == job.len() { 0 } else { 3 };
-            assert_eq!(rt; (exit.status, exit.due), (due, due), "{length} bytes");
-        }
-    }
-    Ok(())
+    let after = JOB.len() as u64 + 1;
+    unread(&rt, rt.alloc(), (&["run"], JOB), after, (0, 0), ANSWERS)
 }

@@ -1,6 +1,7 @@
 //! Threads of which the first is held after any number of its turns, while the others go on.
 
-ghost use Rattle.std.specs.Prelude.{◌<◌};
+ghost use Rattle.std.specs.Prelude.{◌<◌, IfOk};
+ghost use Rattle.trace_text.specs.Jobs.{IsJobInBounds};
 
 use crate::hostile_use::held_system::{Held, opened};
 use block_store::{Config, OutOfMemory};
@@ -8,9 +9,10 @@ use heap_system::System;
 use never_heap::{Command, Item, Reply};
 use rate_plan::plan;
 use std::alloc::Global;
+use std::process::Abort;
 use std::test::Fail;
 use test_kit::{Happened, history_of, in_bounds, is_legal, is_right_work};
-use trace_text::{MemSource, read_trace};
+use trace_text::{Job, MemSource, read_trace};
 
 /// Thread 0 loads an element of the shared array and shows it; thread 1 stores a record there,
 /// lets it go, stores nil over it, and makes more.
@@ -178,40 +180,66 @@ struct Ran {
     history: Vec<Happened>,
 }
 
-/// The run of a job by these turns. `None` where a thread is not done, or nothing was kept.
-fn run_of(alloc: Global, text: &[u8], turns: Turns) -> Result<Option<Ran>, Fail> {
+/// The job that a text spells.
+fn read(alloc: Global, text: &[u8]) -> Result<Job, Fail>
+    ensures { IfOk result IsJobInBounds }
+{
     let bytes = Vec::from_slice(alloc, text)?;
-    let mut source = MemSource::new(bytes, 1000, Vec::new(alloc));
-    let Ok(job) = read_trace(alloc, &mut source) else {
-        return Ok(None);
+    match read_trace(alloc, &mut MemSource::new(bytes, 1000, Vec::new(alloc))) {
+        Ok(job) => Ok(job),
+        Err(_) => Err("no job".into()),
+    }
+}
+
+/// The opening of the job that a text spells, and its rate.
+fn begun(alloc: Global, text: &[u8]) -> Result<(Held, u64), Fail> {
+    let job = read(alloc, text)?;
+    let Ok(rate) = plan(&job.config) else {
+        return Err("no rate".into());
     };
-    let config = job.config;
-    let Ok(rate) = plan(&config) else {
-        return Ok(None);
-    };
-    let mut threads = opened(alloc, job).map_err(|_| "memory")?;
-    go_on(&mut threads, turns.early);
-    let place = hold(&mut threads, turns.held);
+    match opened(alloc, job) {
+        Ok(threads) => Ok((threads, rate)),
+        Err(_) => Err("memory".into()),
+    }
+}
+
+/// Makes the turns. Returns where thread 0 was held, and how many items came meanwhile.
+fn lead(threads: &mut Held, turns: Turns) -> (Place, usize) {
+    go_on(threads, turns.early);
+    let place = hold(threads, turns.held);
     let known = items(&threads.system);
-    go_on(&mut threads, 400);
+    go_on(threads, 400);
     let meanwhile = items(&threads.system).saturating_sub(known);
     threads.end(u64::from(turns.held));
+    (place, meanwhile)
+}
+
+/// What happened. `None` where a thread is not done, or nothing was kept.
+fn history(alloc: Global, threads: Held) -> Result<Option<Vec<Happened>>, OutOfMemory> {
     let Ok(run) = threads.system.finish() else {
         return Ok(None);
     };
-    let Some(order) = run.order() else {
-        return Ok(None);
-    };
-    let Some(history) = history_of(alloc, order, &run).map_err(|_| "memory")? else {
-        return Ok(None);
-    };
-    Ok(Some(Ran {
-        config,
-        rate,
-        place,
-        meanwhile,
-        history,
-    }))
+    match run.order() {
+        Some(order) => history_of(alloc, order, &run),
+        None => Ok(None),
+    }
+}
+
+/// The run of a job by these turns.
+fn run_of(alloc: Global, text: &[u8], turns: Turns) -> Result<Ran, Fail> {
+    let (mut threads, rate) = begun(alloc, text)?;
+    let config = *threads.system.config();
+    let (place, meanwhile) = lead(&mut threads, turns);
+    match history(alloc, threads) {
+        Ok(Some(history)) => Ok(Ran {
+            config,
+            rate,
+            place,
+            meanwhile,
+            history,
+        }),
+        _ => Err("no history".into()),
+    }
 }
 
 /// How many items the order has.
@@ -225,16 +253,38 @@ fn is_right(alloc: Global, run: &Ran) -> Result<bool, OutOfMemory> {
     if !in_bounds(&run.config, &run.history) || run.rate > 131_070 {
         return Ok(false);
     }
-    let full = run.history.iter().any(|happened| is_full(*happened));
     Ok(
-        !full
+        !has_full(&run.history)
             && is_legal(alloc, &run.config, &run.history)?
             && is_right_work(&run.config, run.rate, &run.history),
     )
 }
 
-fn is_full(happened: Happened) -> bool {
-    matches!(happened, Happened::Did(entry) if matches!(entry.reply, Reply::Full(_)))
+fn has_full(history: &[Happened]) -> bool {
+    for happened in history {
+        if let Happened::Did(entry) = *happened {
+            if matches!(entry.reply, Reply::Full(_)) {
+                return true;
+            }
+        }
+    }
+    false
+}
+
+/// The run of a job by these turns, which has so many commands and is right.
+fn right_run(
+    rt: &impl Abort,
+    alloc: Global,
+    text: &[u8],
+    turns: Turns,
+    count: usize,
+) -> Result<Ran, Fail> {
+    let run = run_of(alloc, text, turns)?;
+    let Ok(right) = is_right(alloc, &run) else {
+        return Err("memory".into());
+    };
+    assert!(rt; right && commands(&run.history) == count, "{turns:?}");
+    Ok(run)
 }
 
 #[test]
@@ -242,12 +292,7 @@ fn a_thread_that_is_held_anywhere_is_answered_as_by_the_heap_that_never_frees(
     rt: HostRuntime,
 ) -> Result<(), Fail> {
     for held in 0..=60 {
-        let turns = Turns { early: 0, held };
-        let run = run_of(rt.alloc(), JOB, turns)?;
-        assert!(rt; run.is_some(), "{turns:?}");
-        let run = run.ok_or("no history")?;
-        let right = is_right(rt.alloc(), &run).ok().ok_or("memory")?;
-        assert!(rt; right, "held after {held} turns");
+        let run = right_run(&rt, rt.alloc(), JOB, Turns { early: 0, held }, 9)?;
         assert_eq!(rt; run.history.len(), 10, "held after {held} turns");
     }
     Ok(())
@@ -267,42 +312,59 @@ fn compared(history: &[Happened]) -> Option<Reply> {
 
 /// How many commands a history has.
 fn commands(history: &[Happened]) -> usize {
-    history
-        .iter()
-        .filter(|happened| matches!(**happened, Happened::Did(_)))
-        .count()
+    let mut count: usize = 0;
+    for happened in history {
+        if matches!(*happened, Happened::Did(_)) {
+            count = count.saturating_add(1);
+        }
+    }
+    count
+}
+
+/// What was seen of runs whose thread 0 was held: in a swap after the exchange, in a cas before and
+/// after it compared, in an idle; and a cas that was won, and one that was lost.
+#[derive(Clone, Copy, Debug, Default)]
+struct Seen {
+    exchanged: bool,
+    comparing: bool,
+    compared: bool,
+    idling: bool,
+    won: bool,
+    lost: bool,
+}
+
+impl Seen {
+    fn run(&mut self, run: &Ran) {
+        if run.meanwhile > 0 {
+            match run.place {
+                Place::Exchanged => self.exchanged = true,
+                Place::Comparing => self.comparing = true,
+                Place::Compared => self.compared = true,
+                Place::Idling => self.idling = true,
+                Place::Elsewhere => {}
+            }
+        }
+        match compared(&run.history) {
+            Some(Reply::Yes) => self.won = true,
+            Some(Reply::No) => self.lost = true,
+            _ => {}
+        }
+    }
+
+    fn has_all(&self) -> bool {
+        self.exchanged && self.comparing && self.compared && self.idling && self.won && self.lost
+    }
 }
 
 #[test]
 fn so_is_one_that_is_held_in_a_swap_a_cas_or_an_idle(rt: HostRuntime) -> Result<(), Fail> {
-    let alloc = rt.alloc();
-    let mut places = Vec::new(alloc);
-    let mut replies = Vec::new(alloc);
+    let mut seen = Seen::default();
     for early in [0, 100, 300, 700] {
         for held in 0..=600 {
-            let turns = Turns { early, held };
-            let run = run_of(alloc, WIDE_JOB, turns)?;
-            assert!(rt; run.is_some(), "{turns:?}");
-            let run = run.ok_or("no history")?;
-            let right = is_right(alloc, &run).ok().ok_or("memory")?;
-            assert!(rt; right, "{turns:?}");
-            assert_eq!(rt; commands(&run.history), 35, "{turns:?}");
-            if run.meanwhile > 0 {
-                places.push(run.place)?;
-            }
-            replies.push(compared(&run.history))?;
+            let run = right_run(&rt, rt.alloc(), WIDE_JOB, Turns { early, held }, 35)?;
+            seen.run(&run);
         }
     }
-    for place in [
-        Place::Exchanged,
-        Place::Comparing,
-        Place::Compared,
-        Place::Idling,
-    ] {
-        assert!(rt; places.contains(&place), "{place:?}");
-    }
-    for reply in [Reply::Yes, Reply::No] {
-        assert!(rt; replies.contains(&Some(reply)), "{reply:?}");
-    }
+    assert!(rt; seen.has_all(), "{seen:?}");
     Ok(())
 }
