@@ -280,19 +280,21 @@ def rows():
                 words = line[2:]
             elif len(columns) in (3, 4) and line[0] not in "#<>" and "\\" not in line:
                 for name in reversed(texts):
-                    columns[-2] = columns[-2].replace("{%s}" % name, texts[name])
+                    for at in (-2, -1):
+                        columns[at] = columns[at].replace("{%s}" % name, texts[name])
                 yield " ".join([words, *columns[1:-2]]), columns[-2].replace("/", "\n"), columns[-1]
 
 
 def row_fault(words, text, due):
-    """Whether a row has another answer than it wants; None if it is of another kind."""
+    """Whether a row has another answer than it wants; None if it cannot be judged so."""
     status, said = check_order.answer(text.encode())
     job, end, after = text.partition("\nend\n")
     if words == "ordercheck" or words == "rtheap plan" and due[0] in "34" and not after:
         return [str(status), *said.split(":")[:1]] != [due[0], due[2:].split(": ")[1]]
     if words == "rtheap plan" and due[0] == "0":
         return due != f"0 rate {check_order.rate_of(check_order.job_of(text.splitlines())[0])}"
-    if re.match("rtheap replay .* .", words) and due[0] == "0":
+    is_whole = ".." not in due.split("/")  # `..` is any lines
+    if re.match("rtheap replay .* .", words) and due[0] == "0" and is_whole:
         order = due[2:].replace("/", "\n")
         return check_order.answer(f"{job}{end}{order}".encode())[0] != 0
     return None
